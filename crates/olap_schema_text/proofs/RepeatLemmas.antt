@@ -1,8 +1,11 @@
 -- A category that comes twice, gone over from the left with those before it.
---     again    it stands among those before it
---     once     it doesn't, and no other comes twice
-use Rattle.std.proofs.Common.{◌≡◌, ◌||◌, ◌++◌, ◌∷◌, ◌∙◌, Bool, true, false, ℕ, List, [], append_assoc, arith, map, refl, sym, ap, subst}
+--     first_once    before the first none comes twice
+--     twice         one that stood before comes twice, whatever follows
+--     kept_once     one that didn't is kept
+--     all_once      where none does, these are all
+use Rattle.std.proofs.Common.{◌≡◌, ◌||◌, ◌++◌, ◌∷◌, ◌∙◌, Bool, true, false, ℕ, List, [], None, Option, Some, arith, cond, map, refl, sym, ap, subst}
 use Rattle.std.specs.List.{list_any}
+use Rattle.std.specs.Option.{option_map}
 use Rattle.std.specs.Prelude.{◌==◌}
 use Rattle.std.proofs.lemmas.Bool.{eqb-true}
 use Rattle.std.proofs.lemmas.List.{map-append}
@@ -60,13 +63,13 @@ again_step m n ms ns true e h later =
 again_step m n ms ns false e h later = rw (later h) (or_true (stands_in (ms ++ n ∷ ns) m))
 
 -- a category that stood before comes twice
-pub again : (n : ℕ) (before ns : List ℕ) → stands_in before n ≡ true
+again : (n : ℕ) (before ns : List ℕ) → stands_in before n ≡ true
     → is_repeated (before ++ n ∷ ns) ≡ true
 again n [] ns h = absurd (cc)
 again n (m ∷ ms) ns h = again_step m n ms ns (m == n) refl h (again n ms ns)
 
 -- one that didn't comes once
-pub once : (n : ℕ) (before : List ℕ) → is_repeated before ≡ false → stands_in before n ≡ false
+once : (n : ℕ) (before : List ℕ) → is_repeated before ≡ false → stands_in before n ≡ false
     → is_repeated (before ++ n ∷ []) ≡ false
 unfolding is_repeated
 once n [] h e = refl
@@ -79,14 +82,14 @@ once n (m ∷ ms) h e =
     rw (first, others) refl
 
 -- one alone comes once
-pub one_once : (n : ℕ) → is_repeated (n ∷ []) ≡ false
+one_once : (n : ℕ) → is_repeated (n ∷ []) ≡ false
 unfolding is_repeated
 one_once n = refl
 
 -- ---- the same, in the words of the code
 
 -- the numbers of categories
-abbrev numbers : List CatId → List ℕ
+abbrev pub numbers : List CatId → List ℕ
 numbers cs = map (λ c. c.0) cs
 
 -- a category is one of these by its number
@@ -94,28 +97,36 @@ pub among_is : (c : ℕ) (cs : List CatId) → list_any (λ d. d.0 == c) cs ≡ 
 among_is c [] = refl
 among_is c (d ∷ cs) = ap (λ b. (d.0 == c) || b) (among_is c cs)
 
-module _ (all : List ℕ) (before left others : List CatId) (c : CatId) (is : left ≡ c ∷ others)
-    (seen : is_repeated all ≡ is_repeated (numbers before ++ numbers left))
-    (once_so_far : is_repeated (numbers before) ≡ false)
-  where
-    -- one that stood before comes twice
-    pub twice : list_any (λ d. d.0 == c.0) before ≡ true → true ≡ is_repeated all
-    twice h =
-        sym (seen ∙ ap (λ cs. is_repeated (numbers before ++ numbers cs)) is
-        ∙ again c.0 (numbers before) (numbers others) (sym (among_is c.0 before) ∙ h))
+-- what the categories are, unless one comes twice
+abbrev pub unless_repeated : ℕ → List ℕ → Option (List ℕ)
+unless_repeated root cs = cond (is_repeated (root ∷ cs)) None (Some cs)
 
-    -- one that didn't is kept
-    pub kept_seen : (more : List CatId) → more ≡ before ++ c ∷ []
-        → is_repeated all ≡ is_repeated (numbers more ++ numbers others)
-    kept_seen more e =
-        seen ∙ ap (λ cs. is_repeated (numbers before ++ numbers cs)) is
-        ∙ ap is_repeated (sym (append_assoc (numbers before) (c.0 ∷ []) (numbers others)))
-        ∙ ap (λ cs. is_repeated (cs ++ numbers others)) (sym (map-append (λ d. d.0) before (c ∷ [])))
-        ∙ ap (λ cs. is_repeated (numbers cs ++ numbers others)) (sym e)
+-- before the first none comes twice
+pub first_once : (root : ℕ) (found : List CatId) → found ≡ [] → is_repeated (root ∷ numbers found) ≡ false
+first_once root found e = rw e (one_once root)
 
-    -- and no other comes twice
-    pub kept_once : (more : List CatId) → more ≡ before ++ c ∷ [] → list_any (λ d. d.0 == c.0) before ≡ false
-        → is_repeated (numbers more) ≡ false
-    kept_once more e h =
-        ap (λ cs. is_repeated (numbers cs)) e ∙ ap is_repeated (map-append (λ d. d.0) before (c ∷ []))
-        ∙ once c.0 (numbers before) once_so_far (sym (among_is c.0 before) ∙ h)
+-- one that stood before comes twice, whatever follows
+pub twice : (root c : ℕ) (found : List CatId) (o : Option (List ℕ)) (cs : List ℕ)
+    → stands_in (root ∷ numbers found) c ≡ true → option_map (λ ds. numbers found ++ c ∷ ds) o ≡ Some cs
+    → None ≡ unless_repeated root cs
+twice root c found None cs h e = absurd (cc)
+twice root c found (Some ds) cs h e =
+    let s : numbers found ++ c ∷ ds ≡ cs = cc in
+    let t : is_repeated (root ∷ (numbers found ++ c ∷ ds)) ≡ true = again c (root ∷ numbers found) ds h in
+    subst (λ xs. None ≡ unless_repeated root xs) s (rw t refl)
+
+-- one that didn't is kept
+pub kept_once : (root : ℕ) (c : CatId) (found more : List CatId) → is_repeated (root ∷ numbers found) ≡ false
+    → stands_in (root ∷ numbers found) c.0 ≡ false → more ≡ found ++ c ∷ []
+    → is_repeated (root ∷ numbers more) ≡ false
+kept_once root c found more k h e =
+    ap (λ cs. is_repeated (root ∷ numbers cs)) e
+    ∙ ap (λ ds. is_repeated (root ∷ ds)) (map-append (λ d. d.0) found (c ∷ []))
+    ∙ once c.0 (root ∷ numbers found) k h
+
+-- where none does, these are all
+pub all_once : (root : ℕ) (found : List CatId) (cs : List ℕ) → is_repeated (root ∷ numbers found) ≡ false
+    → Some (numbers found) ≡ Some cs → Some (numbers found) ≡ unless_repeated root cs
+all_once root found cs k e =
+    let s : numbers found ≡ cs = cc in
+    subst (λ xs. Some (numbers found) ≡ unless_repeated root xs) s (rw k refl)

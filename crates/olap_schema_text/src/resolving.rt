@@ -5,20 +5,20 @@ ghost use Rattle.olap_ast.specs.Listing.{parts_before};
 ghost use Rattle.olap_ast.specs.Trees.{formula_of, op_of, terms_of};
 ghost use Rattle.olap_base.specs.Bytes.{underscore};
 ghost use Rattle.olap_base.specs.Graph.{IsCategory};
-ghost use Rattle.olap_base.specs.Refusing.{IsRefusedBy};
+ghost use Rattle.olap_base.specs.Refusing.{IsForMemory, IsRefusedBy};
 ghost use Rattle.olap_graph.specs.Lookups.{category_named, edge_between};
 ghost use Rattle.olap_grammar.specs.Forms as words;
 ghost use Rattle.olap_grammar.specs.Shown.{atom_of, form_of, forms_of};
 ghost use Rattle.olap_grammar.specs.Words.{pieces_of};
 ghost use Rattle.olap_schema_text.specs.Known.{graph_seen};
 ghost use Rattle.olap_schema_text.specs.Reading.{ReadsFormula};
-ghost use Rattle.olap_schema_text.specs.Resolving.{all_resolved, atom_read, categories_of, ends_read, path_read, is_repeated as is_repeated_of, join as join_of, lacks_edge as lacks_edge_of, resolved};
+ghost use Rattle.olap_schema_text.specs.Resolving.{all_resolved, atom_read, categories_of, ends_read, path_read, is_repeated, join as join_of, lacks_edge as lacks_edge_of, resolved};
 ghost use Rattle.olap_schema_text.specs.declared.kinds.SchemaKind.{SchemaKind as SchemaKinds};
 ghost use Rattle.olap_schema_text.specs.declared.kinds.SchemaKind.TheVariants as kind;
 ghost use Rattle.olap_base.specs.declared.refusals.Refusal.TheVariants as refusal;
 ghost use Rattle.std.specs.List.{list_any};
 ghost use Rattle.std.specs.Option.{option_map};
-ghost use Rattle.std.specs.Prelude.{◌≡◌, ◌==◌, ◌++◌, ◌∷◌, ℕ, All, IfErr, IfOk, IfSome, MatchResult, None, Ok, Result, Some, false, is_some, map};
+ghost use Rattle.std.specs.Prelude.{◌≡◌, ◌==◌, ◌∷◌, ℕ, All, IfErr, IfOk, IfSome, List as Numbers, MatchResult, None, Ok, Result, Some, if◌then◌else◌, is_some, map};
 
 use crate::SchemaKind;
 use crate::knowing::Known;
@@ -60,24 +60,19 @@ fn last_category(
     Ok(d)
 }
 
-/// The categories of the names between `_`, if each is one's.
-fn categories(alloc: Global, known: &Known, names: &[u8]) -> Result<Option<Vec<CatId>>, Memory>
-    ensures found { IfOk result (λ found. option_map (λ v. map (λ c. c.0) v.items) found
-        ≡ categories_of (graph_seen known.now) (pieces_of underscore names.now)) }
-    ensures categories { IfOk result (λ found.
-        IfSome found (λ v. All (λ c. IsCategory (graph_seen known.now) c.0) v.items)) }
+/// Whether each name between `_` is a category's.
+fn are_known(known: &Known, names: &[u8]) -> bool
+    ensures { result ≡ is_some (categories_of (graph_seen known.now) (pieces_of underscore names.now)) }
 {
-    let mut found = Vec::new(alloc);
     let mut left = Some(names);
     'names: while let Some(text) = left {
         let (name, others) = first_piece(b'_', text);
-        match known.category(name) {
-            Some(c) => found.push(c)?,
-            None => return Ok(None),
+        if known.category(name).is_none() {
+            return false;
         }
         left = others;
     }
-    Ok(Some(found))
+    true
 }
 
 /// Whether the category is one of these.
@@ -87,32 +82,39 @@ fn is_among(c: CatId, categories: &[CatId]) -> bool
     categories.iter().any(|d| *d == c)
 }
 
-/// Whether a category stands twice among these and those before them, of which none does. Those before the first that
-/// does are kept: no more than there are categories.
-fn repeats(before: &mut Vec<CatId>, categories: &[CatId]) -> Result<bool, Memory>
-    requires { is_repeated_of (map (λ c. c.0) before.old.items) ≡ false }
-    ensures { IfOk result (λ b. b
-        ≡ is_repeated_of (map (λ c. c.0) before.old.items ++ map (λ c. c.0) categories.now)) }
+/// Whether the category is the root or one of these.
+fn stands_before(root: CatId, categories: &[CatId], c: CatId) -> bool
+    ensures { result ≡ list_any (λ d. d == c.0) (root.0 ∷ map (λ c'. c'.0) categories.now) }
 {
-    let mut left = categories;
-    'categories: while let Some((c, others)) = left.split_first() {
-        if is_among(*c, before) {
-            return Ok(true);
-        }
-        before.push(*c)?;
-        left = others;
-    }
-    Ok(false)
+    root == c || is_among(c, categories)
 }
 
-/// Whether a category stands twice among the root and these.
-#[tactic(auto, using(crate::proofs::RepeatLemmas::one_once))]
-fn has_repeated(alloc: Global, root: CatId, categories: &[CatId]) -> Result<bool, Memory>
-    ensures { IfOk result (λ b. b ≡ is_repeated_of (root.0 ∷ map (λ c. c.0) categories.now)) }
+/// The categories of the names, if none stands twice among them and the root. Where one does, the names behind it aren't
+/// looked up, and no more categories are listed than there are.
+fn distinct(
+    alloc: Global,
+    known: &Known,
+    root: CatId,
+    names: &[u8],
+) -> Result<Option<Vec<CatId>>, Refusal<SchemaKind>>
+    ensures read { (cs : Numbers ℕ) → categories_of (graph_seen known.now) (pieces_of underscore names.now) ≡ Some cs
+        → MatchResult result (λ found. option_map (λ v. map (λ c. c.0) v.items) found
+        ≡ (if is_repeated (root.0 ∷ cs) then None else Some cs)) IsForMemory }
+    ensures categories { IfOk result (λ found.
+        IfSome found (λ v. All (λ c. IsCategory (graph_seen known.now) c.0) v.items)) }
 {
-    let mut before = Vec::new(alloc);
-    before.push(root)?;
-    repeats(&mut before, categories)
+    let mut found = Vec::new(alloc);
+    let mut left = Some(names);
+    'names: while let Some(text) = left {
+        let (name, others) = first_piece(b'_', text);
+        let c = category(known, name)?;
+        if stands_before(root, &found, c) {
+            return Ok(None);
+        }
+        found.push(c)?;
+        left = others;
+    }
+    Ok(Some(found))
 }
 
 /// Whether an edge leads from one to the other.
@@ -142,27 +144,27 @@ fn lacks_edge(known: &Known, first: CatId, categories: &[CatId]) -> bool
     false
 }
 
-/// The path from the root through these categories.
+/// The path from the root through the categories of these names, which are known.
 fn path_through(
     alloc: Global,
     known: &Known,
     root: CatId,
-    categories: Vec<CatId>,
+    names: &[u8],
 ) -> Result<Formula, Refusal<SchemaKind>>
-    requires root { IsCategory (graph_seen known.now) root.0 }
-    requires categories { All (λ c. IsCategory (graph_seen known.now) c.0) categories.items }
-    ensures { ReadsFormula result (path_read (graph_seen known.now) root.0 (map (λ c. c.0) categories.items)) }
+    requires { IsCategory (graph_seen known.now) root.0 }
+    ensures { (cs : Numbers ℕ) → categories_of (graph_seen known.now) (pieces_of underscore names.now) ≡ Some cs
+        → ReadsFormula result (path_read (graph_seen known.now) root.0 cs) }
 {
-    if has_repeated(alloc, root, &categories)? {
+    let Some(found) = distinct(alloc, known, root, names)? else {
         return Err(Refusal::Kind(SchemaKind::RepeatedCategory));
-    }
-    if lacks_edge(known, root, &categories) {
+    };
+    if lacks_edge(known, root, &found) {
         return Err(Refusal::Kind(SchemaKind::NotAnEdge));
     }
-    Ok(Formula::Path(List::from_vec(categories)))
+    Ok(Formula::Path(List::from_vec(found)))
 }
 
-/// A path.
+/// A path. Its categories are listed only once its names are known, since there may be as many as a line has bytes.
 fn path(
     alloc: Global,
     known: &Known,
@@ -174,13 +176,13 @@ fn path(
         (words.Atom.Path first.now (pieces_of underscore names.now))) }
 {
     let c = category(known, first)?;
-    let Some(found) = categories(alloc, known, names)? else {
+    if !are_known(known, names) {
         return Err(Refusal::Kind(SchemaKind::UnknownCategory));
-    };
+    }
     if c != root {
         return Err(Refusal::Kind(SchemaKind::MixedRoot));
     }
-    path_through(alloc, known, root, found)
+    path_through(alloc, known, root, names)
 }
 
 /// A category that is reached.

@@ -1,13 +1,13 @@
--- The names so far are those of these categories.
-use Rattle.std.proofs.Common.{◌≡◌, ◌++◌, map}
+-- The names so far are those of these categories, of which none comes twice.
+use Rattle.std.proofs.Common.{◌≡◌, ◌++◌, ◌∷◌, false, map}
 use Rattle.std.specs.Option.{option_map}
 use Rattle.std.specs.Prelude.{All}
 use Rattle.olap_base.proofs.PiecesLeft.{size_left}
 use Rattle.olap_base.specs.Graph.{IsCategory}
 use Rattle.olap_grammar.specs.Words.{pieces_behind, pieces_of}
 use Rattle.olap_schema_text.specs.Known.{graph_seen}
-use Rattle.olap_schema_text.specs.Resolving.{categories_of}
-use Rattle.olap_schema_text.proofs.resolving.categories.Given as goal
+use Rattle.olap_schema_text.specs.Resolving.{categories_of, is_repeated}
+use Rattle.olap_schema_text.proofs.resolving.distinct.Given as goal
 
 abbrev pub invariant-names : goal.invariant-names
 invariant-names l = record {
@@ -15,6 +15,7 @@ invariant-names l = record {
       categories_of (graph_seen l.known) (pieces_of 95 l.names)
       ≡ option_map (λ cs. map (λ c. c.0) l.found.items ++ cs)
       (categories_of (graph_seen l.known) (pieces_behind 95 l.left));
+  once : is_repeated (l.root.0 ∷ map (λ c. c.0) l.found.items) ≡ false;
   there : All (λ c. IsCategory (graph_seen l.known) c.0) l.found.items;
 }
 
