@@ -2,4 +2,6 @@
 pub mod Stepping
 pub mod Replying
 pub mod Joining
+pub mod Coming
+pub mod ComingSteps
 mod SourceLemmas
