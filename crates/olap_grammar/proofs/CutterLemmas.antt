@@ -1,5 +1,5 @@
 -- From the cutter to tokens.
-use Rattle.std.proofs.Common.{◌≡◌, ℕ, List, [], ◌∷◌, refl, Some, Err}
+use Rattle.std.proofs.Common.{◌≡◌, ℕ, List, [], ◌∷◌, refl, Some}
 use Rattle.std.specs.List.{fold}
 use Rattle.olap_grammar.specs.Cutting.{IsCut}
 use Rattle.olap_grammar.specs.CuttingMachine.{tokens_of}

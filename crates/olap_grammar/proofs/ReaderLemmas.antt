@@ -1,10 +1,10 @@
 -- From the reader to formulas.
-use Rattle.std.proofs.Common.{◌≡◌, List, [], ◌∷◌, refl, Some, Err}
+use Rattle.std.proofs.Common.{◌≡◌, List, [], ◌∷◌, refl, Some}
 use Rattle.std.specs.List.{fold}
 use Rattle.olap_grammar.specs.Forms.{Form}
 use Rattle.olap_grammar.specs.Clip.{clipped}
 use Rattle.olap_grammar.specs.Grammar.{Atoms, IsFormula}
-use Rattle.olap_grammar.specs.Machine.{Frame, State, Bad, step, ended, the_formula}
+use Rattle.olap_grammar.specs.Machine.{State, Bad, step, ended, the_formula}
 use Rattle.olap_grammar.specs.Reader.{Built, ReadsNone}
 use Rattle.olap_grammar.specs.declared.tokens.Token.{Token}
 use Rattle.olap_base.specs.Refusing.{IsFor}

@@ -9,8 +9,7 @@ use Rattle.olap_grammar.specs.Cutter.{cut_of}
 use Rattle.olap_grammar.specs.Cutting.{has_numbers, is_word_byte}
 use Rattle.olap_grammar.specs.CuttingMachine.{mark_of}
 use Rattle.olap_grammar.specs.Keeping.{Going, Kept, after_dash, after_less, between, keep, kept_step, marked}
-use Rattle.olap_grammar.specs.Nodes.{is_node}
-use Rattle.olap_grammar.specs.Tallying.{added, brackets, counted, tallied}
+use Rattle.olap_grammar.specs.Tallying.{brackets, counted, tallied}
 use Rattle.olap_grammar.specs.declared.cutting.Begun.{Begun}
 use Rattle.olap_grammar.specs.declared.cutting.Begun.TheVariants as begun
 use Rattle.olap_grammar.specs.declared.tallying.Tally.{Tally}
