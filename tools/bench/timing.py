@@ -1,4 +1,4 @@
-"""What the benches share: the peer, built; inputs at the limits; and programs timed in turns, whose bytes are compared."""
+"""What the benches share: the peer, built; large inputs; and programs timed in turns, whose bytes are compared."""
 
 import os
 import random
@@ -59,7 +59,7 @@ def facts(ids, count, most, chance):
 
 
 def chains(chance):
-    """A chain of 62 categories and as many members as may be, in random order, and facts at the lowest."""
+    """A chain of 62 categories and 262,143 members, in random order, and facts at the lowest."""
     schema = "schema 1\n" + "".join(f"category C{i}\n" for i in range(62))
     schema += "".join(f"edge C{i} C{i + 1}\n" for i in range(61)) + "edge C61 All\n"
     lines = []

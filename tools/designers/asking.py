@@ -66,8 +66,8 @@ def question_in(ask: Program, words: list[str], most_files: int = 2) -> Question
     files = words[1:at]
     if len(files) > most_files:
         raise Fault(f"{files[most_files]}: no category of {words[0]}, and no further file is asked for", 2)
-    for name, file in zip((INSTANCE, FACTS), files):
-        ask.put(name, file)
+    for name, file, kind in zip((INSTANCE, FACTS), files, ("instance", "facts")):
+        ask.put(name, file, kind)
     return Question(ask, schema, text, words[at], tuple(words[at + 1 :]), files)
 
 

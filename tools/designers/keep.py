@@ -60,7 +60,7 @@ def main(words: list[str]) -> None:
     chosen = parser().parse_args(words)
     with program.opened() as ask:
         schema, _ = asking.schema_in(ask, chosen.schema)
-        ask.put(INSTANCE, chosen.instance)
+        ask.put(INSTANCE, chosen.instance, "instance")
         ask.must("check", SCHEMA, INSTANCE)
         rows = Counter(member.category for member in asking.members_in(ask).values())
         rows["All"] = 1

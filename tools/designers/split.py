@@ -158,7 +158,7 @@ def main(words: list[str]) -> None:
         if chosen.instance is None:
             program.write_out(text)
             return
-        ask.put(INSTANCE, chosen.instance)
+        ask.put(INSTANCE, chosen.instance, "instance")
         ask.must("check", SCHEMA, INSTANCE)
         folder = Path(chosen.into)
         try:

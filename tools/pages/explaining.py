@@ -41,7 +41,7 @@ def content(words: list[str], what: str) -> str:
     file = words[names.index(what) + 1]
     try:
         with open(file, "rb") as source:
-            return source.read(program.MOST_BYTES).decode(errors="replace")
+            return source.read(program.most_bytes(what)).decode(errors="replace")
     except OSError as error:
         raise Fault(f"{file}: {error.strerror}", 4) from None
 

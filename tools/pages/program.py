@@ -23,7 +23,9 @@ from typing import Callable, Iterator, NoReturn, Sequence
 TOP = Path(__file__).resolve().parents[2]
 BUILT = TOP / "crates" / "olap_cli" / "out" / "olap_cli"
 UNPROVED = TOP / "olap-unproved"  # the script that builds the program without its proofs
-MOST_BYTES = 67_108_864  # of a file; the program refuses a longer one, so no more than one byte beyond is read
+MOST_BYTES = 67_108_864  # of a file, but for those of these kinds
+MOST_OF_KIND = {"instance": 4_294_967_296, "store": 17_179_869_184}
+PIECE = 1 << 20  # bytes that are copied at a time
 
 
 class Fault(Exception):
@@ -75,6 +77,11 @@ def output_of(words: Sequence[str | Path], folder: Path | None = None, seconds: 
         RUNNING.discard(child)
 
 
+def most_bytes(kind: str) -> int:
+    """The most bytes of a file of this kind, as `schema 2`. The program refuses a longer one, so no more than one byte beyond is read."""
+    return MOST_OF_KIND.get(kind.split(" ")[0], MOST_BYTES)
+
+
 @dataclass(frozen=True)
 class Program:
     """The program, run in a folder that holds copies of the files that are asked about."""
@@ -82,14 +89,18 @@ class Program:
     path: Path
     folder: Path
 
-    def put(self, name: str, file: str) -> None:
-        """Copies a file into the folder under this name. It is read once, so a pipe will do."""
+    def put(self, name: str, file: str, kind: str = "schema") -> None:
+        """Copies a file of this kind into the folder under this name. It is read once, so a pipe will do."""
+        left = most_bytes(kind) + 1
         try:
-            with open(file, "rb") as source:
-                content = source.read(MOST_BYTES + 1)
+            with open(file, "rb") as source, (self.folder / name).open("wb") as copy:
+                while left > 0:
+                    piece = source.read(min(left, PIECE))
+                    if not piece:
+                        return
+                    left -= copy.write(piece)
         except OSError as error:
             raise Fault(f"{file}: {error.strerror}", 4) from None
-        (self.folder / name).write_bytes(content)
 
     def ask(self, *words: str, seconds: float | None = None) -> Answer:
         """Runs the program with these words; `Late` where it didn't end within so many seconds."""

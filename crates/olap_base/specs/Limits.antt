@@ -31,11 +31,11 @@ most_text_bytes = 255
 
 -- members of an instance, `all` counted
 abbrev pub most_members : ℕ
-most_members = 262144
+most_members = 16777215
 
 -- facts of a file that is rolled up
 abbrev pub most_facts : ℕ
-most_facts = 8388608
+most_facts = 4294967295
 
 -- facts of a file that is read into a list
 abbrev pub most_listed_facts : ℕ
@@ -63,11 +63,11 @@ most_certificate_bytes = 67108864
 
 -- bytes of an instance's file
 abbrev pub most_instance_bytes : ℕ
-most_instance_bytes = 67108864
+most_instance_bytes = 4294967296
 
 -- bytes of a file of stored views
 abbrev pub most_store_bytes : ℕ
-most_store_bytes = 67108864
+most_store_bytes = 17179869184
 
 -- bytes of a file of facts
 abbrev pub most_facts_bytes : ℕ

@@ -22,10 +22,10 @@ pub const MOST_CONSTANTS: usize = 256;
 pub const MOST_TEXT_BYTES: usize = 255;
 
 /// Members of an instance, `all` counted.
-pub const MOST_MEMBERS: usize = 262_144;
+pub const MOST_MEMBERS: usize = 16_777_215;
 
 /// Facts of a file that is rolled up.
-pub const MOST_FACTS: u64 = 8_388_608;
+pub const MOST_FACTS: u64 = 4_294_967_295;
 
 /// Facts of a file that is read into a list.
 pub const MOST_LISTED_FACTS: u64 = 1_048_576;
@@ -46,10 +46,10 @@ pub const MOST_SCHEMA_BYTES: u64 = 67_108_864;
 pub const MOST_CERTIFICATE_BYTES: u64 = 67_108_864;
 
 /// Bytes of an instance's file.
-pub const MOST_INSTANCE_BYTES: u64 = 67_108_864;
+pub const MOST_INSTANCE_BYTES: u64 = 4_294_967_296;
 
 /// Bytes of a file of stored views.
-pub const MOST_STORE_BYTES: u64 = 67_108_864;
+pub const MOST_STORE_BYTES: u64 = 17_179_869_184;
 
 /// Bytes of a file of facts.
 pub const MOST_FACTS_BYTES: u64 = 67_108_864;

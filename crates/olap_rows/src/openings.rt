@@ -237,30 +237,12 @@ const ROWS: &[(&[File], Row)] = &[
         },
     ),
     (
-        &[SCHEMA, ENDLESS],
-        Row {
-            name: "check of a file without an end",
-            words: &["check", "S", "X"],
-            status: Status::Refused,
-            output: "refused instance TooLong\n",
-        },
-    ),
-    (
         &[SCHEMA, INSTANCE, ENDLESS],
         Row {
             name: "rollup of a file without an end",
             words: &["rollup", "S", "I", "X", "City"],
             status: Status::Refused,
             output: "refused facts TooLong\n",
-        },
-    ),
-    (
-        &[SCHEMA, INSTANCE, ENDLESS],
-        Row {
-            name: "answer of a file without an end",
-            words: &["answer", "S", "I", "X", "City"],
-            status: Status::Refused,
-            output: "refused store TooLong\n",
         },
     ),
 ];

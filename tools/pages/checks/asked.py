@@ -15,7 +15,7 @@ from typing import Iterator
 from .bad_input import one_line
 from .common import EXAMPLES, TOOLS, TOP, categories_of, olap, tool
 from .. import explaining, form
-from ..program import MOST_BYTES, find
+from ..program import find, most_bytes
 
 LOCATION, IMPOSSIBLE = "location/schema.txt", "impossible/schema.txt"
 PARTITIONS = str(TOP / "recipes" / "partitions" / "schema.txt")
@@ -125,8 +125,8 @@ def propose_faults(room: Path) -> Iterator[str]:
         if counts != told:
             yield f"propose {instance}: it counts {told}, and there are {counts}"
     header = "id,category,name,parents\n"
-    with (room / "long.csv").open("wb") as file:  # one byte too many, and fewer characters than bytes
-        file.write(f"{header}a,Store,é,all\n".encode().ljust(MOST_BYTES - 1, b"\n") + b"\nb,Lost,b,all\n")
+    (room / "long.csv").write_text(header)
+    os.truncate(room / "long.csv", most_bytes("instance") + 1)
     yield from one_line("propose of a file that is too long", tool("propose", "long.csv", folder=room), 3)
     for text in ("", "member,value\n", header + "a,Store,a\n", header + '"a","Store\nedge A B",a,all\n', header + "a,All,a,all\n",
                  header + "a,Store,a,b\n", header + "a,Störe,a,all\n"):

@@ -85,7 +85,7 @@ impl Instance {
             if category == 0 || is_bad || id.len() > 255 || record[2].len() > 255 {
                 return Err("a bad member".into());
             }
-            if instance.places.insert(id.to_vec(), ()).is_some() || instance.places.len() == 262_144 {
+            if instance.places.insert(id.to_vec(), ()).is_some() || instance.places.len() == 16_777_215 {
                 return Err("a member twice, or one too many".into());
             }
             instance.categories.push(category);
