@@ -1,0 +1,6 @@
+-- Lemmas.
+pub mod NeedLemmas
+mod RoomLemmas
+mod MemberLemmas
+mod ListingLemmas
+mod TextLemmas
