@@ -10,5 +10,6 @@ pub mod ReadingBack
 pub mod Printed
 mod StandingLemmas
 mod NextLemmas
+mod RunLemmas
 pub mod JoinLemmas
 pub mod MarkLemmas

@@ -4,7 +4,7 @@ ghost use Rattle.csv.specs.Records.{fields_of, partial_of};
 ghost use Rattle.olap_records.specs.CutterInside.{row_of, stand_of};
 ghost use Rattle.olap_records.specs.Standing.{at_end, at_start, records_if, standing};
 
-use crate::steps::{Action, Place, step};
+use crate::steps::{Action, Place, run_end, step};
 use csv::ByteRecord;
 use olap_base::Memory;
 use std::alloc::Global;
@@ -28,13 +28,18 @@ pub struct Cut {
     pub found: bool,
 }
 
-/// A field ends.
-fn end_field(row: &mut ByteRecord, field: &mut Vec<u8>) -> Result<(), Memory>
+/// A field ends with these bytes.
+fn end_field(row: &mut ByteRecord, field: &mut Vec<u8>, last: &[u8]) -> Result<(), Memory>
     ensures fields { OnOk result
-        (fields_of row.new ≡ fields_of row.old ++ (partial_of row.old ++ field.old.items) ∷ []) }
+        (fields_of row.new ≡ fields_of row.old ++ (partial_of row.old ++ (field.old.items ++ last.now)) ∷ []) }
     ensures partial { OnOk result (partial_of row.new ≡ []) }
     ensures field { OnOk result (field.new.items ≡ []) }
 {
+    if field.is_empty() {
+        row.push_field(last)?;
+        return Ok(());
+    }
+    field.extend_from_slice(last)?;
     row.push_field(field)?;
     field.clear();
     Ok(())
@@ -66,23 +71,35 @@ impl Cutter {
             self.field.clear();
             self.whole = false;
         }
-        'bytes: for i in 0..piece.len() {
-            let (place, action) = step(self.place, piece[i]);
+        // The bytes of the field at hand from there on are still to be copied.
+        let mut from = 0;
+        let mut at = 0;
+        'bytes: while at < piece.len() {
+            let (place, action) = step(self.place, piece[at]);
             self.place = place;
             match action {
-                Action::Skip => {}
-                Action::Copy => self.field.push(piece[i])?,
-                Action::EndField => end_field(&mut self.row, &mut self.field)?,
+                Action::Copy => at = run_end(place, piece, at + 1),
+                Action::Skip => {
+                    self.field.extend_from_slice(&piece[from..at])?;
+                    at += 1;
+                    from = at;
+                }
+                Action::EndField => {
+                    end_field(&mut self.row, &mut self.field, &piece[from..at])?;
+                    at += 1;
+                    from = at;
+                }
                 Action::EndRecord => {
-                    end_field(&mut self.row, &mut self.field)?;
+                    end_field(&mut self.row, &mut self.field, &piece[from..at])?;
                     self.whole = true;
                     return Ok(Cut {
-                        taken: i + 1,
+                        taken: at + 1,
                         found: true,
                     });
                 }
             }
         }
+        self.field.extend_from_slice(&piece[from..])?;
         Ok(Cut {
             taken: piece.len(),
             found: false,
@@ -100,7 +117,7 @@ impl Cutter {
             self.row.clear();
             self.field.clear();
         }
-        end_field(&mut self.row, &mut self.field)?;
+        end_field(&mut self.row, &mut self.field, &[])?;
         self.whole = true;
         Ok(true)
     }

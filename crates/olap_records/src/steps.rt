@@ -1,6 +1,7 @@
 // What one byte does, with the settings by which the program reads.
-ghost use Rattle.std.specs.Prelude.{◌≡◌};
-ghost use Rattle.csv.specs.Machine.{in_field, start_field, start_record, step as csv_step};
+ghost use Rattle.std.specs.Prelude.{◌≡◌, ◌≤◌, ◌-◌, IsTrue, drop, length, take};
+ghost use Rattle.csv.specs.Machine.{Runs, in_field, start_field, start_record, step as csv_step};
+ghost use Rattle.csv.specs.declared.parser.Action.TheVariants as act;
 ghost use Rattle.csv.specs.Reading.{default_config};
 ghost use Rattle.olap_records.specs.Places.{action_of, state_of};
 
@@ -86,5 +87,45 @@ pub(crate) fn step(place: Place, c: u8) -> (Place, Action)
         Place::Closed => plain(c),
         Place::Return if c == b'\n' => (Place::Record, Action::Skip),
         Place::Return => record(c),
+    }
+}
+
+/// Whether the byte only joins the field at hand.
+#[inline(always)]
+fn joins(place: Place, c: u8) -> bool
+    ensures { IsTrue result → csv_step default_config (state_of place) c ≡ (state_of place, act.Copy) }
+{
+    match place {
+        Place::Plain => c != b',' && c != b'\r' && c != b'\n',
+        Place::Quoted => c != b'"',
+        _ => false,
+    }
+}
+
+/// Where the bytes end that only join the field at hand, from a place in the piece on.
+#[inline(always)]
+fn joined_up_to(place: Place, piece: &[u8], from: usize) -> usize
+    requires from { from ≤ length piece.now }
+    ensures bounds { (from ≤ result) × (result ≤ length piece.now) }
+    ensures runs { Runs default_config (state_of place) (take (result - from) (drop from piece.now)) }
+{
+    'run: for i in from..piece.len() {
+        if !joins(place, piece[i]) {
+            return i;
+        }
+    }
+    piece.len()
+}
+
+/// The same. A field without quotes has a loop of its own, in which its place is known.
+#[inline(always)]
+pub(crate) fn run_end(place: Place, piece: &[u8], from: usize) -> usize
+    requires from { from ≤ length piece.now }
+    ensures bounds { (from ≤ result) × (result ≤ length piece.now) }
+    ensures runs { Runs default_config (state_of place) (take (result - from) (drop from piece.now)) }
+{
+    match place {
+        Place::Plain => joined_up_to(Place::Plain, piece, from),
+        _ => joined_up_to(place, piece, from),
     }
 }

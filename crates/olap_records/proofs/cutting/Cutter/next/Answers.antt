@@ -1,57 +1,89 @@
--- One byte more.
-use Rattle.std.proofs.Common.{refl, ◌∷◌, ◌++◌, ◌∙◌, ap, sym, get_or, append_assoc, []}
+-- One byte more, and the bytes after it that only join the field.
+use Rattle.std.proofs.Common.{◌+◌, ◌++◌, ◌∙◌, ap, arith, sym, false, []}
 use Rattle.csv.specs.Records.{fields_of, partial_of}
-use Rattle.olap_records.specs.CutterInside.{stand_of}
-use Rattle.olap_records.proofs.NextLemmas.{copied, ended-field, ended-record, skipped}
-use Rattle.olap_records.proofs.cutting.Cutter.next.Goals.{in-Skip, in-Copy+in_ok-push-in-Copy, in-EndField+in_ok-end_field-in-EndField}
+use Rattle.olap_records.specs.CutterInside.{stand_by, stand_of}
+use Rattle.olap_records.proofs.NextLemmas.{ended-field, ended-record, skipped}
+use Rattle.olap_records.proofs.RunLemmas.{between, copied-at-hand, copied-run, none-at-hand, run-at-hand}
 use Rattle.olap_records.proofs.cutting.Cutter.next.Goals as goal
 
 pub returns-in-EndRecord-clause-stands : goal.returns-in-EndRecord-clause-stands
 returns-in-EndRecord-clause-stands c =
     let s = c.bytes.self in
-    ended-record (stand_of [] c.args.self.now) c.args.piece.now c.bytes.i c.bytes-test.true (fields_of s.row)
-    (partial_of s.row ++ s.field.items) s.place s.whole c.bytes.invariant.part c.bytes.invariant.stands
-    c.step-place.result.0 c.step-place.result.1 c.step-place.ensures.place c.step-place.ensures.action
-    c.in-EndRecord.is (fields_of c.end_field-in-EndRecord.new.row) c.in_ok-end_field-in-EndRecord.ensures.fields
+    let piece = c.args.piece.now in
+    let inv = c.bytes.invariant in
+    let p = c.step-place in
+    ended-record (stand_of [] c.args.self.now) piece c.bytes.at c.bytes-test.true (fields_of s.row)
+    (partial_of s.row ++ (s.field.items ++ between c.bytes.from c.bytes.at piece)) s.place s.whole inv.part inv.stands
+    p.result.0 p.result.1 p.ensures.place p.ensures.action c.in-EndRecord.is
+    (fields_of c.end_field-in-EndRecord.new.row) c.in_ok-end_field-in-EndRecord.ensures.fields
+
+pub bytes-preserved-in-Copy : goal.bytes-preserved-in-Copy
+bytes-preserved-in-Copy c =
+    let s = c.bytes.self in
+    let t = stand_of [] c.args.self.now in
+    let piece = c.args.piece.now in
+    let i = c.bytes.at in
+    let from = c.bytes.from in
+    let inv = c.bytes.invariant in
+    let p = c.step-place in
+    let end = c.run_end-at.result in
+    let bounds = c.run_end-at.ensures.bounds in
+    let fields = fields_of s.row in
+    let partial = partial_of s.row in
+    let field = s.field.items in
+    record {
+      part = inv.part;
+      from = omega (arith, inv.from, bounds.0);
+      at = bounds.1;
+      stands = copied-run t piece i c.bytes-test.true fields (partial ++ (field ++ between from i piece)) s.place s.whole
+          inv.part inv.stands p.result.0 p.result.1 p.ensures.place p.ensures.action c.in-Copy.is end bounds.0
+          c.run_end-at.ensures.runs
+          ∙ ap (λ xs. stand_by [] false fields xs p.result.0)
+          (run-at-hand partial field from i end piece inv.from c.bytes-test.true bounds.0)
+          ∙ ap (λ w. stand_by [] w fields (partial ++ (field ++ between from end piece)) p.result.0) (sym inv.part);
+    }
+
+pub bytes-preserved-in-Skip : goal.bytes-preserved-in-Skip
+bytes-preserved-in-Skip c =
+    let s = c.bytes.self in
+    let piece = c.args.piece.now in
+    let i = c.bytes.at in
+    let inv = c.bytes.invariant in
+    let p = c.step-place in
+    let fields = fields_of s.row in
+    let partial = partial_of s.row in
+    let rest = between c.bytes.from i piece in
+    let new = c.extend_from_slice.new.self.items in
+    record {
+      part = inv.part;
+      from = omega arith;
+      at = omega (arith, c.bytes-test.true);
+      stands = skipped (stand_of [] c.args.self.now) piece i c.bytes-test.true fields (partial ++ (s.field.items ++ rest))
+          s.place s.whole inv.part inv.stands p.result.0 p.result.1 p.ensures.place p.ensures.action c.in-Skip.is
+          ∙ ap (λ xs. stand_by [] false fields xs p.result.0)
+          (sym (copied-at-hand partial s.field.items rest new (i + 1) piece c.in_ok-extend_from_slice-in-Skip.ensures.items))
+          ∙ ap (λ w. stand_by [] w fields (partial ++ (new ++ between (i + 1) (i + 1) piece)) p.result.0) (sym inv.part);
+    }
 
 pub bytes-preserved : goal.bytes-preserved
 bytes-preserved c =
     let s = c.bytes.self in
-    let t = stand_of [] c.args.self.now in
     let piece = c.args.piece.now in
-    let i = c.bytes.i in
-    let fields = fields_of s.row in
-    let field = partial_of s.row ++ s.field.items in
+    let i = c.bytes.at in
+    let inv = c.bytes.invariant in
     let p = c.step-place in
-    elim c.match-action.branch [
-      | in-Skip w ↦
-          rw w.self-is
-          (record {
-            part = c.bytes.invariant.part;
-            stands = skipped t piece i c.bytes-test.true fields field s.place s.whole c.bytes.invariant.part
-                c.bytes.invariant.stands p.result.0 p.result.1 p.ensures.place p.ensures.action w.in-Skip.is
-                ∙ rw c.bytes.invariant.part refl;
-          })
-      | in-Copy+in_ok-push-in-Copy w ↦
-          rw w.self-is
-          (record {
-            part = c.bytes.invariant.part;
-            stands = copied t piece i c.bytes-test.true fields field s.place s.whole c.bytes.invariant.part
-                c.bytes.invariant.stands p.result.0 p.result.1 p.ensures.place p.ensures.action w.in-Copy.is
-                (partial_of s.row ++ w.push.new.self.items)
-                (ap (λ xs. partial_of s.row ++ xs) w.in_ok-push-in-Copy.ensures.items
-                ∙ sym (append_assoc (partial_of s.row) s.field.items (get_or piece i 0 ∷ [])))
-                ∙ rw c.bytes.invariant.part refl;
-          })
-      | in-EndField+in_ok-end_field-in-EndField w ↦
-          rw w.self-is
-          (record {
-            part = c.bytes.invariant.part;
-            stands = ended-field t piece i c.bytes-test.true fields field s.place s.whole c.bytes.invariant.part
-                c.bytes.invariant.stands p.result.0 p.result.1 p.ensures.place p.ensures.action w.in-EndField.is
-                (fields_of w.end_field.new.row) (partial_of w.end_field.new.row ++ w.end_field.new.field.items)
-                w.in_ok-end_field-in-EndField.ensures.fields
-                (rw (w.in_ok-end_field-in-EndField.ensures.partial, w.in_ok-end_field-in-EndField.ensures.field) refl)
-                ∙ rw c.bytes.invariant.part refl;
-          })
-    ]
+    let new = c.end_field.new in
+    let row = fields_of new.row in
+    let at_hand = partial_of new.row ++ (new.field.items ++ between (i + 1) (i + 1) piece) in
+    record {
+      part = inv.part;
+      from = omega arith;
+      at = omega (arith, c.bytes-test.true);
+      stands = ended-field (stand_of [] c.args.self.now) piece i c.bytes-test.true (fields_of s.row)
+          (partial_of s.row ++ (s.field.items ++ between c.bytes.from i piece)) s.place s.whole inv.part inv.stands
+          p.result.0 p.result.1 p.ensures.place p.ensures.action c.in-EndField.is row at_hand
+          c.in_ok-end_field-in-EndField.ensures.fields
+          (none-at-hand (partial_of new.row) new.field.items (i + 1) piece c.in_ok-end_field-in-EndField.ensures.partial
+          c.in_ok-end_field-in-EndField.ensures.field)
+          ∙ ap (λ w. stand_by [] w row at_hand p.result.0) (sym inv.part);
+    }
