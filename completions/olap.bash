@@ -49,7 +49,7 @@ _olap_places() {
     rollup) places='fffc' ;;
     check) places='ff' ;;
     format | audit) places='f' ;;
-    summarizable | prove | prove-short) places='fcd' ;;
+    summarizable | prove | prove-short | needs) places='fcd' ;;
     verify | verify-short | breaks) places='ffcd' ;;
     implies) places='frn' ;;
     satisfiable | frozen) places='fc' ;;
@@ -93,7 +93,7 @@ _olap() {
     current=${words[-1]}
     if [[ ${#words[@]} -le 2 ]]; then
         compopt +o default
-        for each in rollup check format summarizable prove verify prove-short verify-short breaks implies satisfiable frozen audit store answer append retract cube cubeview generate; do
+        for each in rollup check format summarizable prove verify prove-short verify-short needs breaks implies satisfiable frozen audit store answer append retract cube cubeview generate; do
             if [[ $each == "$current"* ]]; then COMPREPLY+=("$each"); fi
         done
         return

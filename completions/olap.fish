@@ -20,7 +20,7 @@ function __olap_places
             echo ff
         case format audit
             echo f
-        case summarizable prove prove-short
+        case summarizable prove prove-short needs
             echo fcd
         case verify verify-short breaks
             echo ffcd
@@ -39,8 +39,8 @@ function __olap_candidates
     set -l words (commandline -opc) # those before the cursor's
     set -l place (math (count $words) - 1)
     if test $place -eq 0
-        printf '%s\n' rollup check format summarizable prove verify prove-short verify-short breaks implies satisfiable frozen \
-            audit store answer append retract cube cubeview generate
+        printf '%s\n' rollup check format summarizable prove verify prove-short verify-short needs breaks implies satisfiable \
+            frozen audit store answer append retract cube cubeview generate
         return
     end
     if contains -- $words[2] cube cubeview

@@ -120,18 +120,17 @@ def lists_block(question: Question, end: float) -> Iterator[str]:
 
 def needs_block(question: Question, end: float) -> Iterator[str]:
     """For each bottom category that may break the total, that it doesn't: the weakest constraints with which the answer is yes."""
-    needed = []
-    for bottom in question.schema.bottoms:
-        formula, seconds = question.formula(bottom), max(0.1, end - time.monotonic())
-        if question.ask.must("implies", SCHEMA, bottom, formula, ends=(0, 1), seconds=seconds).status == 1:
-            needed.append((bottom, f"{bottom}: {formula}"))
-    schema = question.changed(*(constraint for _, constraint in needed))
-    lines = question.ask.must("format", schema).text.splitlines()[-len(needed) :]
-    gone = simple.unsatisfiable(question, schema, end)
+    seconds = max(0.1, end - time.monotonic())
+    answer = question.ask.must("needs", SCHEMA, question.target, *question.sources, ends=(0, 1, 3), seconds=seconds)
     yield "needed: the weakest constraints with which the answer is yes:"
-    for (bottom, constraint), line in zip(needed, lines):
-        alone = f"   (then no {bottom} is left)" if f"unsatisfiable {bottom}" in gone else met(question, constraint)
-        yield f"  {line}{alone}"
+    if answer.status == 3:
+        yield "  the schema has no room for them"
+        return
+    if answer.status == 1:
+        yield from (f"  they would leave no {line.split()[1]}" for line in answer.text.splitlines()[1:])
+        return
+    for line in answer.text.splitlines():
+        yield f"  {line}{met(question, line[len('constraint ') :])}"
 
 
 def met(question: Question, constraint: str) -> str:

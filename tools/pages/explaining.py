@@ -13,7 +13,7 @@ from .texts import ESCAPED, STRING
 
 # Kinds whose cause the record alone doesn't show.
 WITH_CAUSE = ("UnknownCategory", "UnknownParent", "UnknownMember", "DuplicateId", "BadHeader")
-OF_SCHEMA = ("format", "satisfiable", "implies", "summarizable", "frozen", "audit", "prove", "prove-short")
+OF_SCHEMA = ("format", "satisfiable", "implies", "summarizable", "frozen", "audit", "prove", "prove-short", "needs")
 # Of each command, what its words are after its name.
 FILES = {
     "rollup": ("schema", "instance", "facts"), "store": ("schema", "instance", "facts"), "answer": ("schema", "instance", "store"),

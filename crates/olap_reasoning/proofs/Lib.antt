@@ -4,4 +4,5 @@ mod ListingLemmas
 mod LineLemmas
 mod OneAnswer
 mod ReplyLemmas
+mod NeedsLemmas
 mod WordLemmas

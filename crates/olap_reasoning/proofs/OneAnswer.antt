@@ -21,7 +21,8 @@ use Rattle.olap_order.specs.declared.status.Status.{Status}
 use Rattle.olap_reasoning.specs.Certificates.{ShowsDifference, ShowsMember, ShowsUnmet}
 use Rattle.olap_reasoning.specs.Laws.{AllFrozenAreOne, AnswersAreOne, AreCertificates, FindingsAreOne, TooManyAreNotListed}
 use Rattle.olap_reasoning.specs.Listings.{HasTooMany, ListsFindings, ListsFrozen, finding_text}
-use Rattle.olap_reasoning.specs.Questions.{IsAnswer, Question, BySatisfiable, ByImplied, BySummarizable, ByProof, ByFrozen, ByAudit}
+use Rattle.olap_reasoning.proofs.NeedsLemmas.{one_needs}
+use Rattle.olap_reasoning.specs.Questions.{IsAnswer, Question, BySatisfiable, ByImplied, BySummarizable, ByProof, ByNeeds, ByFrozen, ByAudit}
 
 -- ---- the line of a frozen dimension
 
@@ -128,6 +129,8 @@ one_answer (ByProof f z c sources) s t xs ys (inl a) (inr b) = absurd (no_differ
 one_answer (ByProof f z c sources) s t xs ys (inr a) (inl b) = absurd (no_difference z c sources xs b.1 a.1)
 one_answer (ByProof f z c sources) s t xs ys (inr a) (inr b) =
     (a.0 ∙ sym b.0, inl (one_difference z c sources xs ys a.1 b.1))
+one_answer (ByNeeds z c sources) s t xs ys a b =
+    let one = one_needs z c sources s t xs ys a b in (one.0, inl one.1)
 one_answer (ByFrozen z c) s t xs ys (inl a) (inl b) = (a.0 ∙ sym b.0, inl (one_listing z c xs ys a.1 b.1))
 one_answer (ByFrozen z c) s t xs ys (inl a) (inr b) = absurd (no_listing z c xs b.1 a.1)
 one_answer (ByFrozen z c) s t xs ys (inr a) (inl b) = absurd (no_listing z c ys a.1 b.1)

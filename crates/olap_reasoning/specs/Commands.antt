@@ -11,7 +11,7 @@ use Rattle.olap_order.specs.Steps.{category_word, different_words, formula_word,
 use Rattle.olap_order.specs.declared.status.Status.TheVariants.{Yes}
 use Rattle.olap_proof.specs.declared.forms.Form.{Form}
 use Rattle.olap_proof.specs.declared.forms.Form.TheVariants.{Long, Short}
-use Rattle.olap_reasoning.specs.Questions.{Question, BySatisfiable, ByImplied, BySummarizable, ByProof, ByFrozen, ByAudit}
+use Rattle.olap_reasoning.specs.Questions.{Question, BySatisfiable, ByImplied, BySummarizable, ByProof, ByNeeds, ByFrozen, ByAudit}
 
 -- the schema alone
 abbrev pub format_order : (schema : List ℕ) → Order Question
@@ -49,6 +49,10 @@ summarizable_order = sources_order BySummarizable
 abbrev pub prove_order : Form → (schema target : List ℕ) (sources : List (List ℕ)) → Order Question
 prove_order form = sources_order (ByProof form)
 
+-- what must be added so that it is?
+abbrev pub needs_order : (schema target : List ℕ) (sources : List (List ℕ)) → Order Question
+needs_order = sources_order ByNeeds
+
 -- the schema, and the category
 abbrev pub frozen_order : (schema category : List ℕ) → Order Question
 frozen_order schema category =
@@ -69,6 +73,7 @@ order_named name words =
     else if bytes_eq name (codes "summarizable") then by_two_or_more summarizable_order words
     else if bytes_eq name (codes "prove") then by_two_or_more (prove_order Long) words
     else if bytes_eq name (codes "prove-short") then by_two_or_more (prove_order Short) words
+    else if bytes_eq name (codes "needs") then by_two_or_more needs_order words
     else if bytes_eq name (codes "frozen") then by_two frozen_order words
     else if bytes_eq name (codes "audit") then by_one audit_order words
     else None

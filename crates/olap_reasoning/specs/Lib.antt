@@ -1,6 +1,7 @@
 -- Definitions that contracts cite, in reading order: what is asked, what answers it, and the commands' orders.
 pub mod Certificates
 pub mod Listings
+pub mod Needing
 pub mod Questions
 pub mod Commands
 pub mod Laws

@@ -14,6 +14,7 @@ use Rattle.olap_proof.specs.Verifying.{IsCertificateFor}
 use Rattle.olap_proof.specs.declared.forms.Form.{Form}
 use Rattle.olap_reasoning.specs.Certificates.{ShowsMember, ShowsUnmet, ShowsDifference}
 use Rattle.olap_reasoning.specs.Listings.{HasTooMany, ListsFindings, ListsFrozen}
+use Rattle.olap_reasoning.specs.Needing.{HasNoRoom, ListsEmptied, ListsNeeds}
 
 -- a command's question, with all that it needs
 pub data Question : Type 0 where
@@ -25,6 +26,8 @@ pub data Question : Type 0 where
   BySummarizable : (schema : Schema) (target : ℕ) (sources : List ℕ) → Question
   -- why is the target's view always that from the sources' views?
   ByProof : (form : Form) (schema : Schema) (target : ℕ) (sources : List ℕ) → Question
+  -- what must be added so that the target's view is always that from the sources' views?
+  ByNeeds : (schema : Schema) (target : ℕ) (sources : List ℕ) → Question
   -- which frozen dimensions with this root are there?
   ByFrozen : (schema : Schema) (root : ℕ) → Question
   -- what does the schema say or do for nothing?
@@ -44,6 +47,10 @@ IsAnswer (BySummarizable s c sources) status bytes =
 IsAnswer (ByProof f s c sources) status bytes =
     ((status ≡ Yes) × IsSummarizable s c sources × IsCertificateFor f s c sources bytes)
     ⊎ ((status ≡ No) × ShowsDifference s c sources bytes)
+IsAnswer (ByNeeds s c sources) status bytes =
+    ((status ≡ Yes) × ListsNeeds s c sources bytes)
+    ⊎ ((status ≡ No) × ListsEmptied s c sources bytes)
+    ⊎ ((status ≡ Refused) × HasNoRoom s c sources × (bytes ≡ refusal (codes "needs TooMany")))
 IsAnswer (ByFrozen s c) status bytes =
     ((status ≡ Yes) × ListsFrozen s c bytes)
     ⊎ ((status ≡ Refused) × HasTooMany s c × (bytes ≡ refusal (codes "frozen TooMany")))

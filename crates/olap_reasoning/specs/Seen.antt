@@ -10,7 +10,7 @@ use Rattle.olap_order.specs.Steps.{schema_file}
 use Rattle.olap_order.specs.Words.{texts}
 use Rattle.olap_order.specs.declared.status.Status.TheVariants.{Yes}
 use Rattle.olap_reasoning.specs.Under.{frozen_under, implies_under, satisfiable_under, sources_under}
-use Rattle.olap_reasoning.specs.Questions.{Question, ByAudit, BySummarizable, ByProof}
+use Rattle.olap_reasoning.specs.Questions.{Question, ByAudit, ByNeeds, BySummarizable, ByProof}
 use Rattle.olap_reasoning.specs.declared.words.Asked.{Asked}
 use Rattle.olap_reasoning.specs.declared.words.Asked.TheVariants as code
 use Rattle.olap_reasoning.specs.declared.words.Command.{Command}
@@ -29,6 +29,7 @@ seen_under s (code.Satisfiable category) = satisfiable_under s category.now
 seen_under s (code.Implies root formula) = implies_under s root.now formula.now
 seen_under s (code.Summarizable what target sources) =
     sources_under (question_of what) s target.now (texts sources.now)
+seen_under s (code.Needs target sources) = sources_under ByNeeds s target.now (texts sources.now)
 seen_under s (code.Frozen category) = frozen_under s category.now
 seen_under s code.Audit = Done (ByAudit s)
 

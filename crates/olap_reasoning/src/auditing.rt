@@ -18,7 +18,7 @@ use olap_summ::Finding;
 use std::alloc::Global;
 
 /// Appends the line of a category that can't have a member.
-fn push_unsatisfiable(out: &mut Vec<u8>, graph: &Graph, c: CatId) -> Result<(), Memory>
+pub(crate) fn push_unsatisfiable(out: &mut Vec<u8>, graph: &Graph, c: CatId) -> Result<(), Memory>
     requires { IsCategory graph.now c.0 }
     ensures { OnOk result
         (out.new.items ≡ out.old.items ++ finding_text graph.now (Unsatisfiable c.0)) }

@@ -11,6 +11,7 @@ use crate::auditing::audit;
 use crate::formatting::format;
 use crate::implying::implies;
 use crate::listing::frozen;
+use crate::needing::needs;
 use crate::satisfying::satisfiable;
 use crate::summarizing::summarizable;
 use crate::words::{Asked, Command, parse};
@@ -32,6 +33,7 @@ fn reply(alloc: Global, schema: &Schema, asked: Asked) -> Result<Reply, Stop>
             target,
             sources,
         } => summarizable(alloc, wanted, schema, target, sources),
+        Asked::Needs { target, sources } => needs(alloc, schema, target, sources),
         Asked::Frozen { category } => frozen(alloc, schema, category),
         Asked::Audit => audit(alloc, schema),
     }

@@ -13,6 +13,7 @@ mod implying;
 mod judging;
 mod laws;
 mod listing;
+mod needing;
 mod proving;
 mod satisfying;
 mod summarizing;

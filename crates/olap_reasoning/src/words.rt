@@ -2,7 +2,7 @@
 ghost use Rattle.std.specs.Prelude.{◌≡◌, option_map};
 ghost use Rattle.olap_order.specs.Arguments.{by_one, by_three, by_two, by_two_or_more};
 ghost use Rattle.olap_order.specs.Words.{texts};
-ghost use Rattle.olap_reasoning.specs.Commands.{audit_order, format_order, frozen_order, implies_order, order_named, satisfiable_order, sources_order};
+ghost use Rattle.olap_reasoning.specs.Commands.{audit_order, format_order, frozen_order, implies_order, needs_order, order_named, satisfiable_order, sources_order};
 ghost use Rattle.olap_reasoning.specs.Seen.{question_of, seen};
 
 use olap_proof::Form;
@@ -40,6 +40,11 @@ pub(crate) enum Asked<'a> {
     /// Whether a view is always that from others, or why.
     Summarizable {
         wanted: Wanted,
+        target: &'a str,
+        sources: &'a [String],
+    },
+    /// What must be added so that a view is always that from others.
+    Needs {
         target: &'a str,
         sources: &'a [String],
     },
@@ -113,6 +118,22 @@ fn summarizable(wanted: Wanted, words: &[String]) -> Option<Command<'_>>
     }
 }
 
+/// The words after `needs`.
+fn needs(words: &[String]) -> Option<Command<'_>>
+    ensures { option_map seen result ≡ by_two_or_more needs_order (texts words.now) }
+{
+    match words {
+        [schema, target, sources @ ..] => Some(Command {
+            schema: schema.as_str(),
+            asked: Asked::Needs {
+                target: target.as_str(),
+                sources,
+            },
+        }),
+        _ => None,
+    }
+}
+
 /// The words after `frozen`.
 fn frozen(words: &[String]) -> Option<Command<'_>>
     ensures { option_map seen result ≡ by_two frozen_order (texts words.now) }
@@ -152,6 +173,7 @@ pub(crate) fn parse<'a>(name: &str, words: &'a [String]) -> Option<Command<'a>>
         "summarizable" => summarizable(Wanted::Answer, words),
         "prove" => summarizable(Wanted::Certificate(Form::Long), words),
         "prove-short" => summarizable(Wanted::Certificate(Form::Short), words),
+        "needs" => needs(words),
         "frozen" => frozen(words),
         "audit" => audit(words),
         _ => None,

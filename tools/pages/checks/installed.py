@@ -199,6 +199,7 @@ def completion_faults(room: Path) -> Iterator[str]:
         "olap verify-": ["verify-short"],
         f"olap prove {quoted} Store Stage ": ["Store", "All"],
         f"olap verify {quoted} c": [],
+        f"olap needs {quoted} Store Stage ": ["Store", "All"],
         f"olap breaks {quoted} i Store Stage A": ["All"],
         f"olap verify-short {quoted} c St": ["Store", "Stage"],
         f"olap verify {quoted} c Store Stage A": ["All"],
