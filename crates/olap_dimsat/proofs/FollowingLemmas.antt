@@ -4,7 +4,7 @@ use Rattle.std.specs.Prelude.{slice_index, slice_index_or}
 use Rattle.std.proofs.lemmas.List.{ext_get_or}
 use Rattle.olap_ast.specs.Frozen.{Frozen, code}
 use Rattle.olap_base.specs.Ranks.{IsNotAfter}
-use Rattle.olap_dimsat.specs.Following.{IsNext, IsRaised, IsZeroAt, NoneAfter, NoneMore}
+use Rattle.olap_dimsat.specs.Following.{IsNext, IsRaised, IsRisen, IsZeroAt, NoneBeyond, NoneMore}
 use Rattle.olap_dimsat.specs.Listed.{IsBefore}
 use Rattle.olap_clauses.specs.declared.engine.Engine.{Engine}
 use Rattle.olap_clauses.specs.declared.trails.Step.{Step}
@@ -48,8 +48,12 @@ first_place (x ∷ xs) (y ∷ ys) e (inr t) d =
     same q n s (suc k) h = s k (omega arith)
 
 -- of two numbers one is less, or they are equal
-which : (x y : ℕ) → (x < y) ⊎ ((x ≡ y) ⊎ (y < x))
+pub which : (x y : ℕ) → (x < y) ⊎ ((x ≡ y) ⊎ (y < x))
 which x y = grind arith
+
+-- of two numbers the first is less, or the second is no more
+pub below : (x y : ℕ) → (x < y) ⊎ (y ≤ x)
+below x y = grind arith
 
 -- where the second list first differs it has no less
 at_first : (xs ys : List ℕ) → Differ xs ys → (q : ℕ)
@@ -73,12 +77,23 @@ after_at xs ys e p i s m = not_after xs ys e
 
 -- ---- codes
 
+-- codes that are the same at the places of the edges are of the same edges
+pub same_edges : (t : Task) (f h : Frozen) → IsOne t f → IsOne t h → IsSame (length (graph_of t).edges) f h
+    → f.edges ≡ h.edges
+same_edges t f h a b s = ext_get_or false f.edges h.edges (a.edge_count ∙ sym b.edge_count)
+    (λ e l. let n = a.edge_count in same_bit _ _
+    (sym (code_edge t f e a (omega arith)) ∙ s e (omega arith) ∙ code_edge t h e b (omega arith)))
+
+-- and codes of the same edges are the same there
+pub edges_same : (t : Task) (f h : Frozen) → IsOne t f → IsOne t h → f.edges ≡ h.edges
+    → IsSame (length (graph_of t).edges) f h
+edges_same t f h a b q = λ e l.
+    code_edge t f e a l ∙ ap (λ es. bit (slice_index_or es e false)) q ∙ sym (code_edge t h e b l)
+
 -- the code says which frozen dimension it is
 pub code_one : (t : Task) (f h : Frozen) → IsOne t f → IsOne t h → code f ≡ code h → f ≡ h
 code_one t f h a b q =
-    let es : f.edges ≡ h.edges = ext_get_or false f.edges h.edges (a.edge_count ∙ sym b.edge_count)
-    (λ e l. let n = a.edge_count in same_bit _ _
-    (sym (code_edge t f e a (omega arith)) ∙ ap (λ c. slice_index c e) q ∙ code_edge t h e b (omega arith))) in
+    let es : f.edges ≡ h.edges = same_edges t f h a b (λ e l. ap (λ c. slice_index c e) q) in
     let ns : f.names ≡ h.names = ext_get_or 0 f.names h.names (a.name_count ∙ sym b.name_count)
     (λ c l. let p = length (graph_of t).edges + c in
     sym (code_name t f p c a refl) ∙ ap (λ c. slice_index c p) q ∙ code_name t h p c b refl) in
@@ -89,7 +104,7 @@ pub same_length : (t : Task) (f h : Frozen) → IsOne t f → IsOne t h → leng
 same_length t f h a b = length-code t f a ∙ sym (length-code t h b)
 
 -- a frozen dimension that comes later differs first at some place
-differ : (t : Task) (w f : Frozen) → IsOne t w → IsOne t f → IsBefore w f → Differ (code w) (code f)
+pub differ : (t : Task) (w f : Frozen) → IsOne t w → IsOne t f → IsBefore w f → Differ (code w) (code f)
 differ t w f a b l = first_place (code w) (code f) (same_length t w f a b) l.0 (λ q. l.1 (code_one t w f a b q))
 
 -- a place is within the code
@@ -100,67 +115,100 @@ place_inside t w p one h = let l = length-code t w one in omega arith
 inside_place : (t : Task) (w : Frozen) (p : ℕ) → IsOne t w → p < length (code w) → IsPlace t p
 inside_place t w p one h = let l = length-code t w one in omega arith
 
+-- codes that are the same at all places are of one frozen dimension
+pub same_code : (t : Task) (n : ℕ) (f h : Frozen) → IsOne t f → IsOne t h → ((q : ℕ) → IsPlace t q → q < n)
+    → IsSame n f h → f ≡ h
+same_code t n f h a b all s =
+    code_one t f h a b (ext_get_or 0 (code f) (code h) (same_length t f h a b)
+    (λ q l. s q (all q (inside_place t f q a l))))
+
 -- ---- the next one
 
-module _ (t : Task) (p : ℕ) (w x y : Frozen) (a : IsOne t w) (b : IsOne t y) (place : IsPlace t p)
-    (r : IsRaised t p w x) (settled : IsSame (p + 1) y x) (less : (q : ℕ) → p + 1 ≤ q → IsPlace t q → NoneLess t q y)
-    (none : (q : ℕ) → p < q → IsPlace t q → NoneMore t q w) where
-  before : (k : ℕ) → k < p → slice_index (code y) k ≡ slice_index (code w) k
-  before k h = settled k (omega arith) ∙ r.same k h
+-- what is raised stays so while the places behind are settled
+pub risen : (t : Task) (p : ℕ) (w x y : Frozen) → IsOne t y → IsRaised t p w x → IsSame (p + 1) y x
+    → ((q : ℕ) → p + 1 ≤ q → IsPlace t q → NoneLess t q y) → IsRisen t p w y
+risen t p w x y one r same less = record {
+  one = one;
+  raised = record {
+    same = λ k h. same k (omega arith) ∙ r.same k h;
+    more = let e = here in let m = r.more in omega arith;
+    least = λ f o s m. let e = here in let l = r.least f o s m in omega arith;
+  };
+  settled = λ q l place. less q (omega arith) place;
+}
+  where
+    here : slice_index (code y) p ≡ slice_index (code x) p
+    here = same p (omega arith)
 
-  here : slice_index (code y) p ≡ slice_index (code x) p
-  here = settled p (omega arith)
-
+module _ (t : Task) (n p : ℕ) (w y : Frozen) (a : IsOne t w) (inside : p < n) (place : IsPlace t p)
+    (r : IsRisen t p w y) (none : (q : ℕ) → p < q → q < n → IsPlace t q → NoneMore t q w) where
   comes_after : IsBefore w y
   comes_after = (
-    after_at (code w) (code y) (same_length t w y a b) p (place_inside t w p a place) before
-        (let m = r.more in let e = here in omega arith),
-    λ q. let e = ap (λ f. slice_index (code f) p) q in let m = r.more in let z = here in omega arith,
+    after_at (code w) (code y) (same_length t w y a r.one) p (place_inside t w p a place) r.raised.same r.raised.more,
+    λ q. let e = ap (λ f. slice_index (code f) p) q in let m = r.raised.more in omega arith,
   )
 
-  -- one that comes after w, and is as w before p, has more at p
-  more_here : (f : Frozen) → IsOne t f → Differ (code w) (code f) → IsSame p f w
+  -- one that is beyond w, and is as w before p, has more at p
+  more_here : (f : Frozen) → IsOne t f → (IsSame n f w → ⊥) → Differ (code w) (code f) → IsSame p f w
       → slice_index (code w) p < slice_index (code f) p
-  more_here f one d s = elim (which d.place p) [
+  more_here f one other d s = elim (which d.place p) [
     | inl l ↦ let e = s d.place l in let m = d.more in absurd (omega arith)
     | inr z ↦ elim z [
       | inl e ↦
           let m = d.more in let u = ap (slice_index (code w)) e in let v = ap (slice_index (code f)) e in omega arith
-      | inr l ↦ absurd (none d.place l (inside_place t w d.place a d.inside) f one d.same d.more)
+      | inr l ↦ elim (below d.place n) [
+        | inl h ↦ absurd (none d.place l h (inside_place t w d.place a d.inside) f one d.same d.more)
+        | inr h ↦ absurd (other (λ k i. d.same k (omega arith)))
+      ]
     ]
   ]
 
-  no_less : (f : Frozen) → IsOne t f → Differ (code w) (code f) → (q : ℕ) → IsPlace t q → IsSame q f y
-      → slice_index (code y) q ≤ slice_index (code f) q
-  no_less f one d q inside s = elim (which q p) [
+  no_less : (f : Frozen) → IsOne t f → (IsSame n f w → ⊥) → Differ (code w) (code f) → (q : ℕ) → IsPlace t q
+      → IsSame q f y → slice_index (code y) q ≤ slice_index (code f) q
+  no_less f one other d q inside s = elim (which q p) [
     | inl l ↦
-        let e = before q l in
-        let m = at_first (code w) (code f) d q (λ k h. s k h ∙ before k (omega arith)) in omega arith
+        let e = r.raised.same q l in
+        let m = at_first (code w) (code f) d q (λ k h. s k h ∙ r.raised.same k (omega arith)) in omega arith
     | inr z ↦ elim z [
       | inl e ↦ at_p e
-      | inr l ↦ less q (omega arith) inside f one s
+      | inr l ↦ r.settled q l inside f one s
     ]
   ]
     where
       at_p : q ≡ p → slice_index (code y) q ≤ slice_index (code f) q
       at_p e =
-          let same : IsSame p f w = λ k h. s k (omega arith) ∙ before k h in
-          let m = r.least f one same (more_here f one d same) in
-          let z = here in
+          let same : IsSame p f w = λ k h. s k (omega arith) ∙ r.raised.same k h in
+          let m = r.raised.least f one same (more_here f one other d same) in
           let u = ap (slice_index (code y)) e in let v = ap (slice_index (code f)) e in omega arith
 
-  pub next_of : IsNext t w y
+  -- one that is as y at the first places has no less at any
+  as_much : (f : Frozen) → IsOne t f → IsSame n f y → (q : ℕ) → IsPlace t q → IsSame q f y
+      → slice_index (code y) q ≤ slice_index (code f) q
+  as_much f one alike q there s = elim (below p q) [
+    | inl l ↦ r.settled q l there f one s
+    | inr l ↦ let e = alike q (omega arith) in omega arith
+  ]
+
+  pub next_of : IsNext t n w y
   next_of = record {
-    one = b;
-    after = comes_after;
-    least = λ f one l. not_after (code y) (code f) (same_length t y f b one)
-        (λ q h s. no_less f one (differ t w f a one l) q (inside_place t y q b h) s);
+    first = record {
+      one = r.one;
+      least = λ f one alike. not_after (code y) (code f) (same_length t y f r.one one)
+          (λ q h s. as_much f one alike q (inside_place t y q r.one h) s);
+    };
+    beyond = (comes_after, λ s. let e = s p inside in let m = r.raised.more in omega arith);
+    least = λ f one l. not_after (code y) (code f) (same_length t y f r.one one)
+        (λ q h s. no_less f one l.1 (differ t w f a one l.0) q (inside_place t y q r.one h) s);
   }
 
--- where there is more at no place, nothing comes later
-pub none_after : (t : Task) (w : Frozen) → IsOne t w → ((q : ℕ) → IsPlace t q → NoneMore t q w) → NoneAfter t w
-none_after t w a none f one l =
-    let d = differ t w f a one l in none d.place (inside_place t w d.place a d.inside) f one d.same d.more
+-- where there is more at none of the first places, nothing is beyond
+pub none_beyond : (t : Task) (n : ℕ) (w : Frozen) → IsOne t w
+    → ((q : ℕ) → q < n → IsPlace t q → NoneMore t q w) → NoneBeyond t n w
+none_beyond t n w a none f one l =
+    let d = differ t w f a one l.0 in elim (below d.place n) [
+      | inl h ↦ none d.place h (inside_place t w d.place a d.inside) f one d.same d.more
+      | inr h ↦ l.1 (λ k i. d.same k (omega arith))
+    ]
 
 -- ---- more at one place
 

@@ -1,18 +1,22 @@
 -- Lists of frozen dimensions by their codes.
-use Rattle.std.proofs.Common.{◌≡◌, ℕ, zero, suc, ◌≤◌, List, [], ◌∷◌, ◌++◌, length, get_or, sym, subst, ◌∙◌, ◌⊎◌, inl, inr, arith, length-append}
-use Rattle.std.specs.Prelude.{All, AllPairs, Contains}
+use Rattle.std.proofs.Common.{◌≡◌, ℕ, zero, suc, ◌<◌, ◌≤◌, List, [], ◌∷◌, ◌++◌, length, get_or, refl, ap, sym, subst, ◌∙◌, ◌⊎◌, inl, inr, arith, length-append}
+use Rattle.std.specs.Prelude.{All, AllPairs, Contains, slice_index}
 use Rattle.std.proofs.lemmas.List.Elements.{All-append, Contains-append_left, Contains-append_right}
 use Rattle.std.proofs.lemmas.List.Quantifiers.{all_pairs_push}
 use Rattle.olap_ast.specs.Frozen.{Frozen, code}
 use Rattle.olap_base.specs.Ranks.{IsNotAfter}
+use Rattle.olap_base.specs.Refusing.{IsFor}
+use Rattle.olap_base.specs.declared.refusals.Refusal.{Refusal}
+use Rattle.olap_base.specs.declared.refusals.Refusal.TheVariants as refusal
 use Rattle.olap_base.proofs.ListLemmas.{contains_head}
 use Rattle.olap_names.specs.Names.{candidates_of}
 use Rattle.olap_names.proofs.OrderLemmas.{compare, not_after_itself, not_both}
-use Rattle.olap_dimsat.specs.Following.{IsNext, NoneAfter}
+use Rattle.olap_dimsat.specs.Following.{AreFirsts, AreMoreFirsts, HasLike, IsBeyond, IsFirstOf, IsNext, NoneBeyond}
 use Rattle.olap_dimsat.specs.Listed.{AreAllFrozen, AreMoreThan, IsBefore}
-use Rattle.olap_dimsat.specs.Pinned.{IsLeast}
-use Rattle.olap_dimsat.specs.Tasks.{IsTask, Task, IsOne, schema_of}
-use Rattle.olap_dimsat.proofs.FollowingLemmas.{code_one, same_length}
+use Rattle.olap_dimsat.specs.Pinned.{IsLeast, IsPlace, IsSame}
+use Rattle.olap_dimsat.specs.Shapes.{AreMoreShapes, AreShapes}
+use Rattle.olap_dimsat.specs.Tasks.{IsTask, Task, IsOne, graph_of, schema_of}
+use Rattle.olap_dimsat.proofs.FollowingLemmas.{Differ, below, code_one, differ, edges_same, same_code, same_edges, same_length, which}
 
 -- ---- the order
 
@@ -53,22 +57,65 @@ same_or_after t w f a b n = elim (compare (code w) (code f) (same_length t w f a
     own : (h : Frozen) → IsNotAfter (code h) (code h)
     own h = not_after_itself (code h)
 
+-- ---- beyond
+
+-- one that doesn't come before w is as w at the first n places, or beyond it
+alike_or_beyond : (t : Task) (n : ℕ) (w f : Frozen) → IsOne t w → IsOne t f → IsNotAfter (code w) (code f)
+    → IsSame n f w ⊎ IsBeyond n w f
+alike_or_beyond t n w f a b l = elim (same_or_after t w f a b l) [
+  | inl e ↦ inl (subst (λ h. IsSame n h w) e (λ k i. refl))
+  | inr m ↦ let d = differ t w f a b m in elim (below d.place n) [
+    | inl h ↦ inr (m, λ s. let e = s d.place h in let g = d.more in omega arith)
+    | inr h ↦ inl (λ k i. d.same k (omega arith))
+  ]
+]
+
+-- what is beyond what is beyond h is beyond h
+beyond_again : (t : Task) (n : ℕ) (h w y : Frozen) → IsOne t h → IsOne t w → IsOne t y → IsBeyond n h w
+    → IsBeyond n w y → IsBeyond n h y
+beyond_again t n h w y a b c l m = (before_again t h w y a b l.0 m.0, other)
+  where
+    d : Differ (code h) (code w)
+    d = differ t h w a b l.0
+
+    e : Differ (code w) (code y)
+    e = differ t w y b c m.0
+
+    at_first_places : IsSame n y h → d.place < n → ⊥
+    at_first_places s i = elim (which e.place d.place) [
+      | inl z ↦
+          let u = d.same e.place z in let v = s e.place (omega arith) in let g = e.more in omega arith
+      | inr r ↦ elim r [
+        | inl q ↦
+            let u = ap (slice_index (code w)) q in let v = ap (slice_index (code y)) q in
+            let x = s d.place i in let f = d.more in let g = e.more in omega arith
+        | inr z ↦
+            let u = e.same d.place z in let v = s d.place i in let f = d.more in omega arith
+      ]
+    ]
+
+    other : IsSame n y h → ⊥
+    other s = elim (below d.place n) [
+      | inl i ↦ at_first_places s i
+      | inr i ↦ l.1 (λ k z. d.same k (omega arith))
+    ]
+
 -- ---- lists
 
--- frozen dimensions, each once, by their codes
-pub record IsFront (t : Task) (list : List Frozen) : Type 0 where
-  pub ordered : AllPairs IsBefore list
-  pub sound : All (IsOne t) list
+-- the first ones so far, each once, by their codes
+pub record IsFront (t : Task) (n : ℕ) (list : List Frozen) : Type 0 where
+  pub ordered : AllPairs (IsBeyond n) list
+  pub sound : All (IsFirstOf t n) list
 
--- w is a frozen dimension behind the list, and all others that aren't in the list come after it
-pub record IsAhead (t : Task) (list : List Frozen) (w : Frozen) : Type 0 where
-  pub one : IsOne t w
-  pub before : All (λ f. IsBefore f w) list
-  pub rest : (f : Frozen) → IsOne t f → Contains list f ⊎ IsNotAfter (code w) (code f)
+-- w is beyond all of them, and what isn't as one of them doesn't come before w
+pub record IsAhead (t : Task) (n : ℕ) (list : List Frozen) (w : Frozen) : Type 0 where
+  pub first : IsFirstOf t n w
+  pub beyond : All (λ f. IsBeyond n f w) list
+  pub rest : (f : Frozen) → IsOne t f → HasLike n list f ⊎ IsNotAfter (code w) (code f)
 
--- each frozen dimension is in the list
-abbrev pub HasAll : Task → List Frozen → Type 0
-HasAll t list = (f : Frozen) → IsOne t f → Contains list f
+-- each frozen dimension is as one of them
+abbrev pub HasAll : Task → ℕ → List Frozen → Type 0
+HasAll t n list = (f : Frozen) → IsOne t f → HasLike n list f
 
 -- one more of which it holds
 all_push : (P : Frozen → Type 0) (xs : List Frozen) (y : Frozen) → All P xs → P y → All P (xs ++ y ∷ [])
@@ -83,74 +130,132 @@ contains_last : (xs : List Frozen) (y : Frozen) → Contains (xs ++ y ∷ []) y
 contains_last xs y = Contains-append_right xs (y ∷ []) y (contains_head y [])
 
 -- the empty list is the front of all
-pub front_none : (t : Task) → IsFront t []
-front_none t = record { ordered = λ i j d a b. absurd (omega arith); sound = λ k d h. absurd (omega arith) }
+pub front_none : (t : Task) (n : ℕ) → IsFront t n []
+front_none t n = record { ordered = λ i j d a b. absurd (omega arith); sound = λ k d h. absurd (omega arith) }
 
 -- and with the one that comes next
-pub front_more : (t : Task) (list : List Frozen) (w : Frozen) → IsFront t list → IsAhead t list w
-    → IsFront t (list ++ w ∷ [])
-front_more t list w f a = record {
-  ordered = all_pairs_push IsBefore list w f.ordered a.before;
-  sound = all_push (IsOne t) list w f.sound a.one;
+pub front_more : (t : Task) (n : ℕ) (list : List Frozen) (w : Frozen) → IsFront t n list → IsAhead t n list w
+    → IsFront t n (list ++ w ∷ [])
+front_more t n list w f a = record {
+  ordered = all_pairs_push (IsBeyond n) list w f.ordered a.beyond;
+  sound = all_push (IsFirstOf t n) list w f.sound a.first;
 }
 
 -- the least comes next after none
-pub ahead_first : (t : Task) (w : Frozen) → IsLeast t w → IsAhead t [] w
-ahead_first t w l = record {
-  one = l.is_one;
-  before = λ k d h. absurd (omega arith);
+pub ahead_first : (t : Task) (n : ℕ) (w : Frozen) → IsLeast t w → IsAhead t n [] w
+ahead_first t n w l = record {
+  first = record { one = l.is_one; least = λ f one s. l.least f one };
+  beyond = λ k d h. absurd (omega arith);
   rest = λ f one. inr (l.least f one);
 }
 
--- those that aren't in the list are w, or come after it
-left : (t : Task) (list : List Frozen) (w : Frozen) → IsAhead t list w → (f : Frozen) → IsOne t f
-    → Contains (list ++ w ∷ []) f ⊎ IsBefore w f
-left t list w a f one = elim (a.rest f one) [
-  | inl c ↦ inl (Contains-append_left list (w ∷ []) f c)
-  | inr n ↦ elim (same_or_after t w f a.one one n) [
-    | inl e ↦ inl (subst (λ h. Contains (list ++ w ∷ []) h) e (contains_last list w))
+-- one that is as none of the list is as w, or beyond it
+left : (t : Task) (n : ℕ) (list : List Frozen) (w : Frozen) → IsAhead t n list w → (f : Frozen) → IsOne t f
+    → HasLike n (list ++ w ∷ []) f ⊎ IsBeyond n w f
+left t n list w a f one = elim (a.rest f one) [
+  | inl c ↦ inl (c.0, Contains-append_left list (w ∷ []) c.0 c.1, c.2)
+  | inr m ↦ elim (alike_or_beyond t n w f a.first.one one m) [
+    | inl s ↦ inl (w, contains_last list w, s)
     | inr b ↦ inr b
   ]
 ]
 
 -- the next comes next after the one that was pushed
-pub ahead_more : (t : Task) (list : List Frozen) (w y : Frozen) → IsFront t list → IsAhead t list w → IsNext t w y
-    → IsAhead t (list ++ w ∷ []) y
-ahead_more t list w y f a n = record {
-  one = n.one;
-  before = all_push (λ h. IsBefore h y) list w
-      (λ k d h. before_again t (get_or list k d) w y (f.sound k d h) a.one (a.before k d h) n.after) n.after;
-  rest = λ h one. elim (left t list w a h one) [ inl c ↦ inl c | inr b ↦ inr (n.least h one b) ];
+pub ahead_more : (t : Task) (n : ℕ) (list : List Frozen) (w y : Frozen) → IsFront t n list → IsAhead t n list w
+    → IsNext t n w y → IsAhead t n (list ++ w ∷ []) y
+ahead_more t n list w y f a m = record {
+  first = m.first;
+  beyond = all_push (λ h. IsBeyond n h y) list w
+      (λ k d h. beyond_again t n (get_or list k d) w y (f.sound k d h).one a.first.one m.first.one (a.beyond k d h)
+      m.beyond) m.beyond;
+  rest = λ h one. elim (left t n list w a h one) [ inl c ↦ inl c | inr b ↦ inr (m.least h one b) ];
 }
 
--- where none comes after the last, the list has all
-pub has_all : (t : Task) (list : List Frozen) (w : Frozen) → IsAhead t list w → NoneAfter t w
-    → HasAll t (list ++ w ∷ [])
-has_all t list w a none f one = elim (left t list w a f one) [ inl c ↦ c | inr b ↦ absurd (none f one b) ]
+-- where none is beyond the last, the list has all
+pub has_all : (t : Task) (n : ℕ) (list : List Frozen) (w : Frozen) → IsAhead t n list w → NoneBeyond t n w
+    → HasAll t n (list ++ w ∷ [])
+has_all t n list w a none f one = elim (left t n list w a f one) [ inl c ↦ c | inr b ↦ absurd (none f one b) ]
+
+-- a front that has all has the first of each
+pub all_firsts : (t : Task) (n : ℕ) (list : List Frozen) → IsFront t n list → HasAll t n list → AreFirsts t n list
+all_firsts t n list f h = record { ordered = f.ordered; sound = f.sound; complete = h }
+
+-- a front with one ahead is of more than its length
+pub more_firsts : (t : Task) (n : ℕ) (list : List Frozen) (w : Frozen) (limit : ℕ) → IsFront t n list
+    → IsAhead t n list w → limit ≤ length list → AreMoreFirsts t n limit
+more_firsts t n list w limit f a h =
+    let g = front_more t n list w f a in record {
+      some = list ++ w ∷ [];
+      many = let l = length-append list (w ∷ []) in omega arith;
+      ordered = g.ordered;
+      sound = g.sound;
+    }
+
+-- a refusal whose reason is allowed is one whose weaker reason is
+pub weaker_for : {K : Type 0} (P Q : K → Type 0) (e : Refusal K) → ((k : K) → P k → Q k) → IsFor P e → IsFor Q e
+weaker_for P Q (refusal.Kind k) h p = h k p
+weaker_for P Q (refusal.Memory m) h p = tt
+
+-- ---- by all places
 
 -- what holds of all holds of each
 at_element : (P : Frozen → Type 0) (xs : List Frozen) → All P xs → (f : Frozen) → Contains xs f → P f
 at_element P xs a f c = subst P c.2 (a c.0 f c.1)
 
--- a front that has all is the list of all
-pub all_frozen : (t : Task) (list : List Frozen) → IsTask t → IsFront t list → HasAll t list
+-- told apart by all places, the first ones are all
+pub all_frozen : (t : Task) (n : ℕ) (list : List Frozen) → IsTask t → ((q : ℕ) → IsPlace t q → q < n)
+    → AreFirsts t n list
     → AreAllFrozen (schema_of t) t.question.formula t.question.root (candidates_of t.question.candidates) list
-all_frozen t list k f h = record {
+all_frozen t n list k all a = record {
   candidates = k.question.candidates;
-  ordered = f.ordered;
-  sound = at_element (IsOne t) list f.sound;
-  complete = h;
+  ordered = λ i j d l m. (a.ordered i j d l m).0;
+  sound = sound;
+  complete = λ f one. let c = a.complete f one in
+      subst (λ h. Contains list h) (sym (same_code t n f c.0 one (sound c.0 c.1) all c.2)) c.1;
+}
+  where
+    sound : (f : Frozen) → Contains list f → IsOne t f
+    sound f c = (at_element (IsFirstOf t n) list a.sound f c).one
+
+-- and so many of them are so many frozen dimensions
+pub more_than : (t : Task) (n limit : ℕ) → IsTask t → AreMoreFirsts t n limit
+    → AreMoreThan limit (schema_of t) t.question.formula t.question.root (candidates_of t.question.candidates)
+more_than t n limit k m = record {
+  candidates = k.question.candidates;
+  some = m.some;
+  many = m.many;
+  differ = λ i j d a b. (m.ordered i j d a b).0.1;
+  sound = λ f c. (at_element (IsFirstOf t n) m.some m.sound f c).one;
 }
 
--- a front with one ahead is of more than its length
-pub more_than : (t : Task) (list : List Frozen) (w : Frozen) (n : ℕ) → IsTask t → IsFront t list → IsAhead t list w
-    → n ≤ length list → AreMoreThan n (schema_of t) t.question.formula t.question.root
-    (candidates_of t.question.candidates)
-more_than t list w n k f a h =
-    let g = front_more t list w f a in record {
-      candidates = k.question.candidates;
-      some = list ++ w ∷ [];
-      many = let l = length-append list (w ∷ []) in omega arith;
-      differ = λ i j d l m. (g.ordered i j d l m).1;
-      sound = at_element (IsOne t) (list ++ w ∷ []) g.sound;
-    }
+-- ---- by the places of the edges
+
+-- told apart by the edges, the first ones are the least of each shape
+pub shapes : (t : Task) (list : List Frozen) → IsTask t → AreFirsts t (length (graph_of t).edges) list
+    → AreShapes (schema_of t) t.question.formula t.question.root (candidates_of t.question.candidates) list
+shapes t list k a = record {
+  candidates = k.question.candidates;
+  ordered = λ i j d l m. (a.ordered i j d l m).0;
+  sound = λ f c. let g = first f c in record {
+    is_one = g.one;
+    least = λ h one e. g.least h one (edges_same t h f one g.one e);
+  };
+  complete = λ f one. let c = a.complete f one in
+      (c.0, c.1, sym (same_edges t f c.0 one (first c.0 c.1).one c.2));
+}
+  where
+    first : (f : Frozen) → Contains list f → IsFirstOf t (length (graph_of t).edges) f
+    first f c = at_element (IsFirstOf t (length (graph_of t).edges)) list a.sound f c
+
+-- and so many of them are so many shapes
+pub more_shapes : (t : Task) (limit : ℕ) → IsTask t → AreMoreFirsts t (length (graph_of t).edges) limit
+    → AreMoreShapes limit (schema_of t) t.question.formula t.question.root (candidates_of t.question.candidates)
+more_shapes t limit k m = record {
+  candidates = k.question.candidates;
+  some = m.some;
+  many = m.many;
+  differ = λ i j d a b e.
+      let l : i < length m.some = omega arith in
+      (m.ordered i j d a b).1 (edges_same t _ _ (m.sound j d b).one (m.sound i d l).one (sym e));
+  sound = λ f c. (at_element (IsFirstOf t (length (graph_of t).edges)) m.some m.sound f c).one;
+}

@@ -1,4 +1,7 @@
-// All frozen dimensions by their codes: the least one, and again and again the one that comes next.
+// Frozen dimensions by their codes: the least one, and again and again the one that comes next.
+//
+// Those that are listed are told apart by so many first places of their codes: by all places it is all of them, and by
+// those of the edges the least one of each shape.
 ghost use Rattle.std.specs.Prelude.{◌≡◌, ◌+◌, ◌^◌, ◌<◌, ◌≤◌, ◌∷◌, ◌++◌, ℕ, All, IfErr, IfOk, [], false, length, map, slice_index, slice_index_or, true, vec_len};
 ghost use Rattle.olap_ast.specs.Frozen.{Frozen as TheFrozen, code};
 ghost use Rattle.olap_base.specs.Refusing.{IsFor as IsRefusalFor};
@@ -6,13 +9,11 @@ ghost use Rattle.olap_clauses.specs.Engines.{trail_of, variables_of};
 ghost use Rattle.olap_clauses.specs.Trails.{steps_of};
 ghost use Rattle.olap_frozen.specs.LeastFound.{frozen_of};
 ghost use Rattle.olap_frozen.specs.Leaves.{IsSized, IsZeroAtAll, chosen_of};
-ghost use Rattle.olap_names.specs.Names.{candidates_of};
 ghost use Rattle.olap_dimsat.specs.Asking.{IsFor, IsSuited, task_of};
-ghost use Rattle.olap_dimsat.specs.Following.{IsHanded, IsNext, IsRaised, IsZeroAt, NoneAfter, NoneMore};
-ghost use Rattle.olap_dimsat.specs.Listed.{AreAllFrozen, AreMoreThan};
+ghost use Rattle.olap_dimsat.specs.Following.{AreFirsts, AreMoreFirsts, IsHanded, IsNext, IsRaised, IsRisen, IsZeroAt, NoneBeyond, NoneMore};
 ghost use Rattle.olap_dimsat.specs.Pinned.{InRange, IsPinned, IsPlace, IsReady, NoneAt};
 ghost use Rattle.olap_dimsat.specs.Reads.{OfAgreeing};
-ghost use Rattle.olap_dimsat.specs.Tasks.{IsOne, IsTask, schema_of};
+ghost use Rattle.olap_dimsat.specs.Tasks.{IsOne, IsTask};
 
 use crate::asker::{Asker, Leaf};
 use crate::searching::TooMany;
@@ -168,9 +169,7 @@ fn step(
     requires best { IsFor (task_of a.now) best.old }
     requires one { IsOne (task_of a.now) (chosen_of best.old.edges best.old.names) }
     requires fits { p + 1 < 2 ^ 16 }
-    requires none { (q : ℕ) → p < q → IsPlace (task_of a.now) q
-        → NoneMore (task_of a.now) q (chosen_of best.old.edges best.old.names) }
-    ensures some { result ≡ true → IsNext (task_of a.now) (chosen_of best.old.edges best.old.names)
+    ensures some { result ≡ true → IsRisen (task_of a.now) p (chosen_of best.old.edges best.old.names)
         (chosen_of best.new.edges best.new.names) }
     ensures none { result ≡ false → NoneMore (task_of a.now) p (chosen_of best.old.edges best.old.names) }
     ensures stays { result ≡ false → best.new ≡ best.old }
@@ -195,13 +194,14 @@ fn step(
     true
 }
 
-// Goes to the next one. False: there is none.
+// Goes to the next one that differs at the first places. False: there is none.
 fn next(
     engine: &mut Engine,
     a: &Asker<'_>,
     leaf: &mut Leaf,
     best: &mut Frozen,
     zero: &[bool],
+    apart: u16,
 ) -> bool
     requires zero { (q : ℕ) → slice_index_or zero.now q false ≡ true → IsZeroAt (task_of a.now) q }
     requires count { (q : ℕ) → IsPlace (task_of a.now) q → q < length zero.now }
@@ -209,14 +209,16 @@ fn next(
     requires ready { IsReady (task_of a.now) engine.old }
     requires best { IsFor (task_of a.now) best.old }
     requires one { IsOne (task_of a.now) (chosen_of best.old.edges best.old.names) }
-    ensures some { result ≡ true → IsNext (task_of a.now) (chosen_of best.old.edges best.old.names)
+    requires places { (q : ℕ) → q < apart → IsPlace (task_of a.now) q }
+    ensures some { result ≡ true → IsNext (task_of a.now) apart (chosen_of best.old.edges best.old.names)
         (chosen_of best.new.edges best.new.names) }
-    ensures none { result ≡ false → NoneAfter (task_of a.now) (chosen_of best.old.edges best.old.names) }
+    ensures none { result ≡ false
+        → NoneBeyond (task_of a.now) apart (chosen_of best.old.edges best.old.names) }
     ensures best { IsFor (task_of a.now) best.new }
     ensures suited { IsSuited (task_of a.now) leaf.new (variables_of engine.new) }
     ensures ready { IsReady (task_of a.now) engine.new }
 {
-    let mut p = places(a);
+    let mut p = apart;
     'places: while p > 0 {
         p -= 1;
         if step(engine, a, leaf, best, zero, p) {
@@ -260,30 +262,29 @@ fn add(alloc: Global, a: &Asker<'_>, best: &Frozen, list: &mut Vec<Frozen>) -> R
     Ok(())
 }
 
-/// All frozen dimensions by their codes, where they are at most `limit`. It takes memory for the list, and for a note of
-/// each place.
+/// For each choice of so many first places the first frozen dimension with it, by their codes, where they are at most
+/// `limit`. It takes memory for the list, and for a note of each place.
 pub(crate) fn list(
     alloc: Global,
     engine: &mut Engine,
     a: &Asker<'_>,
     leaf: &mut Leaf,
     best: &mut Frozen,
+    apart: u16,
     limit: usize,
 ) -> Result<List<Frozen>, Refusal<TooMany>>
     requires suited { IsSuited (task_of a.now) leaf.old (variables_of engine.old) }
     requires ready { IsReady (task_of a.now) engine.old }
     requires best { IsFor (task_of a.now) best.old }
     requires empty { trail_of engine.old ≡ [] }
-    ensures all { IfOk result (λ list. AreAllFrozen (schema_of (task_of a.now)) (task_of a.now).question.formula
-        (task_of a.now).question.root (candidates_of (task_of a.now).question.candidates) (map frozen_of list)) }
+    requires places { (q : ℕ) → q < apart → IsPlace (task_of a.now) q }
+    ensures all { IfOk result (λ list. AreFirsts (task_of a.now) apart (map frozen_of list)) }
     ensures few { IfOk result (λ list. length list ≤ limit) }
     ensures roots { IfOk result (λ list. All (λ f. f.root.0 ≡ a.now.question.root.0) list) }
     ensures sized { IfOk result (λ list. All
         (λ f. IsSized a.now.question.graph.now a.now.question.candidates.now f.edges f.names) list) }
     ensures zero { IfOk result (λ list. All (λ f. IsZeroAtAll f.names) list) }
-    ensures too_many { IfErr result (IsRefusalFor (λ _. AreMoreThan limit (schema_of (task_of a.now))
-        (task_of a.now).question.formula (task_of a.now).question.root
-        (candidates_of (task_of a.now).question.candidates))) }
+    ensures too_many { IfErr result (IsRefusalFor (λ _. AreMoreFirsts (task_of a.now) apart limit)) }
     ensures best { IsFor (task_of a.now) best.new }
     ensures suited { IsSuited (task_of a.now) leaf.new (variables_of engine.new) }
     ensures ready { IsReady (task_of a.now) engine.new }
@@ -296,7 +297,7 @@ pub(crate) fn list(
             return Err(Refusal::Kind(TooMany));
         }
         add(alloc, a, best, &mut list)?;
-        more = next(engine, a, leaf, best, &zero);
+        more = next(engine, a, leaf, best, &zero, apart);
     }
     Ok(List::from_vec(list))
 }

@@ -9,6 +9,7 @@ ghost use Rattle.olap_base.specs.Limits.{most_constants};
 ghost use Rattle.olap_base.specs.Refusing.{IsFor};
 ghost use Rattle.olap_dimsat.specs.Listed.{AreAllFrozen, AreMoreThan};
 ghost use Rattle.olap_dimsat.specs.OneFound.{IsOneFound};
+ghost use Rattle.olap_dimsat.specs.Shapes.{AreMoreShapes, AreShapes};
 ghost use Rattle.olap_dimsat.specs.Searches.{IsMadeWith, IsSizedFor, candidates_in, found_in, named_in, root_of};
 ghost use Rattle.olap_frozen.specs.LeastFound.{HasNothing, IsLeastFound, frozen_of};
 ghost use Rattle.olap_frozen.specs.Leaves.{IsSized, IsZeroAtAll};
@@ -18,7 +19,7 @@ use crate::asker::{Asker, Leaf, blank, nothing};
 use crate::existing::exists;
 use crate::listing::list;
 use crate::posing::pose;
-use crate::settling::least;
+use crate::settling::{least, places};
 use olap_ast::Formula;
 use olap_base::{CatId, List, Memory, Refusal};
 use olap_clauses::Engine;
@@ -41,7 +42,7 @@ pub struct Search {
     alloc: Global,
 }
 
-/// Why there is no list of all frozen dimensions: there are more than it may have.
+/// Why there is no list of frozen dimensions: there are more than it may have.
 #[derive(Clone, Copy, PartialEq, Eq, Debug)]
 pub struct TooMany;
 
@@ -177,12 +178,54 @@ impl Search {
         ensures made { IsMadeWith (schema_of schema.now) (formula_of question.now) self.new }
     {
         let asker = Asker::of(schema, question, self.root, &self.candidates, &self.layout);
+        let apart = places(&asker);
         let listed = list(
             self.alloc,
             &mut self.engine,
             &asker,
             &mut self.leaf,
             &mut self.best,
+            apart,
+            limit,
+        );
+        self.engine.undo(0);
+        listed
+    }
+
+    /// For each set of edges that a frozen dimension has whose root makes the question true, the least one with these
+    /// edges, by their codes, where they are at most `limit`.
+    ///
+    /// `TooMany`: exactly where there are more. It takes memory as `all` does. What it goes through are sets of edges,
+    /// however many names each can have.
+    pub fn shapes(
+        &mut self,
+        schema: &Schema,
+        question: &Formula,
+        limit: usize,
+    ) -> Result<List<Frozen>, Refusal<TooMany>>
+        requires made { IsMadeWith (schema_of schema.now) (formula_of question.now) self.old }
+        ensures all { IfOk result (λ list. AreShapes (schema_of schema.now) (formula_of question.now)
+            (root_of self.old) (candidates_in self.old) (map frozen_of list)) }
+        ensures few { IfOk result (λ list. length list ≤ limit) }
+        ensures roots { IfOk result (λ list. All (λ f. f.root.0 ≡ root_of self.old) list) }
+        ensures sized { IfOk result (λ list. All
+            (λ f. IsSized (schema_of schema.now).graph (named_in self.old) f.edges f.names) list) }
+        ensures zero { IfOk result (λ list. All (λ f. IsZeroAtAll f.names) list) }
+        ensures too_many { IfErr result (IsFor (λ _. AreMoreShapes limit (schema_of schema.now)
+            (formula_of question.now) (root_of self.old) (candidates_in self.old))) }
+        ensures candidates { named_in self.new ≡ named_in self.old }
+        ensures root { root_of self.new ≡ root_of self.old }
+        ensures made { IsMadeWith (schema_of schema.now) (formula_of question.now) self.new }
+    {
+        let asker = Asker::of(schema, question, self.root, &self.candidates, &self.layout);
+        let edges = asker.question.graph.edges();
+        let listed = list(
+            self.alloc,
+            &mut self.engine,
+            &asker,
+            &mut self.leaf,
+            &mut self.best,
+            edges,
             limit,
         );
         self.engine.undo(0);

@@ -5,21 +5,18 @@ use Rattle.std.proofs.lemmas.List.{length-map}
 use Rattle.olap_clauses.specs.Engines.{variables_of}
 use Rattle.olap_frozen.specs.declared.frozen.Frozen as kept
 use Rattle.olap_frozen.specs.LeastFound.{frozen_of}
-use Rattle.olap_names.specs.Names.{candidates_of}
-use Rattle.olap_dimsat.specs.Listed.{AreAllFrozen}
-use Rattle.olap_dimsat.specs.Following.{IsZeroAt}
+use Rattle.olap_dimsat.specs.Following.{AreFirsts, IsZeroAt}
 use Rattle.olap_dimsat.specs.Pinned.{IsPlace}
-use Rattle.olap_dimsat.specs.Tasks.{schema_of}
 use Rattle.olap_dimsat.specs.Asking.{task_of}
-use Rattle.olap_dimsat.proofs.ListedLemmas.{HasAll, IsAhead, IsFront, ahead_more, all_frozen, front_more, has_all, more_than}
+use Rattle.olap_dimsat.proofs.ListedLemmas.{HasAll, IsAhead, IsFront, ahead_more, all_firsts, front_more, has_all, more_firsts}
 use Rattle.olap_dimsat.proofs.MadeLemmas.{suited_still}
 use Rattle.olap_dimsat.proofs.listing.list.Goals as goal
 
 pub returns-then-len-limit-clause-too_many : goal.returns-then-len-limit-clause-too_many
 returns-then-len-limit-clause-too_many c =
     let i = c.listed.invariant in
-    more_than (task_of c.args.a.now) (map frozen_of c.listed.list.items) (frozen_of c.listed.best) c.args.limit
-    c.requires.suited.task i.front (i.ahead c.listed-test.true)
+    more_firsts (task_of c.args.a.now) c.args.apart (map frozen_of c.listed.list.items) (frozen_of c.listed.best)
+    c.args.limit i.front (i.ahead c.listed-test.true)
     (let l = length-map c.listed.list.items frozen_of in
     let h = c.if-len-limit.true in let n = c.len.ensures in omega arith)
 
@@ -52,7 +49,7 @@ add-requires c =
     let i = c.listed.invariant in record {
       task = c.requires.suited.task;
       best = i.best;
-      one = (i.ahead c.listed-test.true).one;
+      one = (i.ahead c.listed-test.true).first.one;
       handed = i.handed;
     }
 
@@ -62,7 +59,8 @@ next-more-requires c =
       suited = i.suited;
       ready = i.ready;
       best = i.best;
-      one = (i.ahead c.listed-test.true).one;
+      one = (i.ahead c.listed-test.true).first.one;
+      places = c.requires.places;
       zero = subst (λ (notes : List Bool). (q : ℕ) → slice_index_or notes q false ≡ true
           → IsZeroAt (task_of c.args.a.now) q) (sym c.deref.ensures.value) c.in_ok-zero.ensures.zero;
       count = subst (λ (notes : List Bool). (q : ℕ) → IsPlace (task_of c.args.a.now) q → q < length notes)
@@ -80,11 +78,12 @@ listed-preserved c =
     let e = c.in_ok-add.ensures.listed in record {
       few = let n = c.in_ok-add.ensures.count in let h = c.if-len-limit.false in let l = c.len.ensures in omega arith;
       handed = c.in_ok-add.ensures.handed;
-      front = subst (λ (fs : List Frozen). IsFront t fs) (sym e) (front_more t old w i.front ahead);
-      ahead = λ q. subst (λ (fs : List Frozen). IsAhead t fs y) (sym e)
-          (ahead_more t old w y i.front ahead (c.next-more.ensures.some q));
-      whole = λ q. subst (λ (fs : List Frozen). HasAll t fs) (sym e)
-          (has_all t old w ahead (c.next-more.ensures.none q));
+      front = subst (λ (fs : List Frozen). IsFront t c.args.apart fs) (sym e)
+          (front_more t c.args.apart old w i.front ahead);
+      ahead = λ q. subst (λ (fs : List Frozen). IsAhead t c.args.apart fs y) (sym e)
+          (ahead_more t c.args.apart old w y i.front ahead (c.next-more.ensures.some q));
+      whole = λ q. subst (λ (fs : List Frozen). HasAll t c.args.apart fs) (sym e)
+          (has_all t c.args.apart old w ahead (c.next-more.ensures.none q));
       best = c.next-more.ensures.best;
       suited = c.next-more.ensures.suited;
       ready = c.next-more.ensures.ready;
@@ -94,12 +93,8 @@ pub returns-clause-all : goal.returns-clause-all
 returns-clause-all c =
     let t = task_of c.args.a.now in
     let i = c.listed.invariant in
-    subst (λ (list : List kept.Frozen). AreAllFrozen (schema_of t) t.question.formula t.question.root
-    (candidates_of t.question.candidates)
-    (map frozen_of list))
-    (sym c.from_vec.ensures)
-    (all_frozen t (map frozen_of c.listed.list.items) c.requires.suited.task i.front
-    (i.whole c.listed-test.false))
+    subst (λ (list : List kept.Frozen). AreFirsts t c.args.apart (map frozen_of list)) (sym c.from_vec.ensures)
+    (all_firsts t c.args.apart (map frozen_of c.listed.list.items) i.front (i.whole c.listed-test.false))
 
 pub returns-then-len-limit-clause-best : goal.returns-then-len-limit-clause-best
 returns-then-len-limit-clause-best c = c.listed.invariant.best

@@ -12,9 +12,9 @@ abbrev pub invariant-listed : goal.invariant-listed
 invariant-listed l = record {
   few : vec_len l.list ≤ l.limit;
   handed : All (IsHanded (task_of l.a)) l.list.items;
-  front : IsFront (task_of l.a) (map frozen_of l.list.items);
-  ahead : l.more ≡ true → IsAhead (task_of l.a) (map frozen_of l.list.items) (frozen_of l.best);
-  whole : l.more ≡ false → HasAll (task_of l.a) (map frozen_of l.list.items);
+  front : IsFront (task_of l.a) l.apart (map frozen_of l.list.items);
+  ahead : l.more ≡ true → IsAhead (task_of l.a) l.apart (map frozen_of l.list.items) (frozen_of l.best);
+  whole : l.more ≡ false → HasAll (task_of l.a) l.apart (map frozen_of l.list.items);
   best : IsFor (task_of l.a) l.best;
   suited : IsSuited (task_of l.a) l.leaf (variables_of l.engine);
   ready : IsReady (task_of l.a) l.engine;

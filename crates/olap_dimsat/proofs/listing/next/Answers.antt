@@ -2,16 +2,17 @@ use Rattle.std.proofs.Common.{◌-◌, refl, sym, subst, ◌∙◌, inl, inr, ar
 use Rattle.olap_frozen.specs.declared.frozen.Frozen.{Frozen}
 use Rattle.olap_frozen.specs.Leaves.{chosen_of}
 use Rattle.olap_dimsat.specs.Asking.{IsFor, task_of}
-use Rattle.olap_dimsat.specs.Following.{IsNext, NoneMore}
+use Rattle.olap_dimsat.specs.Following.{IsRisen, NoneMore}
 use Rattle.olap_dimsat.specs.Tasks.{IsOne}
-use Rattle.olap_dimsat.proofs.FollowingLemmas.{none_after}
+use Rattle.olap_dimsat.proofs.FollowingLemmas.{next_of, none_beyond}
 use Rattle.olap_dimsat.proofs.SettleLemmas.{at_or_below}
 use Rattle.olap_dimsat.proofs.listing.next.Goals as goal
 
 pub places-init : goal.places-init
 places-init c = record {
-  inside = λ q h. (c.places-p.ensures q).0 h;
-  none = λ q l h. let b = (c.places-p.ensures q).1 h in absurd (omega arith);
+  inside = c.requires.places;
+  none = λ q l h. absurd (omega arith);
+  few = omega arith;
   best = refl;
   suited = c.requires.suited;
   ready = c.requires.ready;
@@ -26,16 +27,11 @@ step-requires-clause-one c =
     subst (λ (f : Frozen). IsOne (task_of c.args.a.now) (chosen_of f.edges f.names)) (sym c.places.invariant.best)
     c.requires.one
 
-pub step-requires-clause-none : goal.step-requires-clause-none
-step-requires-clause-none c = λ q l h.
-    subst (λ (f : Frozen). NoneMore (task_of c.args.a.now) q (chosen_of f.edges f.names)) (sym c.places.invariant.best)
-    (c.places.invariant.none q (omega arith) h)
-
 pub returns-clause-none : goal.returns-clause-none
 returns-clause-none c = λ e.
     let old = c.args.best.now in
-    none_after (task_of c.args.a.now) (chosen_of old.edges old.names) c.requires.one
-    (λ q h. c.places.invariant.none q (let b = c.places-test.false in omega arith) h)
+    none_beyond (task_of c.args.a.now) c.args.apart (chosen_of old.edges old.names) c.requires.one
+    (λ q l h. c.places.invariant.none q (let b = c.places-test.false in omega arith) l h)
 
 pub step-requires-clause-suited : goal.step-requires-clause-suited
 step-requires-clause-suited c = c.places.invariant.suited
@@ -45,9 +41,16 @@ step-requires-clause-ready c = c.places.invariant.ready
 
 pub returns-then-step-clause-some : goal.returns-then-step-clause-some
 returns-then-step-clause-some c = λ _.
+    let t = task_of c.args.a.now in
+    let old = c.args.best.now in
     let new = c.step.new.best in
-    subst (λ (f : Frozen). IsNext (task_of c.args.a.now) (chosen_of f.edges f.names) (chosen_of new.edges new.names))
-    c.places.invariant.best (c.if-step.ensures.some refl)
+    let some = c.places-test.true in
+    let i = c.places.invariant in
+    let r = subst (λ (f : Frozen). IsRisen t (c.places.p - 1) (chosen_of f.edges f.names)
+    (chosen_of new.edges new.names)) i.best (c.if-step.ensures.some refl) in
+    next_of t c.args.apart (c.places.p - 1) (chosen_of old.edges old.names) (chosen_of new.edges new.names)
+    c.requires.one (let f = i.few in omega arith) (i.inside (c.places.p - 1) (omega arith)) r
+    (λ q l h place. i.none q (omega arith) h place)
 
 pub returns-then-step-clause-best : goal.returns-then-step-clause-best
 returns-then-step-clause-best c = c.step.ensures.best
@@ -66,11 +69,12 @@ places-preserved c =
     let s = c.if-step.ensures in
     let some = c.places-test.true in record {
       inside = λ q h. i.inside q (omega arith);
-      none = λ q l h. elim (at_or_below (c.places.p - 1) q (omega arith)) [
-        | inl b ↦ i.none q (omega arith) h
+      none = λ q l h place. elim (at_or_below (c.places.p - 1) q (omega arith)) [
+        | inl b ↦ i.none q (omega arith) h place
         | inr e ↦ subst (λ m. NoneMore t m (chosen_of old.edges old.names)) e
             (subst (λ (f : Frozen). NoneMore t (c.places.p - 1) (chosen_of f.edges f.names)) i.best (s.none refl))
       ];
+      few = let f = i.few in omega arith;
       best = s.stays refl ∙ i.best;
       suited = c.step.ensures.suited;
       ready = c.step.ensures.ready;

@@ -9,7 +9,8 @@ use Rattle.olap_dimsat.proofs.listing.next.Given as goal
 abbrev pub invariant-places : goal.invariant-places
 invariant-places l = record {
   inside : (q : ℕ) → q < l.p → IsPlace (task_of l.a) q;
-  none : (q : ℕ) → l.p ≤ q → IsPlace (task_of l.a) q
+  few : l.p ≤ l.apart;
+  none : (q : ℕ) → l.p ≤ q → q < l.apart → IsPlace (task_of l.a) q
       → NoneMore (task_of l.a) q (chosen_of l.fn.best.edges l.fn.best.names);
   best : l.best ≡ l.fn.best;
   suited : IsSuited (task_of l.a) l.leaf (variables_of l.engine);

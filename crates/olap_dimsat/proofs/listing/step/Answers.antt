@@ -3,7 +3,7 @@ use Rattle.std.specs.Prelude.{slice_index_or}
 use Rattle.olap_clauses.specs.Engines.{variables_of}
 use Rattle.olap_frozen.specs.Leaves.{chosen_of}
 use Rattle.olap_dimsat.specs.Asking.{task_of}
-use Rattle.olap_dimsat.proofs.FollowingLemmas.{next_of, none_full, none_zero}
+use Rattle.olap_dimsat.proofs.FollowingLemmas.{none_full, none_zero, risen}
 use Rattle.olap_dimsat.proofs.MadeLemmas.{suited_still}
 use Rattle.olap_dimsat.proofs.listing.step.Goals as goal
 
@@ -67,9 +67,9 @@ returns-clause-some c = λ e.
     let old = c.args.best.now in
     let mid = c.raise.new.best in
     let new = c.settle_from.new.best in
-    next_of (task_of c.args.a.now) c.args.p (chosen_of old.edges old.names) (chosen_of mid.edges mid.names)
-    (chosen_of new.edges new.names) c.requires.one c.settle_from.ensures.one c.requires.place
-    (c.if-not-raise.ensures.raised refl) c.settle_from.ensures.same c.settle_from.ensures.least c.requires.none
+    risen (task_of c.args.a.now) c.args.p (chosen_of old.edges old.names) (chosen_of mid.edges mid.names)
+    (chosen_of new.edges new.names) c.settle_from.ensures.one (c.if-not-raise.ensures.raised refl)
+    c.settle_from.ensures.same c.settle_from.ensures.least
 
 pub returns-then-number-most-clause-best : goal.returns-then-number-most-clause-best
 returns-then-number-most-clause-best c = c.requires.best

@@ -1,0 +1,73 @@
+-- What is asked is the search's task, and by the places of the edges the list is one of shapes.
+use Rattle.std.proofs.Common.{◌≡◌, List, refl, subst, map, arith}
+use Rattle.std.specs.Prelude.{All, IfErr, IfOk}
+use Rattle.std.proofs.lemmas.Result.{IfErr-weaker, IfOk-weaker}
+use Rattle.olap_ast.specs.Trees.{formula_of}
+use Rattle.olap_base.specs.Refusing.{IsFor}
+use Rattle.olap_frozen.specs.declared.frozen.Frozen.{Frozen}
+use Rattle.olap_frozen.specs.LeastFound.{frozen_of}
+use Rattle.olap_frozen.specs.Leaves.{IsSized}
+use Rattle.olap_names.specs.Names.{candidates_of}
+use Rattle.olap_schema.specs.Schemas.{schema_of}
+use Rattle.olap_dimsat.specs.Asking.{task_of}
+use Rattle.olap_dimsat.specs.Following.{AreFirsts, AreMoreFirsts}
+use Rattle.olap_dimsat.specs.Shapes.{AreMoreShapes, AreShapes}
+use Rattle.olap_dimsat.specs.Tasks.{Task, schema_of as schema_in, graph_of}
+use Rattle.olap_dimsat.proofs.ListedLemmas.{more_shapes, shapes, weaker_for}
+use Rattle.olap_dimsat.proofs.MadeLemmas.{keeps, made_still}
+use Rattle.olap_dimsat.proofs.searching.Search.shapes.Goals as goal
+
+pub list-listed-requires : goal.list-listed-requires
+list-listed-requires c =
+    let k = keeps (schema_of c.args.schema.now) (formula_of c.args.question.now) c.args.self.now
+    (task_of c.of-asker.result) c.of-asker.ensures c.requires.made in
+    record {
+      suited = k.suited;
+      ready = k.ready;
+      best = k.best;
+      empty = c.requires.made.empty;
+      places = λ q h. let e = c.edges-edges.ensures.count in omega arith;
+    }
+
+pub returns-clause-all : goal.returns-clause-all
+returns-clause-all c =
+    let u = task_of c.of-asker.result in
+    let k = keeps (schema_of c.args.schema.now) (formula_of c.args.question.now) c.args.self.now u c.of-asker.ensures
+    c.requires.made in
+    subst (λ (t : Task). IfOk c.list-listed.result (λ (list : List Frozen). AreShapes (schema_in t)
+    t.question.formula t.question.root
+    (candidates_of t.question.candidates) (map frozen_of list))) c.of-asker.ensures
+    (IfOk-weaker c.list-listed.result _ _ (λ list a. shapes u (map frozen_of list) k.suited.task
+    (subst (λ n. AreFirsts u n (map frozen_of list)) c.edges-edges.ensures.count a)) c.list-listed.ensures.all)
+
+pub returns-clause-roots : goal.returns-clause-roots
+returns-clause-roots c =
+    subst (λ (t : Task). IfOk c.list-listed.result (λ (list : List Frozen). All
+    (λ (f : Frozen). f.root.0 ≡ t.question.root) list))
+    c.of-asker.ensures c.list-listed.ensures.roots
+
+pub returns-clause-sized : goal.returns-clause-sized
+returns-clause-sized c =
+    subst (λ (t : Task). IfOk c.list-listed.result (λ (list : List Frozen). All
+    (λ (f : Frozen). IsSized (graph_of t) t.question.candidates f.edges f.names) list)) c.of-asker.ensures
+    c.list-listed.ensures.sized
+
+pub returns-clause-too_many : goal.returns-clause-too_many
+returns-clause-too_many c =
+    let u = task_of c.of-asker.result in
+    let k = keeps (schema_of c.args.schema.now) (formula_of c.args.question.now) c.args.self.now u c.of-asker.ensures
+    c.requires.made in
+    subst (λ (t : Task). IfErr c.list-listed.result (IsFor (λ _. AreMoreShapes c.args.limit (schema_in t)
+    t.question.formula t.question.root (candidates_of t.question.candidates))))
+    c.of-asker.ensures
+    (IfErr-weaker c.list-listed.result _ _ (λ e m. weaker_for _ _ e (λ _ n. more_shapes u c.args.limit
+    k.suited.task (subst (λ p. AreMoreFirsts u p c.args.limit) c.edges-edges.ensures.count n)) m)
+    c.list-listed.ensures.too_many)
+
+pub returns-clause-made : goal.returns-clause-made
+returns-clause-made c =
+    let l = c.list-listed.ensures in
+    let u = c.undo.ensures in
+    made_still (schema_of c.args.schema.now) (formula_of c.args.question.now) c.args.self.now _
+    (task_of c.of-asker.result) c.list-listed.new.engine c.of-asker.ensures refl c.requires.made l.suited l.ready l.best
+    u.variables (λ v h. u.admits v h) u.trail
