@@ -4,8 +4,8 @@
 
 Three blocks. With an instance, its members that reach the target by not exactly one source, grouped by their ways up; with facts,
 how many facts and which sums are lost, or counted more than once. Then the shortest lists of sources that contain these and are
-enough. Then, for each bottom category, the weakest constraint with which the answer is yes, and simple
-constraints that are enough too and leave each category its members, the weakest of them, and whether the instance meets each.
+enough. Then, for each bottom category, the weakest constraint with which the answer is yes (or that none leaves it a member), and
+simple constraints that are enough too and leave each category its members, the weakest of them, and whether the instance meets each.
 After a yes it says so. The status is 0, or the program's.
 """
 
@@ -13,7 +13,7 @@ from __future__ import annotations
 
 import argparse
 import time
-from collections import Counter, defaultdict
+from collections import defaultdict
 from typing import Iterator
 
 from pages import program, texts
@@ -21,7 +21,7 @@ from pages.enough import below
 from pages.program import Fault, Late
 
 from . import asking, simple
-from .asking import FACTS, INSTANCE, SCHEMA, Question
+from .asking import INSTANCE, SCHEMA, Data, Question
 
 SECONDS = 60
 MORE = 3  # sources that are added to a list
@@ -37,54 +37,26 @@ def parser() -> argparse.ArgumentParser:
 # ---- which members
 
 
-def ways_up(question: Question) -> dict[str, str]:
-    """Of each member the categories above it, but for `All`."""
-    members, found = asking.members_in(question.ask), {"all": frozenset()}
-    for start in members:
-        left = [start]
-        while left:
-            one = left[-1]
-            missing = [parent for parent in members[one].parents if parent not in found] if one not in found else []
-            if missing:
-                left += missing
-                continue
-            left.pop()
-            if one not in found:
-                parents = members[one].parents
-                found[one] = frozenset().union(*(found[each] | ({members[each].category} if each in members else set()) for each in parents))
-    order = question.schema.declared
-    return {one: " ".join(category for category in order if category in above) for one, above in found.items()}
-
-
 def broken(question: Question) -> list[list[str]]:
     """The records of `breaks`: a member, what it reaches, and by how many sources."""
     answer = question.ask.must("breaks", SCHEMA, INSTANCE, question.target, *question.sources, ends=(0, 1))
-    if answer.status == 0:
-        return []
-    (question.ask.folder / "breaks.csv").write_text(answer.text.partition("\n")[2], encoding="utf-8")
-    return asking.records(question.ask, "breaks.csv")
+    return asking.records(answer.text.partition("\n")[2]) if answer.status == 1 else []
 
 
-def members_block(question: Question) -> Iterator[str]:
+def members_block(question: Question, data: Data) -> Iterator[str]:
     rows = broken(question)
     if not rows:
         yield "members: on this instance the totals agree today"
         return
-    ups, members = ways_up(question), asking.members_in(question.ask)
-    counts, sums = Counter(), Counter()
-    if question.has_facts:
-        question.ask.must("rollup", SCHEMA, INSTANCE, FACTS, question.target)
-        for member, value in asking.records(question.ask, FACTS):
-            counts[member] += 1
-            sums[member] += int(value)
+    counts, sums = data.amounts
     groups = defaultdict(list)
     for member, target, ways in rows:
-        groups[int(ways), members[member].category, ups[member], target].append(member)
+        groups[int(ways), data.members[member].category, data.ups[member], target].append(member)
     yield f"members: {len(rows)} reach {question.target} by none of the sources, or by several"
     for (ways, category, up, target), some in sorted(groups.items(), key=lambda group: -len(group[1])):
         what = "lost" if ways == 0 else f"counted {ways} times"
         facts = ""
-        if question.has_facts:
+        if data.has_facts:
             facts = f": {sum(counts[each] for each in some)} facts, sum {sum(sums[each] for each in some)}"
         yield f"  {what} at {target}: {len(some)} of {category} by way of {up or 'nothing'}, as {some[0]}{facts}"
 
@@ -119,23 +91,23 @@ def lists_block(question: Question, end: float) -> Iterator[str]:
 
 
 def needs_block(question: Question, end: float) -> Iterator[str]:
-    """For each bottom category that may break the total, that it doesn't: the weakest constraints with which the answer is yes."""
+    """The weakest constraints with which the answer is yes, or which bottom categories they leave no member."""
     seconds = max(0.1, end - time.monotonic())
     answer = question.ask.must("needs", SCHEMA, question.target, *question.sources, ends=(0, 1, 3), seconds=seconds)
-    yield "needed: the weakest constraints with which the answer is yes:"
     if answer.status == 3:
-        yield "  the schema has no room for them"
-        return
-    if answer.status == 1:
-        yield from (f"  they would leave no {line.split()[1]}" for line in answer.text.splitlines()[1:])
-        return
-    for line in answer.text.splitlines():
-        yield f"  {line}{met(question, line[len('constraint ') :])}"
+        yield f"needed: {answer.text.strip()}"
+    elif answer.status == 1:
+        gone = ", ".join(line[len("unsatisfiable ") :] for line in answer.text.splitlines()[1:])
+        yield f"needed: no constraints make it a yes and leave a member of {gone}"
+    else:
+        yield "needed: the weakest constraints with which the answer is yes:"
+        for line in answer.text.splitlines():
+            yield f"  {line}{met(question, line[len('constraint ') :])}"
 
 
 def met(question: Question, constraint: str) -> str:
     """Whether the instance meets the constraint."""
-    if not question.has_instance:
+    if question.data is None:
         return ""
     answer = question.ask.must("check", question.changed(constraint), INSTANCE, ends=(0, 3))
     return "   (your instance meets it)" if answer.status == 0 else f"   ({answer.text.strip()[len('refused instance ') :]} in your instance)"
@@ -151,19 +123,23 @@ def simple_block(question: Question, end: float) -> Iterator[str]:
 # ---- all of it
 
 
+def blocks(question: Question, end: float) -> Iterator[str]:
+    """What is said first: of members, of lists, and of what is needed."""
+    if question.data is not None:
+        yield from members_block(question, question.data)
+    yield from lists_block(question, end)
+    yield from needs_block(question, end)
+
+
 def lines(question: Question, seconds: float) -> Iterator[str]:
     end = time.monotonic() + seconds
     answer = question.ask.must("summarizable", SCHEMA, question.target, *question.sources, ends=(0, 1))
-    if question.has_instance:
-        question.ask.must("check", SCHEMA, INSTANCE)
+    asking.must_be_taken(question)
     if answer.status == 0:
         yield "yes: nothing needs to be added"
         return
-    if question.has_instance:
-        yield from members_block(question)
     try:
-        yield from lists_block(question, end)
-        yield from needs_block(question, end)
+        yield from blocks(question, end)
         yield from simple_block(question, end)
     except Late:
         yield f"(not all was asked within {seconds:g} seconds: --seconds N)"

@@ -4,14 +4,59 @@ from __future__ import annotations
 
 import csv
 import io
-from dataclasses import dataclass, field
+from collections import Counter
+from dataclasses import dataclass
+from functools import cached_property
 from pathlib import Path
 
 from pages import questions, texts
 from pages.program import Fault, Program
 
 SCHEMA, INSTANCE, FACTS = questions.SCHEMA, "instance.csv", "facts.csv"
-CHANGED = "changed.txt"
+
+
+@dataclass
+class Data:
+    """An instance and, where there are such, facts: files that the program takes, each read once."""
+
+    ask: Program
+    schema: texts.Schema
+    has_facts: bool
+
+    @cached_property
+    def members(self) -> dict[str, texts.Member]:
+        """The members of the instance, by their ids."""
+        return members_in(self.ask)
+
+    @cached_property
+    def ups(self) -> dict[str, str]:
+        """Of each member the categories above it, but for `All`."""
+        found: dict[str, frozenset[str]] = {"all": frozenset()}
+        for start in self.members:
+            left = [start]
+            while left:
+                one = left[-1]
+                missing = [] if one in found else [parent for parent in self.members[one].parents if parent not in found]
+                left += missing
+                if not missing:
+                    left.pop()
+                    if one not in found:
+                        found[one] = frozenset().union(*(found[each] | self.category_of(each) for each in self.members[one].parents))
+        order = self.schema.declared
+        return {one: " ".join(category for category in order if category in above) for one, above in found.items()}
+
+    def category_of(self, id: str) -> set[str]:
+        return {self.members[id].category} if id in self.members else set()
+
+    @cached_property
+    def amounts(self) -> tuple[Counter, Counter]:
+        """How many facts each member has, and what they come to."""
+        counts: Counter = Counter()
+        sums: Counter = Counter()
+        for member, value in records((self.ask.folder / FACTS).read_bytes().decode("utf-8-sig")) if self.has_facts else ():
+            counts[member] += 1
+            sums[member] += int(value)
+        return counts, sums
 
 
 @dataclass
@@ -23,21 +68,15 @@ class Question:
     canonical: str
     target: str
     sources: tuple[str, ...]
-    files: list[str] = field(default_factory=list)
-
-    @property
-    def has_instance(self) -> bool:
-        return len(self.files) > 0
-
-    @property
-    def has_facts(self) -> bool:
-        return len(self.files) > 1
+    data: Data | None = None
+    number: int = 0  # of several questions, so that each has files of its own
 
     def changed(self, *constraints: str) -> str:
         """Puts down the schema with these constraints more, and gives the file's name."""
         lines = "".join(f"constraint {each}\n" for each in constraints)
-        (self.ask.folder / CHANGED).write_text(self.canonical + lines, encoding="utf-8")
-        return CHANGED
+        name = f"changed{self.number}.txt"
+        (self.ask.folder / name).write_text(self.canonical + lines, encoding="utf-8")
+        return name
 
     def formula(self, bottom: str) -> str:
         """That a member of the bottom category reaches the target by exactly one of the sources, if it reaches it."""
@@ -68,12 +107,20 @@ def question_in(ask: Program, words: list[str], most_files: int = 2) -> Question
         raise Fault(f"{files[most_files]}: no category of {words[0]}, and no further file is asked for", 2)
     for name, file, kind in zip((INSTANCE, FACTS), files, ("instance", "facts")):
         ask.put(name, file, kind)
-    return Question(ask, schema, text, words[at], tuple(words[at + 1 :]), files)
+    data = Data(ask, schema, len(files) > 1) if files else None
+    return Question(ask, schema, text, words[at], tuple(words[at + 1 :]), data)
 
 
-def records(ask: Program, name: str) -> list[list[str]]:
-    """The records of a CSV file that the program has read, without its header."""
-    text = (ask.folder / name).read_bytes().decode("utf-8-sig")
+def must_be_taken(question: Question) -> None:
+    """The program takes the instance, and the facts where there are such."""
+    if question.data is not None:
+        question.ask.must("check", SCHEMA, INSTANCE)
+        if question.data.has_facts:
+            question.ask.must("rollup", SCHEMA, INSTANCE, FACTS, question.target)
+
+
+def records(text: str) -> list[list[str]]:
+    """The records of a CSV text that the program has read or printed, without its header."""
     csv.field_size_limit(len(text) + 1)
     return [record for record in csv.reader(io.StringIO(text, newline="")) if record][1:]
 

@@ -10,34 +10,11 @@ from __future__ import annotations
 
 import argparse
 
-from pages import program
+from pages import program, sql
 from pages.program import Fault
 
 from . import asking
 from .asking import SCHEMA
-
-TAKEN = """create view v_{target} as
-with recursive up(member, above) as (
-    select id, id from member where category in ({names})
-    union
-    select up.member, lies_in.parent from up join lies_in on lies_in.child = up.above
-)
-select up.above as member, sum(v.count) as count, sum(v.sum) as sum, min(v.least) as least, max(v.greatest) as greatest
-from (
-{rows}
-) as v
-join up on up.member = v.member
-join member on member.id = up.above and member.category = '{target}'
-group by up.above;
-"""
-TAKEN_BY_ALL = """create view v_All as
-select 'all' as member, sum(v.count) as count, sum(v.sum) as sum, min(v.least) as least, max(v.greatest) as greatest
-from (
-{rows}
-) as v
-having count(*) > 0;
-"""
-
 
 def parser() -> argparse.ArgumentParser:
     words = argparse.ArgumentParser(prog="olap-tools sql", description="a target's view from views, as SQL", allow_abbrev=False)
@@ -45,12 +22,6 @@ def parser() -> argparse.ArgumentParser:
     words.add_argument("target", metavar="TARGET")
     words.add_argument("sources", nargs="+", metavar="SOURCE")
     return words
-
-
-def statement(target: str, sources: tuple[str, ...]) -> str:
-    rows = "\n    union all\n".join(f"    select member, count, sum, least, greatest from v_{source}" for source in sources)
-    names = ", ".join(f"'{source}'" for source in sources)
-    return (TAKEN_BY_ALL if target == "All" else TAKEN).format(target=target, names=names, rows=rows)
 
 
 def main(words: list[str]) -> None:
@@ -63,4 +34,4 @@ def main(words: list[str]) -> None:
         program.write_out(f"-- {named}: olap says no\n" + "".join(f"-- {line}\n" for line in answer.text.splitlines()))
         raise Fault(f"{named}: olap says no, so there is no such view", 1)
     remark = f"-- {named}: olap says yes, for every legal instance of the schema\n"
-    program.write_out(remark + statement(chosen.target, tuple(chosen.sources)))
+    program.write_out(remark + sql.statement(chosen.target, tuple(chosen.sources)))

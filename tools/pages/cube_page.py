@@ -6,7 +6,7 @@ import xml.etree.ElementTree as ET
 from typing import Callable, Iterator, Sequence
 
 from . import pictures
-from .cubes import MOST_TARGETS, Cube, Example
+from .cubes import MOST_TARGETS, Cube, Example, product_of
 from .enough import MOST, Enough
 from .markup import Markup, el, many, picture
 from .page import Page, listed, named, whole
@@ -24,7 +24,9 @@ def lists_of(found: Enough) -> Markup | str:
     items = [many(" or " if place else "", el("span", " + ".join(some), class_="list")) for place, some in enumerate(found.lists[:MOST_LISTS])]
     more = len(found.lists) - len(items)
     notes = [f"and {counted(more, 'more list')}"] if more else []
-    if not found.is_whole:
+    if not found.has_all:
+        notes.append(f"there may be more: of the tuples below it the {len(found.sources):,} nearest were looked at")
+    elif not found.is_whole:
         notes.append("there may be more: the search didn't end in the time of this page")
     elif not items:
         notes.append(f"no list of up to {MOST} other sources")
@@ -76,8 +78,8 @@ class CubePage:
         table = el("table", head, el("tbody", Markup("\n".join(rows))), class_="text")
         group = el("div", table, class_="scroll", tabindex="0", role="group", aria_label="What is enough for each target")
         notes = [f"Of {named(late, 'target', 'targets')} no list was found in the time of this page."] if late else []
-        more = len(cube.all_targets) - len(cube.targets)
-        notes += [f"{counted(more, 'more target')} beyond the first {MOST_TARGETS} weren't asked."] if more else []
+        more = product_of(cube.parts) - len(cube.targets)
+        notes += [f"{counted(more, 'more target')} beyond the {MOST_TARGETS} nearest to the top weren't asked."] if more else []
         return many(intro, group if rows else "", [el("p", note) for note in notes])
 
     def figure(self, key: tuple[str, int, int], caption: str) -> Markup:

@@ -7,15 +7,17 @@ from __future__ import annotations
 
 import time
 from dataclasses import dataclass, field
-from itertools import product
-from typing import Sequence
+from functools import cached_property, lru_cache
+from itertools import islice, product
+from typing import Iterator, Sequence
 
 from . import texts
-from .enough import Enough, below
+from .enough import Enough, below, children_in
 from .program import Fault, Program
 from .questions import Asker, Progress, workers
 
 MOST_TARGETS = 48
+MOST_BELOW = 4096  # tuples below a target that are looked at
 MOST_SOURCES = 8
 
 
@@ -26,10 +28,11 @@ class Example:
     ways: tuple[texts.Counterexample, ...]
     lines: tuple[str, ...]
     views: int | None
+    seen: tuple[frozenset[str], ...]  # of each dimension the categories by which the fact comes to the target
 
     def sees(self, source: str) -> bool:
         """Does the fact come to the target by this source, in each dimension?"""
-        return all(way.sees(each) for way, each in zip(self.ways, source.split(",")))
+        return all(each in seen for seen, each in zip(self.seen, source.split(",")))
 
 
 @dataclass
@@ -42,15 +45,18 @@ class Cube:
     enough: dict[str, Enough] = field(default_factory=dict)
     answers: dict[tuple[str, tuple[str, ...]], Example | None] = field(default_factory=dict)
 
-    @property
-    def all_targets(self) -> list[str]:
-        """The tuples of categories that others lie below."""
-        return joined([[each for each in schema.categories if below(schema, each)] for schema in self.schemas])
+    @cached_property
+    def parts(self) -> list[list[str]]:
+        """Of each dimension the categories that others lie below."""
+        return [[each for each in schema.categories if below(schema, each)] for schema in self.schemas]
 
-    @property
+    @cached_property
     def targets(self) -> list[str]:
-        """Those that are asked about."""
-        return self.all_targets[:MOST_TARGETS]
+        """The tuples of them that are asked about: all, or of many those nearest to the top."""
+        if product_of(self.parts) <= MOST_TARGETS:
+            return joined(self.parts)
+        from_top = [by_distance(schema, texts.ALL, part) for schema, part in zip(self.schemas, self.parts)]
+        return list(islice(nearest(from_top), MOST_TARGETS))
 
     def shown(self) -> list[tuple[str, tuple[str, ...], Example]]:
         """Of each target the no that has the most sources, and not the same one twice."""
@@ -65,16 +71,59 @@ def joined(parts: Sequence[Sequence[str]]) -> list[str]:
     return [",".join(each) for each in product(*parts)]
 
 
-def below_tuple(schemas: Sequence[texts.Schema], target: str) -> tuple[str, ...]:
-    """The tuples below the target: in each dimension the target's category, or one below it."""
-    parts = [(*below(schema, each), each) for schema, each in zip(schemas, target.split(","))]
-    return tuple(each for each in joined(parts) if each != target)
+def product_of(parts: Sequence[Sequence[str]]) -> int:
+    """How many tuples of the parts there are."""
+    many = 1
+    for part in parts:
+        many *= len(part)
+    return many
+
+
+def by_distance(schema: texts.Schema, top: str, categories: Sequence[str]) -> list[str]:
+    """The categories by how many edges they lie below the top."""
+    steps = steps_below(schema.edges, top)
+    return sorted(categories, key=lambda each: steps.get(each, 0))
+
+
+@lru_cache(maxsize=2048)
+def steps_below(edges: tuple[tuple[str, str], ...], top: str) -> dict[str, int]:
+    children, steps, level = children_in(edges), {top: 0}, [top]
+    while level:
+        level = [child for child in dict.fromkeys(each for one in level for each in children.get(one, ())) if child not in steps]
+        steps.update(dict.fromkeys(level, len(steps)))
+    return steps
+
+
+def nearest(parts: Sequence[Sequence[str]]) -> Iterator[str]:
+    """The tuples of the parts, those first whose places in them come to the least. They are many, so none is made before it is asked for."""
+
+    def adding_up(left: Sequence[Sequence[str]], total: int) -> Iterator[tuple[str, ...]]:
+        if not left:
+            yield from [()] if total == 0 else []
+            return
+        least = total - sum(len(part) - 1 for part in left[1:])
+        for place in range(max(0, least), min(len(left[0]) - 1, total) + 1):
+            for others in adding_up(left[1:], total - place):
+                yield (left[0][place], *others)
+
+    for total in range(sum(len(part) - 1 for part in parts) + 1):
+        yield from (",".join(each) for each in adding_up(parts, total))
+
+
+def below_tuple(schemas: Sequence[texts.Schema], target: str) -> tuple[tuple[str, ...], bool]:
+    """The tuples below the target, in each dimension the target's category or one below it; and whether these are all. Of many, the nearest."""
+    tops = target.split(",")
+    parts = [(*below(schema, each), each) for schema, each in zip(schemas, tops)]
+    if product_of(parts) <= MOST_BELOW:
+        return tuple(each for each in joined(parts) if each != target), True
+    near = [by_distance(schema, each, part) for schema, each, part in zip(schemas, tops, parts)]
+    return tuple(islice((each for each in nearest(near) if each != target), MOST_BELOW)), False
 
 
 def next_lower(schemas: Sequence[texts.Schema], target: str) -> tuple[str, ...]:
     """The tuples of what lies directly below the target in each dimension, or of the target's category itself if nothing does."""
     parts = [[child for child, parent in schema.edges if parent == each] or [each] for schema, each in zip(schemas, target.split(","))]
-    return tuple(joined(parts)[:MOST_SOURCES])
+    return tuple(islice((",".join(each) for each in product(*parts)), MOST_SOURCES))
 
 
 def example_of(text: str, schemas: Sequence[texts.Schema]) -> Example:
@@ -92,7 +141,8 @@ def example_of(text: str, schemas: Sequence[texts.Schema]) -> Example:
         frozen, members = texts.shown_by_no("no\n" + "".join(line + "\n" for line in lines[start + 1 : end]), schema)
         ways.append(texts.Counterexample(frozen, members, root, aim, None))
     kept = [line for start in marks for line in lines[start : start + 2]]
-    return Example(tuple(ways), (*kept, *lines[-4:-1]), None if views == "none" else int(views))
+    seen = [frozenset(each for each in schema.categories if way.sees(each)) for schema, way in zip(schemas, ways)]
+    return Example(tuple(ways), (*kept, *lines[-4:-1]), None if views == "none" else int(views), tuple(seen))
 
 
 def cube_of(program: Program, progress: Progress, files: Sequence[str], names: Sequence[str], seconds: float) -> Cube:
@@ -116,7 +166,8 @@ def cube_of(program: Program, progress: Progress, files: Sequence[str], names: S
             cube.answers[key] = example
         return cube.answers[key]
 
-    searches = {target: Enough(below_tuple(schemas, target), target, shown) for target in cube.targets}
+    lower = {target: below_tuple(schemas, target) for target in cube.targets}
+    searches = {target: Enough(sources, target, shown, has_all=are_all) for target, (sources, are_all) in lower.items()}
     for _ in range(2):
         unfinished = [target for target in cube.targets if not searches[target].is_whole]
         share = (began + 0.8 * seconds - time.monotonic()) * workers() / max(1, len(unfinished))

@@ -7,6 +7,7 @@ each no rules out many lists that need not be asked, and each list that is given
 from __future__ import annotations
 
 import time
+from functools import lru_cache
 from typing import Callable, Optional, Protocol, Tuple
 
 from .program import Late
@@ -27,18 +28,29 @@ Ask = Callable[[str, Tuple[str, ...]], Optional[Example]]
 
 def below(schema: Schema, target: str) -> tuple[str, ...]:
     """The categories below the target, in declaration order. No other source has anything for it."""
-    found, new = set(), {target}
+    children = children_in(schema.edges)
+    found, new = {target}, [target]
     while new:
-        new = {child for child, parent in schema.edges if parent in new} - found
-        found |= new
+        new = [child for child in dict.fromkeys(each for one in new for each in children.get(one, ())) if child not in found]
+        found.update(new)
     return tuple(category for category in schema.categories if category in found and category != target)
+
+
+@lru_cache(maxsize=8)
+def children_in(edges: tuple[tuple[str, str], ...]) -> dict[str, list[str]]:
+    children: dict[str, list[str]] = {}
+    for child, parent in edges:
+        children.setdefault(parent, []).append(child)
+    return children
 
 
 class Enough:
     """The search for one target, in lists of these sources. `lists` are those found so far, the shortest first; `is_whole` says whether they are all."""
 
-    def __init__(self, sources: tuple[str, ...], target: str, ask: Ask, most: int = MOST):
+    def __init__(self, sources: tuple[str, ...], target: str, ask: Ask, most: int = MOST, has_all: bool = True):
         self.sources, self.target, self.ask, self.most = sources, target, ask, most
+        self.has_all = has_all  # are these all the sources there are?
+        self.places = {source: place for place, source in enumerate(sources)}
         self.examples: list[frozenset[str]] = []  # of each no, the sources that have its fact
         self.lists: list[tuple[str, ...]] = []
         self.is_whole = False
@@ -49,7 +61,7 @@ class Enough:
         try:
             for size in range(self.most + 1):
                 self.grow(frozenset(), size, set(), end)
-            self.is_whole = True
+            self.is_whole = self.has_all
         except Late:
             pass
         self.lists.sort(key=len)
@@ -68,7 +80,7 @@ class Enough:
         if missed is None:
             missed = self.asked_about(some)
         if missed is not None and not some & missed and len(some) < size:
-            for source in sorted(missed, key=self.sources.index):
+            for source in sorted(missed, key=self.places.__getitem__):
                 self.grow(some | {source}, size, seen, end)
 
     def asked_about(self, some: frozenset[str]) -> frozenset[str] | None:
@@ -82,4 +94,4 @@ class Enough:
         return self.examples[-1]
 
     def named(self, some: frozenset[str]) -> tuple[str, ...]:
-        return tuple(source for source in self.sources if source in some)
+        return tuple(sorted(some, key=self.places.__getitem__))

@@ -5,9 +5,10 @@ from __future__ import annotations
 import xml.etree.ElementTree as ET
 from collections import defaultdict
 from dataclasses import dataclass, field
+from functools import cached_property
 from typing import Callable, Iterator, Sequence
 
-from . import pictures, texts
+from . import pictures, sql, texts
 from .enough import MOST, Enough
 from .markup import Markup, el, many, picture
 from .pictures import counted
@@ -19,6 +20,7 @@ MOST_DRAWN, MOST_DRAWN_LARGE, LARGE = 6, 1, 20  # pictures of a category's ways;
 MOST_OPEN = 6  # counterexamples that aren't folded
 MOST_ENOUGH = 8  # lists of a target that stand in the first table
 MOST_REASONS = 60  # lines of a certificate
+MOST_SQL = 200  # lists of the first table of which the SQL stands there
 MOST_NAMED = 12  # categories of which nothing is known that are told by name
 
 STYLE = """
@@ -36,6 +38,7 @@ a { color: var(--link); } a:focus-visible, summary:focus-visible, [tabindex]:foc
 :target { outline: 3px solid var(--link); outline-offset: 2px; } details > p:target { scroll-margin-top: 3.5rem; }
 .skip { position: absolute; left: -100rem; } .skip:focus { left: 1rem; top: .5rem; background: var(--page); padding: .5rem 1rem;
   z-index: 2; }
+.printed { display: none; }
 .hidden { position: absolute; width: 1px; height: 1px; overflow: hidden; clip-path: inset(50%); white-space: nowrap; }
 code, pre, .lines { font-family: ui-monospace, "DejaVu Sans Mono", Menlo, Consolas, monospace; font-size: .875rem; unicode-bidi: isolate; }
 pre { white-space: pre-wrap; background: var(--band); padding: .5rem .75rem; margin: .5rem 0; }
@@ -52,6 +55,7 @@ th, td { border: 0 solid var(--rule); border-width: 0 1px 1px 0; padding: .3rem 
 thead th { border-top-width: 1px; } tr > :first-child { border-left-width: 1px; }
 th { background: var(--band); font-weight: 600; max-width: 11rem; overflow-wrap: break-word; min-width: 3.5rem; }
 tbody th { position: sticky; left: 0; min-width: 6rem; } thead th:first-child { position: sticky; left: 0; z-index: 1; }
+td details { margin: .3rem 0; font-weight: 400; white-space: normal; } td summary { padding: .2rem 0; }
 td { white-space: nowrap; } td.yes { color: var(--yes); font-weight: 600; } td a { display: inline-block;
   padding: .1rem .2rem; margin: -.1rem -.2rem; } td.no a { color: var(--no); } td.yes a { color: var(--yes); }
 td.other { background: var(--none); color: var(--soft); } table.text td { white-space: normal; }
@@ -73,9 +77,8 @@ footer { border-top: 1px solid var(--rule); margin-top: 2.5rem; padding-top: .75
   figure, .scroll, details { break-inside: avoid; } .scroll:has(table) { break-inside: auto; } tr { break-inside: avoid; }
   h2, h3, h3 + p, summary, caption { break-after: avoid; } thead { display: table-header-group; }
   tbody th, thead th:first-child { position: static; } th, td { padding: .15rem .3rem; } th { min-width: 0; } tbody th { min-width: 4rem; }
-  .scroll > svg { min-width: 0 !important; max-height: 240mm; } .group svg { max-height: 60mm; } .row svg { max-height: 80mm; }
-  .group { columns: 3; column-gap: 4mm; font-size: 9pt; } .group details { margin: 0 0 3mm; padding: 0 2mm; }
-  details::details-content { content-visibility: visible; }
+  .scroll > svg { min-width: 0 !important; max-height: 240mm; }
+  #counterexamples, #certificates, #frozen, #text { display: none; } .printed { display: block; }
 }
 """
 
@@ -181,7 +184,9 @@ def whole(title: str, summary: Markup, sections: Sequence[tuple[str, str, Markup
         el("a", "To the content", class_="skip", href="#content"),
         el("header", el("h1", title), summary, el("nav", el("ul", links), aria_label="Sections")),
         el("main", [section(*each) for each in sections], id="content", tabindex="-1"),
-        el("footer", el("p", "Each answer on this page is one that the program olap gave. The program is proved; the page and its "
+        el("footer", el("p", "Printed are the first sections alone; counterexamples, certificates and what lies below are on the page.",
+                        class_="printed"),
+           el("p", "Each answer on this page is one that the program olap gave. The program is proved; the page and its "
                              "pictures are not.")),
     )
     return "<!doctype html>\n" + el("html", head, body, lang="en") + "\n"
@@ -269,7 +274,7 @@ class Page:
         facts = self.facts
         intro = el("p", "The totals by a target can be taken from the views of any one of its lists, for all facts, on every instance that "
                         "the schema allows; whether yours is one, ", el("code", "olap check"), " says. These are the least lists of up "
-                        f"to {MOST} sources: leave one out of a list, and facts may be lost.")
+                        f"to {MOST} sources: leave one out of a list, and facts may be lost. ", self.about_sql())
         head = el("thead", el("tr", el("th", "totals by", scope="col"), el("th", "can be taken from", scope="col")))
         known = {target: found for target, found in facts.enough.items() if found.lists or found.is_whole}
         late = [target for target in facts.targets if target not in known]
@@ -292,7 +297,26 @@ class Page:
             notes.append("there may be more: the search didn't end in the time of this page")
         elif not items:
             notes.append(f"no list of up to {MOST} other sources")
-        return many([many(" or " if i else "", item) for i, item in enumerate(items)], [el("small", f" ({note})") for note in notes])
+        return many([many(" or " if i else "", item) for i, item in enumerate(items)], [el("small", f" ({note})") for note in notes],
+                    self.statements(found))
+
+    @cached_property
+    def has_sql(self) -> bool:
+        """Are there so few lists that the SQL of each stands on the page?"""
+        return 0 < len(self.facts.enough_lists) <= MOST_SQL
+
+    def about_sql(self) -> Markup:
+        if not self.has_sql:
+            return many(el("code", "olap-tools sql SCHEMA TARGET SOURCE.."), " writes the SQL for a list.")
+        return many("The SQL is for SQLite and PostgreSQL, over ", el("code", "member(id, category)"), ", ", el("code", "lies_in(child, parent)"),
+                    " and a view ", el("code", "v_SOURCE(member, count, sum, least, greatest)"), " of each source.")
+
+    def statements(self, found: Enough) -> Markup | str:
+        """The SQL of each list that stands above it."""
+        if not self.has_sql or not found.lists or found.lists == [()]:
+            return ""
+        texts_of = [f"-- {found.target} from {' '.join(some)}\n{sql.statement(found.target, some)}" for some in found.lists[:MOST_ENOUGH]]
+        return el("details", el("summary", "SQL"), [el("pre", text) for text in texts_of])
 
     def figure(self, key: tuple, caption: object, label: str) -> Markup:
         if key not in self.drawn:
@@ -404,21 +428,26 @@ class Page:
         questions = facts.asked(facts.singles + facts.pairs)
         asked, late = len(questions), sum(1 for question in questions if question not in facts.answers)
         notes = [el("p", el("strong", f"{counted(late, 'question')} of {asked:,} had no answer in the time of this page."), " They say ",
-                    el("em", "no answer"), "; ask the program itself.")] if late else []
-        pairs = el("details", el("summary", "Pairs of sources"), self.table_group("", facts.pairs)) if facts.asks_pairs else many(
-            el("h3", "Pairs of sources"),
-            el("p", f"Pairs weren't asked, for this schema has {counted(len(facts.schema.categories), 'category', 'categories')}: ",
-               el("code", "olap summarizable SCHEMA TARGET SOURCE SOURCE"), " asks for one."),
-        )
-        return many(intro, notes, self.table_group("Single sources", facts.singles), pairs)
+                    el("em", "no answer"), ", or their row isn't there; ask the program itself.")] if late else []
+        return many(intro, notes, self.table_group("Single sources", facts.singles), self.pairs())
+
+    def pairs(self) -> Markup:
+        """The table of pairs, or why there is none."""
+        facts, asks = self.facts, el("code", "olap summarizable SCHEMA TARGET SOURCE SOURCE")
+        if facts.asks_pairs and any(question in facts.answers for question in facts.asked(facts.pairs)):
+            return el("details", el("summary", "Pairs of sources"), self.table_group("", facts.pairs))
+        why = "No pair had an answer in the time of this page: " if facts.asks_pairs else (
+            f"Pairs weren't asked, for this schema has {counted(len(facts.schema.categories), 'category', 'categories')}: ")
+        return many(el("h3", "Pairs of sources"), el("p", why, asks, " asks for one."))
 
     def table_group(self, name: str, lists: list[tuple[str, ...]]) -> Markup:
-        targets = self.facts.targets
+        """Tables of some targets each, without rows in which nothing was answered."""
+        targets, answers = self.facts.targets, self.facts.answers
         columns = [targets[i : i + COLUMNS] for i in range(0, len(targets), COLUMNS)]
         asked = set(self.facts.asked(lists))
         tables = []
         for some in columns:
-            rows = [sources for sources in lists if any((target, sources) in asked for target in some)]
+            rows = [sources for sources in lists if any((target, sources) in asked and (target, sources) in answers for target in some)]
             tables += [self.table(name or "Pairs of sources", rows, some, asked)] if rows else []
         return many(el("h3", name) if name else "", tables)
 
@@ -451,7 +480,8 @@ class Page:
         folded = len(self.shown) > MOST_OPEN
         intro = el("p", f"{counted(len(self.shown), 'counterexample')}; each is the least legal instance that shows its no, with one fact. "
                         "The target is red, with what it gets instead of 1. Blue lines are the fact's ways up to it, and a red arrow is a "
-                        "source that adds the fact to it; a source in a dashed box doesn't have the fact." +
+                        "source that adds the fact to it; a source in a dashed box doesn't have the fact. Below it stands which sources "
+                        "to add and which constraints would make it a yes, as ", el("code", "olap-tools after-no"), " says it." +
                         (" Open one to see its picture." if folded else ""))
         groups = [many(el("h3", f"Target {target}"), self.counterexamples_of(some, folded)) for target, some in by_target.items()]
         return many(intro, groups)
@@ -477,15 +507,24 @@ class Page:
             self.lines_pre(said),
             self.figure(("no", shown.number), f"{listed(shown.drawn_for)}: direct 1, from the views {views_of(example)}.",
                         f"Counterexample {shown.number}"),
+            self.after_no(shown),
             el("p", el("a", "Back to the tables", href="#table"), class_="back"),
             open=None if folded else "open",
         )
+
+    def after_no(self, shown: Shown) -> Markup:
+        """What to do, as far as it came in the time of this page."""
+        words = el("code", " ".join(["olap-tools after-no SCHEMA [INSTANCE [FACTS]]", shown.example.target, *shown.drawn_for]))
+        said = self.facts.after.get((shown.example.target, shown.drawn_for))
+        if said is None:
+            return el("p", "What to do after this no, ", words, " says.")
+        return many(el("p", f"After the no of {listed(shown.drawn_for)}:"), self.lines_pre(said))
 
     def certificates(self) -> Markup:
         known = self.facts.certificates
         late = len(self.facts.yes) - len(known)
         words = el("code", "olap prove-short SCHEMA TARGET SOURCE..")
-        told = el("p", f"Of {counted(late, 'yes', 'yeses')} none came in the time of this page: ", words, " writes one.") if late else ""
+        told = el("p", f"Of {counted(late, 'yes', 'yeses')} none stands here: ", words, " writes one.") if late else ""
         if not known:
             return told or el("p", "None: no answer was yes.")
         intro = el("p", "Why each yes is right, line by line: in each, a case is split by what may be, or closed for a reason. ",

@@ -7,9 +7,9 @@ Of what Graphviz gives, only shapes and texts are taken (`cleaned`), with no col
 
 from __future__ import annotations
 
-import subprocess
 import shutil
 import subprocess
+import sys
 import textwrap
 import unicodedata
 import xml.etree.ElementTree as ET
@@ -360,6 +360,14 @@ def must_be_there() -> None:
     """Tells before the work that there is no Graphviz."""
     if shutil.which("dot") is None:
         raise Fault(NO_GRAPHVIZ, 70)
+
+
+def are_there() -> bool:
+    """Is there Graphviz? If not, a line says before the work that there will be no pictures."""
+    if shutil.which("dot") is None:
+        print(f"report: {NO_GRAPHVIZ}: the page will have no pictures", file=sys.stderr)
+        return False
+    return True
 
 
 def graphviz(text: str, seconds: float | None) -> str:

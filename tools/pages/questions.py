@@ -11,6 +11,7 @@ import sys
 import time
 from concurrent.futures import Future, ThreadPoolExecutor
 from dataclasses import dataclass, field
+from functools import cached_property
 from itertools import combinations
 from typing import Callable, Iterable, TypeVar
 
@@ -20,6 +21,7 @@ from .program import Fault, Late, Program, stop_all
 
 SCHEMA = "schema.txt"
 TOO_MANY = "refused frozen TooMany"
+MOST_CERTIFICATES = 500  # of a page
 WITHOUT_PAIRS = 0.94  # of the time with pairs, what is left for the rest without them
 Key = TypeVar("Key")
 Value = TypeVar("Value")
@@ -47,12 +49,18 @@ class Facts:
     enough: dict[str, Enough] = field(default_factory=dict)
     answers: dict[tuple[str, tuple[str, ...]], texts.Counterexample | None] = field(default_factory=dict)
     certificates: dict[tuple[str, tuple[str, ...]], str] = field(default_factory=dict)  # of yes's, in the short form
+    after: dict[tuple[str, tuple[str, ...]], list[str]] = field(default_factory=dict)  # of no's, what after-no says
     asks_pairs: bool = True
+
+    @cached_property
+    def lower(self) -> dict[str, frozenset[str]]:
+        """Of each category that others lie below these others: of the rest nobody asks."""
+        found = {target: frozenset(below(self.schema, target)) for target in self.schema.categories}
+        return {target: others for target, others in found.items() if others}
 
     @property
     def targets(self) -> list[str]:
-        """The categories that others lie below: of the others nobody asks."""
-        return [target for target in self.schema.categories if below(self.schema, target)]
+        return list(self.lower)
 
     @property
     def singles(self) -> list[tuple[str, ...]]:
@@ -64,8 +72,7 @@ class Facts:
 
     def asked(self, lists: list[tuple[str, ...]]) -> list[tuple[str, tuple[str, ...]]]:
         """The questions of these lists: those whose sources all lie below the target."""
-        lower = {target: set(below(self.schema, target)) for target in self.targets}
-        return [(target, sources) for sources in lists for target in lower if lower[target].issuperset(sources)]
+        return [(target, sources) for sources in lists for target, others in self.lower.items() if others.issuperset(sources)]
 
     @property
     def enough_lists(self) -> list[tuple[str, tuple[str, ...]]]:
@@ -251,8 +258,9 @@ def facts_of(program: Program, progress: Progress, most_for_pairs: int, seconds:
         facts.ways[category] = Ways(known, leasts.get(category), category in lists and known is None)
     if len(facts.barren) < len(schema.bottoms):
         facts.answers.update(asker.all("pairs of sources", facts.asked(facts.pairs), remembered(facts, summarizable), until(0.95)))
-        certificates = asker.all("certificates", facts.yes, certificate, until(1))
-        facts.certificates = {question: certificates[question] for question in facts.yes if question in certificates}
+        wanted = facts.yes[:MOST_CERTIFICATES]
+        certificates = asker.all("certificates", wanted, certificate, until(1))
+        facts.certificates = {question: certificates[question] for question in wanted if question in certificates}
     return facts
 
 

@@ -114,6 +114,10 @@ def refusals(room: Path) -> Iterator[str]:
         (5, "draw", "schema", LOCATION, "-o", "no/such/file"),
         (5, "draw", "schema", LOCATION, "-o", str(room)),
         (4, "report", "no\nsuch", *to_kept),
+        (4, "report", LOCATION, "--instance", "no\nsuch", *to_kept),
+        (3, "report", LOCATION, "--instance", "faulty.txt", *to_kept),
+        (2, "report", LOCATION, "--facts", "faulty.txt", *to_kept),
+        (2, "report", LOCATION, LOCATION, "--instance", "faulty.txt", *to_kept),
         (4, "report", LOCATION, "no\nsuch", *to_kept),
         (3, "report", LOCATION, "faulty.txt", *to_kept),
         (2, "report", *[LOCATION] * 5, *to_kept),
@@ -128,10 +132,12 @@ def refusals(room: Path) -> Iterator[str]:
         yield from one_line(f"{name} {' '.join(words)!r}", tool(name, *words, folder=room), status)
     for name, words in (("draw", ("schema", LOCATION)), ("report", (LOCATION,)), ("install", ("p",))):
         yield from one_line(f"{name} with no program", tool(name, *words, folder=room, OLAP=str(room / "none")), 70)
-    for words in (("draw", "schema", LOCATION, *to_kept), ("report", str(EXAMPLES / "chain" / "schema.txt"), *to_kept)):
-        path = room / "path"
-        path.mkdir(exist_ok=True)
-        yield from one_line(f"{words[0]} without Graphviz", tool(*words, folder=room, PATH=str(path), OLAP=str(find())), 70)
+    (room / "path").mkdir()
+    without = {"folder": room, "PATH": str(room / "path"), "OLAP": str(find())}
+    yield from one_line("draw without Graphviz", tool("draw", "schema", LOCATION, *to_kept, **without), 70)
+    done = tool("report", str(EXAMPLES / "chain" / "schema.txt"), **without)
+    if done.returncode != 0 or len(done.stderr.splitlines()) != 1 or "<svg" in done.stdout or not done.stdout.endswith("</html>\n"):
+        yield f"report without Graphviz: status {done.returncode}, {done.stderr!r}"
     shutil.rmtree(room / "path")
     if kept.read_text() != "kept\n" or sorted(os.listdir(room)) != ["faulty.txt", "kept"]:
         yield f"files are left or changed: {os.listdir(room)}"

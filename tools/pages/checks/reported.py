@@ -199,6 +199,45 @@ def certificate_faults(top: Element, file: Path) -> Iterator[str]:
                 yield f"of the certificate for {words} the program and check-certificate say {said}"
 
 
+def after_no_faults(top: Element, file: Path, data: list[str]) -> Iterator[str]:
+    """What stands under each no is what olap-tools after-no says, but for simple constraints that didn't come in time."""
+    for place in top.all(id="counterexamples")[0].all("details"):
+        told = [each.text() for each in place.all("p")]
+        if place.all("details") or not any(each.startswith("After the no of ") for each in told):
+            continue
+        sources = next(each for each in told if each.startswith("After the no of "))[len("After the no of ") : -1].split(" and ")
+        target = place.all("summary")[0].text().split(" from ")[0]
+        lines = place.all("pre")[1].text().splitlines()
+        wanted = tool("olap-tools", "after-no", str(file), *data, target, *sources).stdout.splitlines()
+        blocks = [each for each in wanted if not each.startswith("simple: ")]
+        if lines not in (wanted, blocks):
+            yield f"after the no of {target} from {' and '.join(sources)} it says {lines}"
+
+
+def sql_faults(top: Element, file: Path) -> Iterator[str]:
+    """Below each list that is enough its SQL, as olap-tools sql prints it."""
+    for row in top.all(id="enough")[0].all("tbody")[0].all("tr"):
+        target, lists = row.all("th")[0].text(), [each.text().split(" + ") for each in row.all("span", **{"class": "list"})]
+        told = [each.text().rstrip("\n") for each in row.all("pre")]
+        for sources, said in zip(lists, told):
+            if said.partition("\n")[2] != tool("olap-tools", "sql", str(file), target, *sources).stdout.partition("\n")[2].rstrip("\n"):
+                yield f"the SQL of {target} from {' and '.join(sources)} is another"
+        if len(told) != len(lists):
+            yield f"of {target} there are {len(lists)} lists, and {len(told)} statements"
+
+
+def data_faults() -> Iterator[str]:
+    """The page of the locations with their instance and facts."""
+    schema, instance, facts = (EXAMPLES / "location" / name for name in ("schema.txt", "instance.csv", "facts.csv"))
+    done = tool("report", *IN_TIME, str(schema), "--instance", str(instance), "--facts", str(facts))
+    top, wrong = page_of(done.stdout)
+    yield from wrong
+    if "members: " not in done.stdout or "lost at usa: 1 of Store" not in done.stdout:
+        yield f"it doesn't say which members are lost: status {done.returncode}, {done.stderr.strip()}"
+    yield from after_no_faults(top, schema, [str(instance), str(facts)])
+    yield from sql_faults(top, schema)
+
+
 def page_faults(file: Path) -> Iterator[str]:
     done = tool("report", *IN_TIME, str(file))
     if done.returncode != 0 or done.stderr:
@@ -243,6 +282,30 @@ def large(folder: Path) -> Path:
     return file
 
 
+def empty_rows(top: Element) -> Iterator[str]:
+    """No row of a table is of questions that got no answer alone."""
+    for table in [each for each in top.all("table") if each.all("caption")]:
+        for row in table.all("tbody")[0].all("tr"):
+            if all(cell.attributes.get("class") in ("none", "other") for cell in row.all("td")):
+                yield f"the row of {row.all('th')[0].text()} has no answer"
+
+
+def limit_faults() -> Iterator[str]:
+    """The pages of a chain of 255 categories, and of the cube of four, take no more than their time."""
+    with tempfile.TemporaryDirectory() as folder:
+        file = Path(folder) / "chain.txt"
+        lines = [*(f"category C{i}" for i in range(255)), *(f"edge C{i} C{i + 1}" for i in range(254)), "edge C254 All"]
+        file.write_text("".join(line + "\n" for line in ["schema 1", *lines]))
+        for count in (1, 4):
+            began = time.monotonic()
+            done = tool("report", "--seconds", str(FEW_SECONDS), *[str(file)] * count)
+            rest = time.monotonic() - began - FEW_SECONDS
+            if done.returncode != 0 or not done.stdout.endswith("</html>\n"):
+                yield f"of {count}: status {done.returncode}, {done.stderr.strip()}"
+            if rest > 60 - BY_DEFAULT:
+                yield f"of {count}: it is made in {rest:.0f} s more than it may ask for"
+
+
 def large_faults() -> Iterator[str]:
     """In too little time the page of a schema at the limits says so, and what it says is still what the program says.
 
@@ -262,9 +325,10 @@ def large_faults() -> Iterator[str]:
         top, wrong = page_of(done.stdout)
         yield from wrong
         yield from shape_faults(top, done.stdout)
-        wanted = sum(len(below(file, target)) for target in categories_of(file))
-        if done.returncode != 0 or len(cells_of(top)) != wanted or "Pairs weren't asked" not in top.text():
+        wanted = {(target, (source,)) for target in categories_of(file) for source in below(file, target)}
+        if done.returncode != 0 or not set(cells_of(top)) <= wanted or "Pairs weren't asked" not in top.text():
             yield f"status {done.returncode}, {len(cells_of(top))} cells"
+        yield from empty_rows(top)
         yield from cell_faults(top, done.stdout, file, 200)
         told = [(edge.split(), kind) for edge, kind in kinds_of_edges(done.stdout).items() if kind != "unknown"]
         for (child, parent), kind in told[::40]:
@@ -317,3 +381,5 @@ def faults() -> Iterator[str]:
     for file in [*sorted(EXAMPLES.glob("*/schema.txt")), TOP / "recipes" / "partitions" / "schema.txt"]:
         yield from (f"report {file.parent.name}: {wrong}" for wrong in page_faults(file))
     yield from (f"report on a large schema: {wrong}" for wrong in large_faults())
+    yield from (f"report on chains at the limit: {wrong}" for wrong in limit_faults())
+    yield from (f"report with an instance: {wrong}" for wrong in data_faults())

@@ -1,0 +1,1 @@
+"""What check-differences is made of."""
