@@ -19,7 +19,9 @@ from pages import program, texts
 from pages.program import Fault, Program
 
 from . import asking
-from .asking import CHANGED, INSTANCE, SCHEMA
+from .asking import INSTANCE, SCHEMA
+
+CHANGED = "changed.txt"
 
 STRING = r'"(?:[^"\\]|\\.)*"'
 ATOM = re.compile(rf"{STRING}|([A-Za-z][A-Za-z0-9]*(?:[._][A-Za-z][A-Za-z0-9]*)*)((?: (?:=|<|<=) (?:{STRING}|-?\d+))?)")
