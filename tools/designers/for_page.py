@@ -1,4 +1,4 @@
-"""What `after-no` says of each no of a page, as time allows: first its blocks of all, then simple constraints of all."""
+"""What `after-no` says of each no of a page, as time allows: first its blocks of all, then simple constraints of some."""
 
 from __future__ import annotations
 
@@ -12,7 +12,7 @@ from pages.texts import ALL
 from . import after_no
 from .asking import FACTS, INSTANCE, Data, Question
 
-MOST = 60  # nos of a page of which it is said
+MOST, MOST_SIMPLE = 60, 6  # nos of a page of which it is said, and of which with simple constraints, for which many are tried
 Key = Tuple[str, Tuple[str, ...]]
 
 
@@ -39,5 +39,6 @@ def said(ask: Program, progress: Progress, facts: Facts, files: int, nos: Sequen
         return list(after_no.simple_block(asked[key], time.monotonic() + left))
 
     found = asker.all("nos: what to do", asked, blocks, end)
-    more = asker.all("nos: simple constraints", found, simple, end)
+    shortest = sorted(found, key=lambda key: len(key[1]))[:MOST_SIMPLE]
+    more = asker.all("nos: simple constraints", shortest, simple, end)
     return {key: lines + more.get(key, []) for key, lines in found.items()}
