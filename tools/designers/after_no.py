@@ -73,7 +73,8 @@ def lists_block(question: Question, end: float) -> Iterator[str]:
         if some in seen:
             continue
         seen.add(some)
-        named = tuple(category for category in question.schema.categories if category in some)
+        added = some - set(question.sources)
+        named = (*question.sources, *(category for category in question.schema.categories if category in added))
         answer = question.ask.must("summarizable", SCHEMA, question.target, *named, ends=(0, 1), seconds=max(0.1, end - time.monotonic()))
         if answer.status == 0:
             found.append(named)
