@@ -115,10 +115,16 @@ def met(question: Question, constraint: str) -> str:
 
 
 def simple_block(question: Question, end: float) -> Iterator[str]:
+    """Simple constraints, unless the schema is at its limits, so that it is refused with one more."""
     for bottom in question.schema.bottoms:
-        found = simple.weakest(question, bottom, end)
-        for constraint in found:
-            yield f"simple: constraint {constraint}{met(question, constraint)}"
+        try:
+            found = simple.weakest(question, bottom, end)
+        except Fault as fault:
+            if fault.status != 3:
+                raise
+            yield f"simple: none can be tried: {fault}"
+            return
+        yield from (f"simple: constraint {constraint}{met(question, constraint)}" for constraint in found)
 
 
 # ---- all of it
