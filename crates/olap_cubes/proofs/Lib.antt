@@ -5,3 +5,7 @@ mod NameLemmas
 mod WordLemmas
 mod TupleLemmas
 mod OneAnswer
+mod LeastLemmas
+mod AllChoicesLemmas
+mod SomeAnswer
+pub mod AskedLemmas

@@ -4,6 +4,7 @@ pub mod Questions
 pub mod Steps
 pub mod Commands
 pub mod Laws
+pub mod Existing
 -- The inside: the view of facts that aren't kept, what is left of an order under its schemas, and the commands of the
 -- code as orders.
 pub mod OfFacts

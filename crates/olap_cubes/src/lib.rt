@@ -15,4 +15,4 @@ mod viewing;
 mod words;
 
 pub use judging::judge;
-pub use laws::answers_are_one;
+pub use laws::{answers_are_one, answers_exist};

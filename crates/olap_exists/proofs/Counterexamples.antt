@@ -2,7 +2,7 @@
 --     dec_bottom               whether a category is a bottom category
 --     dec_none                 whether a root has no frozen dimension
 --     counterexamples_exist    the law
-use Rattle.std.proofs.Common.{◌≡◌, ℕ, ◌+◌, ◌<◌, List, length, refl, subst, inl, inr, arith}
+use Rattle.std.proofs.Common.{◌≡◌, ℕ, ◌+◌, List, length, refl, subst, inl, inr, arith}
 use Rattle.std.specs.Prelude.{◌⊎◌, Contains}
 use native.Mathlib.Decide.{ℕ_discrete, dec_lt}
 use Rattle.olap_base.specs.Graph.{Edge, Graph, IsBottom}
@@ -12,7 +12,7 @@ use Rattle.olap_ast.specs.Formula.{Formula}
 use Rattle.olap_ast.specs.Frozen.{AreCandidates, Candidates, Frozen, IsFrozen, IsLeastFrozen}
 use Rattle.olap_ast.specs.Questions.{NoneFrozen, SourcesHaveCandidates}
 use Rattle.olap_ast.specs.Schema.{Schema}
-use Rattle.olap_ast.specs.Summarizable.{IsCounterexample, IsSummarizable, SummarizableExactlyIfNoneFrozen, not_by_one}
+use Rattle.olap_ast.specs.Summarizable.{IsCounterexample, SummarizableExactlyIfNoneFrozen, not_by_one}
 use Rattle.olap_ast.proofs.Least.{IsLeast, least}
 use Rattle.olap_exists.specs.Existing.{CounterexamplesExist}
 use Rattle.olap_exists.proofs.Finite.{dec_each, dec_not}

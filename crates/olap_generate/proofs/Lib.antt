@@ -13,6 +13,7 @@ pub mod Standing
 pub mod Legal
 pub mod InputLemmas
 pub mod Serving
+mod ServedLemmas
 mod TextLemmas
 mod MadeLemmas
 mod LineLemmas

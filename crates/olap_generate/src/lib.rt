@@ -16,5 +16,5 @@ mod members;
 mod running;
 
 pub use generating::generate;
-pub use laws::an_input_is_made;
+pub use laws::{an_input_is_made, regions_are_served};
 pub use running::LOCATION;

@@ -13,4 +13,4 @@ mod laws;
 mod words;
 
 pub use judging::judge;
-pub use laws::{answers_are_one, plan_is_one, plans_give_direct_views};
+pub use laws::{answers_are_one, answers_exist, plan_is_one, plans_give_direct_views};

@@ -3,6 +3,8 @@ mod CertificateLemmas
 mod ListingLemmas
 mod LineLemmas
 mod OneAnswer
+mod SomeAnswer
+pub mod AskedLemmas
 mod ReplyLemmas
 mod NeedsLemmas
 mod WordLemmas

@@ -5,6 +5,7 @@ pub mod Needing
 pub mod Questions
 pub mod Commands
 pub mod Laws
+pub mod Existing
 -- The inside: what is left of an order once its schema is read, and the commands of the code as orders.
 pub mod Under
 pub mod Seen

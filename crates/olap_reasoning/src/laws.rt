@@ -1,11 +1,34 @@
-// Theorems over the definitions. Each is the clause of a function that does nothing.
+// Theorems over the definitions. Each is the clause of a function that does nothing but call others.
+ghost use Rattle.olap_reasoning.specs.Existing.{AnswersExist};
 ghost use Rattle.olap_reasoning.specs.Laws.{AllFrozenAreOne, AnswersAreOne, FindingsAreOne, TooManyAreNotListed};
+
+use olap_ast::{
+    implied_exactly_if_none_frozen, unsatisfiable_exactly_if_none_frozen,
+    valid_schemas_have_candidates,
+};
+use olap_exists::{counterexamples_exist, findings_exist, frozen_are_listed, least_frozen_exist};
+use olap_proof::certificates_exist_exactly_where_summarizable;
 
 /// A question has one status at most, and one list of bytes, but that there may be many certificates. So "exactly if"
 /// of each answer is a theorem.
 pub fn answers_are_one()
     ensures { AnswersAreOne }
 {}
+
+/// A question about a valid schema, and a formula of it, has a status and bytes that answer it.
+pub fn answers_exist()
+    ensures { AnswersExist }
+{
+    // Called for their clauses.
+    least_frozen_exist();
+    frozen_are_listed();
+    counterexamples_exist();
+    findings_exist();
+    valid_schemas_have_candidates();
+    unsatisfiable_exactly_if_none_frozen();
+    implied_exactly_if_none_frozen();
+    certificates_exist_exactly_where_summarizable();
+}
 
 /// All frozen dimensions with a root for a question are one list, whichever candidates are taken.
 pub fn all_frozen_are_one()

@@ -20,4 +20,6 @@ mod summarizing;
 mod words;
 
 pub use judging::judge;
-pub use laws::{all_frozen_are_one, answers_are_one, findings_are_one, too_many_are_not_listed};
+pub use laws::{
+    all_frozen_are_one, answers_are_one, answers_exist, findings_are_one, too_many_are_not_listed,
+};

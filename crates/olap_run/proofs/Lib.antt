@@ -1,4 +1,6 @@
 -- Lemmas.
 mod LongWords
+mod AskedLemmas
 mod OneOutcome
+mod SomeOutcome
 mod SureLemmas

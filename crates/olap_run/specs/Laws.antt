@@ -1,9 +1,10 @@
--- What the definitions leave no choice in.
+-- What the definitions leave no choice in, and that there is an outcome.
 --     AreCertificates    two texts that answer words which ask for a certificate
 --     OutcomeIsOne       words and files have one status at most, and one list of bytes but for certificates
+--     OutcomeExists      and they have them, where each file that the order comes to is held
 use Rattle.std.specs.Prelude.{◌≡◌, ◌⊎◌, ℕ, List, MatchOption}
 use Rattle.olap_outside.specs.Files.{Files}
-use Rattle.olap_order.specs.Order.{Order, Done, Told, Read}
+use Rattle.olap_order.specs.Order.{Order, Done, IsHeld, Told, Read}
 use Rattle.olap_order.specs.declared.status.Status.{Status}
 use Rattle.olap_reasoning.specs.Laws as reasoning
 use Rattle.olap_run.specs.Commands.{order_of}
@@ -22,3 +23,8 @@ AreCertificates files (Read name next) b c =
 abbrev pub OutcomeIsOne : Type 0
 OutcomeIsOne = (words : List (List ℕ)) (files : Files) (s t : Status) (b c : List ℕ) → Outcome words files s b
     → Outcome words files t c → (s ≡ t) × ((b ≡ c) ⊎ AreCertificates files (order_of words) b c)
+
+-- for words and files of which each that the order comes to is held, there are a status and bytes that are the outcome
+abbrev pub OutcomeExists : Type 0
+OutcomeExists = (words : List (List ℕ)) (files : Files) → IsHeld files (order_of words)
+    → (status : Status) × (bytes : List ℕ) × Outcome words files status bytes

@@ -1,5 +1,7 @@
-// A theorem over the definitions: the clause of a function that does nothing.
-ghost use Rattle.olap_run.specs.Laws.{OutcomeIsOne};
+// Theorems over the definitions: each is the clause of a function that does nothing but call others.
+ghost use Rattle.olap_run.specs.Laws.{OutcomeExists, OutcomeIsOne};
+
+use olap_schema_text::{read_questions_are_valid, read_schemas_are_readable};
 
 /// The words and the files have one status at most, and one list of bytes, but that there may be many certificates. So
 /// "exactly if" of each answer is a theorem.
@@ -11,4 +13,19 @@ pub fn outcome_is_one()
     olap_plans::answers_are_one();
     olap_verdicts::answers_are_one();
     olap_cubes::answers_are_one();
+    read_schemas_are_readable();
+    read_questions_are_valid();
+}
+
+/// The words and the files have a status and bytes that are the outcome, where each file that the order comes to is held.
+pub fn outcome_exists()
+    ensures { OutcomeExists }
+{
+    // Called for their clauses.
+    olap_reasoning::answers_exist();
+    olap_plans::answers_exist();
+    olap_verdicts::answers_exist();
+    olap_cubes::answers_exist();
+    read_schemas_are_readable();
+    read_questions_are_valid();
 }

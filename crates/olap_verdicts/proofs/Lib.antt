@@ -1,4 +1,6 @@
 -- Lemmas.
 mod OneAnswer
+mod SomeAnswer
+pub mod AskedLemmas
 mod WordLemmas
 mod ReplyLemmas

@@ -26,12 +26,12 @@ module _ (one : VerdictsAreOne) where
       (one f s (not_by_one c sources) text v.hierarchy (few s v)).1 at other w x
 
   pub answers_are_one : AnswersAreOne
-  answers_are_one (ByCertificate f s c sources text) x y b d (v, inl p) (w, inl q) = (p.0 ∙ sym q.0, p.2 ∙ sym q.2)
-  answers_are_one (ByCertificate f s c sources text) x y b d (v, inl p) (w, inr q) =
+  answers_are_one (ByCertificate f s c sources text) x y b d v (inl p) (inl q) = (p.0 ∙ sym q.0, p.2 ∙ sym q.2)
+  answers_are_one (ByCertificate f s c sources text) x y b d v (inl p) (inr q) =
       absurd (none_wrong f s c sources text q.1.0 v p.1 q.1.1)
-  answers_are_one (ByCertificate f s c sources text) x y b d (v, inr p) (w, inl q) =
+  answers_are_one (ByCertificate f s c sources text) x y b d v (inr p) (inl q) =
       absurd (none_wrong f s c sources text p.1.0 v q.1 p.1.1)
-  answers_are_one (ByCertificate f s c sources text) x y b d (v, inr p) (w, inr q) = (
+  answers_are_one (ByCertificate f s c sources text) x y b d v (inr p) (inr q) = (
     p.0 ∙ sym q.0,
     p.1.2
         ∙ ap (λ n. line (codes "rejected line " ++ decimal n)) (one_wrong f s c sources text p.1.0 q.1.0 v p.1.1 q.1.1)
@@ -40,6 +40,6 @@ module _ (one : VerdictsAreOne) where
 
 -- a certificate is there only where the target is summarizable
 pub accepted_is_summarizable : CertificatesAreRight → AcceptedIsSummarizable
-accepted_is_summarizable right f s c sources text bytes (v, inl p) =
+accepted_is_summarizable right f s c sources text bytes v (inl p) =
     right f s c sources p.1.0 p.1.2.0 v.hierarchy p.1.1 p.1.2.2
-accepted_is_summarizable right f s c sources text bytes (v, inr p) = absurd (let e = p.0 in cc)
+accepted_is_summarizable right f s c sources text bytes v (inr p) = absurd (let e = p.0 in cc)

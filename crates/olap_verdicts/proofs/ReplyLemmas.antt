@@ -3,7 +3,6 @@ use Rattle.std.proofs.Common.{◌≡◌, ◌++◌, ℕ, List, Ok, inr, subst, sy
 use Rattle.std.specs.Prelude.{codes}
 use Rattle.std.specs.Fmt.{decimal}
 use Rattle.olap_ast.specs.Schema.{Schema}
-use Rattle.olap_ast.specs.Valid.{IsValidSchema}
 use Rattle.olap_order.specs.Judged.{IsVerdict, Replies}
 use Rattle.olap_order.specs.Order.{Done}
 use Rattle.olap_order.specs.Outputs.{line}
@@ -14,12 +13,12 @@ use Rattle.olap_proof.specs.declared.forms.Form.{Form}
 use Rattle.olap_verdicts.specs.Questions.{ByCertificate, IsAnswer}
 
 -- the first line that is wrong is told
-pub wrong_shown : (f : Form) (s : Schema) (c : ℕ) (sources text : List ℕ) (at : ℕ) → IsValidSchema s
+pub wrong_shown : (f : Form) (s : Schema) (c : ℕ) (sources text : List ℕ) (at : ℕ)
     → IsFirstWrongFor f s c sources text at → (reply : Reply) → reply.status ≡ No
     → reply.bytes.items ≡ line (codes "rejected line " ++ decimal at)
     → Replies IsAnswer (Done (ByCertificate f s c sources text)) (Ok reply)
-wrong_shown f s c sources text at v w reply status bytes = record {
-  right = λ files. (v, inr (status, (at, w, bytes)));
+wrong_shown f s c sources text at w reply status bytes = record {
+  right = λ files. inr (status, (at, w, bytes));
   verdict = subst IsVerdict (sym status) tt;
   unread = λ e. absurd (cc);
 }

@@ -2,7 +2,7 @@
 --     verify_order        of `verify` and `verify-short`
 --     verify_order_for    what is left of it behind the schema
 --     order_named         of the command of that name, by the words after it
-use Rattle.std.specs.Prelude.{ℕ, List, [], ◌∷◌, codes, if◌then◌else◌, Option, None, Some}
+use Rattle.std.specs.Prelude.{ℕ, List, [], codes, if◌then◌else◌, Option, None}
 use Rattle.std.specs.Str.{bytes_eq}
 use Rattle.olap_ast.specs.Schema.{Schema}
 use Rattle.olap_base.specs.Limits.{most_certificate_bytes}

@@ -4,7 +4,6 @@
 use Rattle.std.specs.Prelude.{◌≡◌, ◌⊎◌, ◌++◌, ℕ, List, codes}
 use Rattle.std.specs.Fmt.{decimal}
 use Rattle.olap_ast.specs.Schema.{Schema}
-use Rattle.olap_ast.specs.Valid.{IsValidSchema}
 use Rattle.olap_order.specs.Outputs.{line}
 use Rattle.olap_order.specs.declared.status.Status.{Status}
 use Rattle.olap_order.specs.declared.status.Status.TheVariants.{Yes, No}
@@ -16,9 +15,9 @@ pub data Question : Type 0 where
   -- is the text a certificate of that form for the schema, the target and the sources?
   ByCertificate : (form : Form) (schema : Schema) (target : ℕ) (sources : List ℕ) (text : List ℕ) → Question
 
--- these are the status and the bytes, of a valid schema
+-- these are the status and the bytes
 abbrev pub IsAnswer : Question → Status → List ℕ → Type 0
-IsAnswer (ByCertificate f s c sources text) status bytes = IsValidSchema s
-    × (((status ≡ Yes) × IsCertificateFor f s c sources text × (bytes ≡ line (codes "accepted")))
+IsAnswer (ByCertificate f s c sources text) status bytes =
+    ((status ≡ Yes) × IsCertificateFor f s c sources text × (bytes ≡ line (codes "accepted")))
     ⊎ ((status ≡ No) × ((at : ℕ) × IsFirstWrongFor f s c sources text at
-    × (bytes ≡ line (codes "rejected line " ++ decimal at)))))
+    × (bytes ≡ line (codes "rejected line " ++ decimal at))))

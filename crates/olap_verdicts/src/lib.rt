@@ -10,4 +10,4 @@ mod verifying;
 mod words;
 
 pub use judging::judge;
-pub use laws::{accepted_is_summarizable, answers_are_one};
+pub use laws::{accepted_is_summarizable, answers_are_one, answers_exist};

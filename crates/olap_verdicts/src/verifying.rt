@@ -40,8 +40,6 @@ fn told(
     ensures replies { Replies IsAnswer (Done (ByCertificate form (schema_of schema.now) target.0
         (numbers_of sources.now) text.now)) result }
 {
-    // Called for its clause: the schema is valid.
-    let _valid = schema.constraints();
     match olap_proof::verify(alloc, schema, form, target, sources, text) {
         Ok(()) => Ok(yes(Vec::from_slice(alloc, b"accepted\n")?)),
         Err(Refusal::Kind(VerifyFault::Rejected { line })) => Ok(no(rejected(alloc, line)?)),

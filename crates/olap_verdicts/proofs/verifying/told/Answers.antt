@@ -15,6 +15,6 @@ returns-in_ok-rejected-in-Err-Kind-Rejected c =
     let wrong : c.verify.result ≡ Err (refusal.Kind (fault.Rejected at)) = cc in
     record {
       replies = wrong_shown c.args.form (schema_of c.args.schema.now) c.args.target.0 (numbers_of c.args.sources.now)
-          c.args.text.now at c.constraints-valid.ensures.valid (c.verify.ensures.rejected at wrong) c.no.result
+          c.args.text.now at (c.verify.ensures.rejected at wrong) c.no.result
           c.no.ensures.status (c.no.ensures.bytes ∙ c.in_ok-rejected-in-Err-Kind-Rejected.ensures);
     }

@@ -1,0 +1,67 @@
+-- Each question that an order comes to is about what was read: of valid schemas, a formula of one, a size.
+--     IsAsked      so it is of a question
+--     all_asked    and of all that the order of whatever words comes to
+use Rattle.std.proofs.Common.{List, [], ◌∷◌, ℕ, length}
+use Rattle.std.specs.Prelude.{codes, nat_lt, unwrap_or}
+use Rattle.std.specs.Option.{option_or}
+use Rattle.olap_base.specs.Limits.{most_words}
+use Rattle.olap_cubes.specs.Commands as cubes
+use Rattle.olap_cubes.specs.Existing.{IsAsked as IsCubeAsked}
+use Rattle.olap_cubes.proofs.AskedLemmas.{asked_named as cubes_asked}
+use Rattle.olap_order.specs.Families.{asking}
+use Rattle.olap_order.specs.Outputs.{line}
+use Rattle.olap_order.specs.declared.status.Status.TheVariants.{Usage}
+use Rattle.olap_order.proofs.Coming.{Comes, MayCome, either, may_ask, may_or, or_else, told, whichever}
+use Rattle.olap_plans.specs.Commands as plans
+use Rattle.olap_plans.specs.Existing.{IsAsked as IsPlanAsked}
+use Rattle.olap_plans.proofs.AskedLemmas.{asked_named as plans_asked}
+use Rattle.olap_reasoning.specs.Commands as reasoning
+use Rattle.olap_reasoning.specs.Existing.{IsAsked as IsReasoningAsked}
+use Rattle.olap_reasoning.proofs.AskedLemmas.{asked_named as reasoning_asked}
+use Rattle.olap_run.specs.Commands.{order_named, order_of, usage}
+use Rattle.olap_run.specs.Questions.{Question, OfReasoning, OfTotals, OfPlans, OfVerdicts, OfCubes}
+use Rattle.olap_schema_text.specs.Laws.{ReadQuestionsAreValid, ReadSchemasAreReadable}
+use Rattle.olap_totals.specs.Commands as totals
+use Rattle.olap_verdicts.specs.Commands as verdicts
+use Rattle.olap_verdicts.specs.Laws.{IsAsked as IsVerdictAsked}
+use Rattle.olap_verdicts.proofs.AskedLemmas.{asked_named as verdicts_asked}
+
+-- what is asked is about what was read
+abbrev pub IsAsked : Question → Type 0
+IsAsked (OfReasoning q) = IsReasoningAsked q
+IsAsked (OfTotals q) = Unit {0}
+IsAsked (OfPlans q) = IsPlanAsked q
+IsAsked (OfVerdicts q) = IsVerdictAsked q
+IsAsked (OfCubes q) = IsCubeAsked q
+
+module _ (readable : ReadSchemasAreReadable) (questions : ReadQuestionsAreValid) where
+  -- the order of a command comes to such questions
+  named_asked : (name : List ℕ) (words : List (List ℕ)) → MayCome IsAsked (order_named name words)
+  named_asked name words =
+      let a = asking OfReasoning (reasoning.order_named name words) in
+      let b = asking OfTotals (totals.order_named name words) in
+      let c = asking OfPlans (plans.order_named name words) in
+      let d = asking OfVerdicts (verdicts.order_named name words) in
+      let e = asking OfCubes (cubes.order_named name words) in
+      may_or IsAsked a (option_or b (option_or c (option_or d e)))
+      (may_ask IsReasoningAsked IsAsked OfReasoning (reasoning.order_named name words) (λ q p. p)
+      (reasoning_asked readable questions name words))
+      (may_or IsAsked b (option_or c (option_or d e))
+      (may_ask (λ q. Unit {0}) IsAsked OfTotals (totals.order_named name words) (λ q u. tt)
+      (whichever (totals.order_named name words)))
+      (may_or IsAsked c (option_or d e)
+      (may_ask IsPlanAsked IsAsked OfPlans (plans.order_named name words) (λ q p. p) (plans_asked readable name words))
+      (may_or IsAsked d e
+      (may_ask IsVerdictAsked IsAsked OfVerdicts (verdicts.order_named name words) (λ q p. p)
+      (verdicts_asked readable name words))
+      (may_ask IsCubeAsked IsAsked OfCubes (cubes.order_named name words) (λ q p. p)
+      (cubes_asked readable name words)))))
+
+  -- and so does that of whatever words
+  pub all_asked : (words : List (List ℕ)) → Comes IsAsked (order_of words)
+  all_asked [] = told IsAsked Usage (line (codes "usage"))
+  all_asked (name ∷ words) =
+      either IsAsked (nat_lt most_words (length (name ∷ words))) usage (unwrap_or (order_named name words) usage)
+      (told IsAsked Usage (line (codes "usage")))
+      (or_else IsAsked (order_named name words) usage (named_asked name words)
+      (told IsAsked Usage (line (codes "usage"))))
