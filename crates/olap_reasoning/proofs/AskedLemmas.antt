@@ -11,9 +11,9 @@ use Rattle.olap_order.specs.declared.status.Status.TheVariants.{Yes}
 use Rattle.olap_order.proofs.Coming.{Comes, MayCome, asked, may_either, may_one, may_three, may_two, may_two_or_more, no_order, pass, then_comes, told}
 use Rattle.olap_order.proofs.ComingSteps.{formula_comes, root_declared, under_schema}
 use Rattle.olap_proof.specs.declared.forms.Form.TheVariants.{Long, Short}
-use Rattle.olap_reasoning.specs.Commands.{audit_order, format_order, frozen_order, implies_order, order_named, prove_order, satisfiable_order, sources_order, summarizable_order}
+use Rattle.olap_reasoning.specs.Commands.{audit_order, format_order, frozen_order, implies_order, order_named, prove_order, satisfiable_order, sources_order, summarizable_order, needs_order}
 use Rattle.olap_reasoning.specs.Existing.{IsAsked}
-use Rattle.olap_reasoning.specs.Questions.{Question, BySatisfiable, ByImplied, BySummarizable, ByProof, ByFrozen, ByAudit}
+use Rattle.olap_reasoning.specs.Questions.{Question, BySatisfiable, ByImplied, BySummarizable, ByProof, ByFrozen, ByAudit, ByNeeds}
 use Rattle.olap_reasoning.specs.Under.{frozen_under, implies_under, satisfiable_under, sources_under}
 use Rattle.olap_schema_text.specs.Laws.{ReadQuestionsAreValid, ReadSchemasAreReadable}
 use Rattle.olap_schema_text.specs.Printing.{schema_text}
@@ -65,5 +65,7 @@ module _ (readable : ReadSchemasAreReadable) (questions : ReadQuestionsAreValid)
       (of_sources (ByProof Long) (λ s c cs v. v)) words)
       (may_either IsAsked _ _ _ (may_two_or_more IsAsked (prove_order Short)
       (of_sources (ByProof Short) (λ s c cs v. v)) words)
+      (may_either IsAsked _ _ _ (may_two_or_more IsAsked needs_order
+      (of_sources ByNeeds (λ s c cs v. v)) words)
       (may_either IsAsked _ _ _ (may_two IsAsked frozen_order of_frozen words)
-      (may_either IsAsked _ _ _ (may_one IsAsked audit_order of_audit words) (no_order IsAsked))))))))
+      (may_either IsAsked _ _ _ (may_one IsAsked audit_order of_audit words) (no_order IsAsked)))))))))

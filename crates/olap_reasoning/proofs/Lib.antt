@@ -3,6 +3,7 @@ mod CertificateLemmas
 mod ListingLemmas
 mod LineLemmas
 mod OneAnswer
+mod SomeNeeds
 mod SomeAnswer
 pub mod AskedLemmas
 mod ReplyLemmas

@@ -14,6 +14,7 @@ use Rattle.olap_cex.specs.CexText.{counterexample_text}
 use Rattle.olap_cex.specs.FrozenText.{frozen_text}
 use Rattle.olap_exists.specs.Existing.{CounterexamplesExist, FindingsExist, FrozenAreListed, LeastFrozenExist}
 use Rattle.olap_instance.specs.Printing.{text_of_instance}
+use Rattle.olap_needs.specs.Laws.{NeedsLeaveMembers}
 use Rattle.olap_order.specs.Outputs.{line, refusal}
 use Rattle.olap_order.specs.declared.status.Status.{Status}
 use Rattle.olap_order.specs.declared.status.Status.TheVariants.{Yes, No, Refused}
@@ -24,7 +25,8 @@ use Rattle.olap_proof.specs.Verifying.{IsCertificateFor}
 use Rattle.olap_reasoning.specs.Certificates.{ShowsDifference}
 use Rattle.olap_reasoning.specs.Existing.{AnswersExist}
 use Rattle.olap_reasoning.specs.Listings.{finding_text}
-use Rattle.olap_reasoning.specs.Questions.{IsAnswer, Question, BySatisfiable, ByImplied, BySummarizable, ByProof, ByFrozen, ByAudit}
+use Rattle.olap_reasoning.specs.Questions.{IsAnswer, Question, BySatisfiable, ByImplied, BySummarizable, ByProof, ByFrozen, ByAudit, ByNeeds}
+use Rattle.olap_reasoning.proofs.SomeNeeds.{needs_exist}
 
 -- so many at most, or more
 few_or_more : (n m : ℕ) → (n ≤ m) ⊎ (m < n)
@@ -136,7 +138,7 @@ listed lists candidates s c v = let k = candidates s 0 Truth v tt in go k.0 k.1 
 module _ (least : LeastFrozenExist) (lists : FrozenAreListed) (counterexamples : CounterexamplesExist)
     (findings : FindingsExist) (candidates : ValidSchemasHaveCandidates) (of_sources : SourcesHaveCandidates)
     (unsatisfiable : UnsatisfiableExactlyIfNoneFrozen) (implied : ImpliedExactlyIfNoneFrozen)
-    (certificates : CertificatesExistExactlyWhereSummarizable) where
+    (certificates : CertificatesExistExactlyWhereSummarizable) (leave : NeedsLeaveMembers) where
   pub answers_exist : AnswersExist
   answers_exist (BySatisfiable s c) v = satisfied least candidates unsatisfiable s c v
   answers_exist (ByImplied s r q) t = met least candidates implied s r q t.0 t.1
@@ -148,6 +150,7 @@ module _ (least : LeastFrozenExist) (lists : FrozenAreListed) (counterexamples :
     | inl h ↦ let w = certified of_sources certificates f s c sources v h in (Yes, w.0, inl (refl, h, w.1))
     | inr t ↦ (No, t.0, inr (refl, t.1))
   ]
+  answers_exist (ByNeeds s c sources) v = needs_exist least implied leave of_sources s c sources v
   answers_exist (ByFrozen s c) v = listed lists candidates s c v
   answers_exist (ByAudit s) v =
       let t = findings s v in (

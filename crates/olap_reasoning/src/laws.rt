@@ -7,6 +7,7 @@ use olap_ast::{
     valid_schemas_have_candidates,
 };
 use olap_exists::{counterexamples_exist, findings_exist, frozen_are_listed, least_frozen_exist};
+use olap_needs::needs_leave_members;
 use olap_proof::certificates_exist_exactly_where_summarizable;
 
 /// A question has one status at most, and one list of bytes, but that there may be many certificates. So "exactly if"
@@ -28,6 +29,7 @@ pub fn answers_exist()
     unsatisfiable_exactly_if_none_frozen();
     implied_exactly_if_none_frozen();
     certificates_exist_exactly_where_summarizable();
+    needs_leave_members();
 }
 
 /// All frozen dimensions with a root for a question are one list, whichever candidates are taken.
