@@ -42,7 +42,7 @@ def question_of(family, order):
         body = "\n".join(modules()[family, "Commands"].declarations[name].body)
         if found := re.search(r"\b(?:(By[A-Z]\w+)|Told)", body):
             return found.group(1)
-        left += [word for word in re.findall(r"\w+_order\b", body) if word not in seen]
+        left += [word for word in re.findall(r"\w+_(?:order|told)\b", body) if word not in seen]
     raise ValueError(f"{order} has no end")
 
 

@@ -2,3 +2,4 @@
 mod ViewLemmas
 mod WordLemmas
 mod BreakingLemmas
+mod StoreLemmas

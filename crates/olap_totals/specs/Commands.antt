@@ -1,10 +1,12 @@
 -- The order in which each command over an instance judges its files and words. Their answers are functions of what was
 -- read, so each order ends in what is told.
+--     store_told     the text of stored views
 --     order_named    of the command of that name, by the words after it
 use Rattle.std.specs.Prelude.{ℕ, Bool, List, [], ◌∷◌, ◌++◌, ◌-◌, ◌&&◌, length, codes, if◌then◌else◌, nat_le, nat_lt, Option, None, Some}
 use Rattle.std.specs.Fmt.{decimal}
 use Rattle.std.specs.Str.{bytes_eq}
-use Rattle.olap_base.specs.Limits.{most_facts_bytes, most_views}
+use Rattle.olap_base.specs.Graph.{Graph}
+use Rattle.olap_base.specs.Limits.{most_facts_bytes, most_store_bytes, most_views}
 use Rattle.olap_base.specs.Instance.{Instance}
 use Rattle.olap_base.specs.Views.{View, direct_view, direct_views}
 use Rattle.olap_ast.specs.Schema.{Schema}
@@ -17,7 +19,7 @@ use Rattle.olap_delta.specs.Reading.{views_changed}
 use Rattle.olap_view.specs.StoreText.{store_text}
 use Rattle.olap_view.specs.ViewText.{view_text}
 use Rattle.olap_order.specs.Arguments.{by_four, by_three_or_more, by_two}
-use Rattle.olap_order.specs.Order.{Order, Told, and_then}
+use Rattle.olap_order.specs.Order.{Order, Told, and_then, refused}
 use Rattle.olap_order.specs.Outputs.{line}
 use Rattle.olap_order.specs.Steps.{category_word, different_words, meaning_or_fault, schema_file, text_file}
 use Rattle.olap_reading.specs.Steps.{facts_file, legal_file, store_file}
@@ -41,6 +43,12 @@ check_order schema instance =
     and_then (legal_file s (codes "instance") instance) (λ i.
     Told Yes (line (codes "legal " ++ decimal (length i - 1)))))
 
+-- the text of stored views, if a file of them may have so many bytes
+abbrev pub store_told : Graph → Instance → List View → Order Question
+store_told g i views =
+    if nat_lt most_store_bytes (length (store_text g i views)) then refused (codes "store TooLong")
+    else Told Yes (store_text g i views)
+
 -- the schema, the categories from left to right, the instance and its laws, and then the facts
 abbrev pub store_order : (schema instance facts : List ℕ) (categories : List (List ℕ)) → Order Question
 store_order schema instance facts categories =
@@ -48,7 +56,7 @@ store_order schema instance facts categories =
     and_then (different_words (codes "DuplicateView") s.graph 5 [] categories) (λ cs.
     and_then (legal_file s (codes "instance") instance) (λ i.
     and_then (facts_file s i (codes "facts") facts) (λ table.
-    Told Yes (store_text s.graph i (direct_views i table cs))))))
+    store_told s.graph i (direct_views i table cs)))))
 
 -- facts at the instance's members, and the stored views after them; a fault of the facts comes before a fault of a view
 abbrev pub changed_text : Step → Schema → Instance → List View → List ℕ → Order (List View)
@@ -64,7 +72,7 @@ change_order step schema instance store facts =
     and_then (store_file s i (codes "store") store) (λ views.
     and_then (text_file (codes "facts") most_facts_bytes facts) (λ text.
     and_then (changed_text step s i views text) (λ changed.
-    Told Yes (store_text s.graph i changed))))))
+    store_told s.graph i changed)))))
 
 -- the answer is yes if there are none
 abbrev pub breaks_status : List Break → Status

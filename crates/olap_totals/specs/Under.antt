@@ -11,14 +11,13 @@ use Rattle.olap_base.specs.Limits.{most_facts_bytes}
 use Rattle.olap_base.specs.Views.{View, direct_view, direct_views}
 use Rattle.olap_ast.specs.Schema.{Schema}
 use Rattle.olap_delta.specs.Changes.{Step}
-use Rattle.olap_view.specs.StoreText.{store_text}
 use Rattle.olap_view.specs.ViewText.{view_text}
 use Rattle.olap_order.specs.Order.{Order, Told, and_then}
 use Rattle.olap_order.specs.Outputs.{line}
 use Rattle.olap_order.specs.Steps.{category_word, different_words, text_file}
 use Rattle.olap_reading.specs.Steps.{facts_file, legal_file, store_file}
 use Rattle.olap_order.specs.declared.status.Status.TheVariants.{Yes}
-use Rattle.olap_totals.specs.Commands.{breaks_status, changed_text}
+use Rattle.olap_totals.specs.Commands.{breaks_status, changed_text, store_told}
 use Rattle.olap_breaks.specs.Breaks.{breaks, breaks_text}
 use Rattle.olap_totals.specs.Questions.{Question}
 
@@ -41,7 +40,7 @@ abbrev pub store_of : Schema → (instance facts : List ℕ) (categories : List 
 store_of s instance facts cs =
     and_then (legal_file s (codes "instance") instance) (λ i.
     and_then (facts_file s i (codes "facts") facts) (λ table.
-    Told Yes (store_text s.graph i (direct_views i table cs))))
+    store_told s.graph i (direct_views i table cs)))
 
 -- the categories from left to right, and then what is left of the order
 abbrev pub store_under : Schema → (instance facts : List ℕ) (categories : List (List ℕ)) → Order Question
@@ -63,7 +62,7 @@ breaks_under s instance target sources =
 -- each fact of the text at the views
 abbrev pub change_told : Step → Schema → Instance → List View → (text : List ℕ) → Order Question
 change_told step s i views text =
-    and_then (changed_text step s i views text) (λ changed. Told Yes (store_text s.graph i changed))
+    and_then (changed_text step s i views text) (λ changed. store_told s.graph i changed)
 
 -- the facts, and then what is left
 abbrev pub change_by : Step → Schema → Instance → List View → (facts : List ℕ) → Order Question

@@ -4,23 +4,22 @@ ghost use Rattle.olap_delta.specs.Changing.{step_of};
 ghost use Rattle.olap_instance.specs.Made.{IsMadeFor};
 ghost use Rattle.olap_schema.specs.Schemas.{schema_of};
 ghost use Rattle.olap_view.specs.Seen.{views_of};
-ghost use Rattle.olap_view.specs.StoreText.{store_text};
 ghost use Rattle.olap_view.specs.Stores.{IsInFileOrder, IsSoundStore};
 ghost use Rattle.olap_order.specs.Judged.{Judged, Replies};
-ghost use Rattle.olap_order.specs.Order.{Told};
 ghost use Rattle.olap_order.specs.Taken.{PlainStep};
 ghost use Rattle.olap_totals.specs.Commands.{changed_text};
 ghost use Rattle.olap_totals.specs.Under.{change_by, change_of, change_told, change_under};
 ghost use Rattle.olap_totals.specs.Questions.{IsAnswer};
 
+use crate::storing::told;
 use olap_base::{MOST_FACTS_BYTES, Refusal};
 use olap_delta::{Change, change_by_text};
 use olap_legal::Legal;
-use olap_order::{Reply, Status, Stop, refuse_part, text_in, yes};
+use olap_order::{Reply, Stop, refuse_part, text_in};
 use olap_outside::Library;
 use olap_reading::{legal_in, store_in};
 use olap_schema::Schema;
-use olap_view::{Store, print_store};
+use olap_view::Store;
 use std::alloc::Global;
 
 /// The stored views after the change by the facts of a text.
@@ -51,16 +50,6 @@ fn changed_by(
         )),
         Err(Refusal::Memory(memory)) => Err(Stop::Memory(memory)),
     }
-}
-
-/// The text of stored views.
-fn told(alloc: Global, schema: &Schema, legal: &Legal, store: &Store) -> Result<Reply, Stop>
-    requires sound { IsSoundStore (schema_of schema.now).graph legal.now (views_of store.now) }
-    ensures replies { Replies IsAnswer (Told Status.Yes (store_text (schema_of schema.now).graph
-        legal.now (views_of store.now))) result }
-{
-    let text = print_store(alloc, schema.graph(), legal.instance(), store)?;
-    Ok(yes(text.into_bytes()))
 }
 
 /// The text of stored views after the change by the facts of a text.

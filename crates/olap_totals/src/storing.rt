@@ -3,24 +3,39 @@ ghost use Rattle.std.specs.Prelude.{◌≢◌, ◌<◌, ◌^◌, All, AllPairs, 
 ghost use Rattle.olap_base.specs.Graph.{IsCategory};
 ghost use Rattle.olap_base.specs.Views.{direct_views};
 ghost use Rattle.olap_instance.specs.Made.{IsMadeFor};
-ghost use Rattle.olap_view.specs.StoreText.{store_text};
 ghost use Rattle.olap_schema.specs.Schemas.{schema_of};
-ghost use Rattle.olap_view.specs.Seen.{ids};
+ghost use Rattle.olap_view.specs.Seen.{ids, views_of};
+ghost use Rattle.olap_totals.specs.Commands.{store_told};
 ghost use Rattle.olap_totals.specs.Under.{store_of, store_under};
-ghost use Rattle.olap_order.specs.Judged.{Judged};
-ghost use Rattle.olap_order.specs.Order.{Told, and_then};
+ghost use Rattle.olap_order.specs.Judged.{Judged, Replies};
+ghost use Rattle.olap_order.specs.Order.{and_then};
 ghost use Rattle.olap_totals.specs.Questions.{IsAnswer};
 ghost use Rattle.olap_reading.specs.Steps.{facts_file};
 ghost use Rattle.olap_order.specs.Words.{texts};
 
-use olap_base::CatId;
+use olap_base::{CatId, MOST_STORE_BYTES};
 use olap_legal::Legal;
-use olap_order::{Reply, Status, Stop, categories_at, yes};
+use olap_order::{Reply, Stop, categories_at, refuse_long, yes};
 use olap_outside::Library;
 use olap_reading::{legal_in, views_in};
 use olap_schema::Schema;
 use olap_view::{Store, print_store};
 use std::alloc::Global;
+
+/// The text of stored views, if a file of them may have so many bytes.
+pub(crate) fn told(alloc: Global, schema: &Schema, legal: &Legal, store: &Store) -> Result<Reply, Stop>
+    requires categories { All (λ v. IsCategory (schema_of schema.now).graph v.category) (views_of store.now) }
+    requires at_members { All (λ v. All (λ r. r.member < length legal.now) v.rows) (views_of store.now) }
+    ensures replies { Replies IsAnswer
+        (store_told (schema_of schema.now).graph legal.now (views_of store.now)) result }
+{
+    let text = print_store(alloc, schema.graph(), legal.instance(), store)?;
+    let bytes = text.into_bytes();
+    if bytes.len() as u64 > MOST_STORE_BYTES {
+        return Err(refuse_long(alloc, "store"));
+    }
+    Ok(yes(bytes))
+}
 
 /// The direct views of some categories, from the facts in a file.
 fn stored<L: Library>(
@@ -36,12 +51,12 @@ fn stored<L: Library>(
     requires differ { AllPairs ◌≢◌ (ids categories.now) }
     ensures judged { Judged IsAnswer L.Library lib.old lib.new
         (and_then (facts_file (schema_of schema.now) legal.now (codes "facts") file.now) (λ table.
-        Told Status.Yes (store_text (schema_of schema.now).graph legal.now
-        (direct_views legal.now table (ids categories.now))))) result }
+        store_told (schema_of schema.now).graph legal.now
+        (direct_views legal.now table (ids categories.now)))) result }
 {
     let views = views_in(alloc, schema, legal, categories, file, lib)?;
-    let text = print_store(alloc, schema.graph(), legal.instance(), &Store { views })?;
-    Ok(yes(text.into_bytes()))
+    let store = Store { views };
+    told(alloc, schema, legal, &store)
 }
 
 /// The direct views of some categories, from an instance and facts.
