@@ -177,7 +177,7 @@ held_text : (files : Files) (label file text : List ℕ) (most : ℕ) → files 
 held_text files label file text most held short =
     subst (λ (o : Option (List ℕ)). MatchOption o ⊥
     (λ t. ComesOut files (cond (nat_lt most (length t)) (refused _) (Done t)) text)) (sym held)
-    (subst (λ b. ComesOut files (cond b (refused _) (Done text)) text) (sym (le-ltb (length text) most short)) refl)
+    (subst (λ b. ComesOut files (cond b (refused _) (Done text)) text) (sym (le-ltb most (length text) short)) refl)
 
 -- ---- the orders
 
@@ -277,8 +277,8 @@ module _ (form : Form) (schema target : List ℕ) (sources : List (List ℕ)) wh
 -- what `prove` writes, `verify` accepts
 pub proved_is_accepted : ProvedIsAccepted
 proved_is_accepted Long schema certificate target sources files text few g held short =
-    few_words files _ _ Yes (line (codes "accepted")) (le-ltb _ most_words few)
+    few_words files _ _ Yes (line (codes "accepted")) (le-ltb most_words _ few)
     (accepted Long schema target sources certificate files text held short (no_usage files _ _ text g))
 proved_is_accepted Short schema certificate target sources files text few g held short =
-    few_words files _ _ Yes (line (codes "accepted")) (le-ltb _ most_words few)
+    few_words files _ _ Yes (line (codes "accepted")) (le-ltb most_words _ few)
     (accepted Short schema target sources certificate files text held short (no_usage files _ _ text g))
