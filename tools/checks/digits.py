@@ -42,7 +42,7 @@ def faults():
         if crate in sources.TESTS or file.stem.lower() in ("limits", "tests"):
             continue
         for place, line in enumerate(text.splitlines(), 1):
-            line = re.sub(r"\d+ bits|2 \^ \d+|64 \* W|ghost use.*", "", line)
+            line = re.sub(r"\d+ bits|2 ?\^ ?\d+|64 \* W|ghost use.*", "", line)
             for number in NUMBER.findall(line):
                 if int(re.sub(r"\D", "", number)) in limits and number not in OTHERS.get(crate, ()):
                     yield file, f"line {place}: a limit as a number: {number}"
