@@ -52,7 +52,7 @@ _olap_places() {
     summarizable | prove | prove-short | needs) places='fcd' ;;
     verify | verify-short | breaks) places='ffcd' ;;
     implies) places='frn' ;;
-    satisfiable | frozen) places='fc' ;;
+    satisfiable | frozen | shapes) places='fc' ;;
     store) places='fffd' ;;
     answer) places='fffc' ;;
     append | retract) places='ffff' ;;
@@ -93,7 +93,7 @@ _olap() {
     current=${words[-1]}
     if [[ ${#words[@]} -le 2 ]]; then
         compopt +o default
-        for each in rollup check format summarizable prove verify prove-short verify-short needs breaks implies satisfiable frozen audit store answer append retract cube cubeview generate; do
+        for each in rollup check format summarizable prove verify prove-short verify-short needs breaks implies satisfiable frozen shapes audit store answer append retract cube cubeview generate; do
             if [[ $each == "$current"* ]]; then COMPREPLY+=("$each"); fi
         done
         return

@@ -26,7 +26,7 @@ function __olap_places
             echo ffcd
         case implies
             echo frn
-        case satisfiable frozen
+        case satisfiable frozen shapes
             echo fc
         case store
             echo fffd
@@ -40,7 +40,7 @@ function __olap_candidates
     set -l place (math (count $words) - 1)
     if test $place -eq 0
         printf '%s\n' rollup check format summarizable prove verify prove-short verify-short needs breaks implies satisfiable \
-            frozen audit store answer append retract cube cubeview generate
+            frozen shapes audit store answer append retract cube cubeview generate
         return
     end
     if contains -- $words[2] cube cubeview

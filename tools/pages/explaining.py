@@ -13,7 +13,7 @@ from .texts import ESCAPED, STRING
 
 # Kinds whose cause the record alone doesn't show.
 WITH_CAUSE = ("UnknownCategory", "UnknownParent", "UnknownMember", "DuplicateId", "BadHeader")
-OF_SCHEMA = ("format", "satisfiable", "implies", "summarizable", "frozen", "audit", "prove", "prove-short", "needs")
+OF_SCHEMA = ("format", "satisfiable", "implies", "summarizable", "frozen", "shapes", "audit", "prove", "prove-short", "needs")
 # Of each command, what its words are after its name.
 FILES = {
     "rollup": ("schema", "instance", "facts"), "store": ("schema", "instance", "facts"), "answer": ("schema", "instance", "store"),
@@ -191,7 +191,7 @@ def explained(words: list[str], printed: str) -> Iterator[str]:
         yield from of_word(words, int(found[1]), found[2])
     elif found := re.fullmatch(r"rejected line (\d+)", said):
         yield from of_rejected(words, int(found[1]))
-    elif re.fullmatch(r"refused (\w+)(?: \d)? TooLong|refused (?:frozen|needs) TooMany|refused answer NotAnswerable", said):
+    elif re.fullmatch(r"refused (\w+)(?: \d)? TooLong|refused (?:frozen|needs|shapes) TooMany|refused answer NotAnswerable", said):
         yield from told(manual.sentence_on(re.sub(r" \d ", " ", said)))
     elif found := re.fullmatch(r"refused instance( \d)? ([A-Z]\w+) (.*)\n", printed, re.S):
         yield from of_violation(words, found[1] or "", found[2], found[3])

@@ -1,6 +1,7 @@
 -- Lemmas.
 mod CertificateLemmas
 mod ListingLemmas
+mod ShapeLemmas
 mod LineLemmas
 mod OneAnswer
 mod SomeNeeds

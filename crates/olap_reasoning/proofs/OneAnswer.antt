@@ -22,7 +22,9 @@ use Rattle.olap_reasoning.specs.Certificates.{ShowsDifference, ShowsMember, Show
 use Rattle.olap_reasoning.specs.Laws.{AllFrozenAreOne, AnswersAreOne, AreCertificates, FindingsAreOne, TooManyAreNotListed}
 use Rattle.olap_reasoning.specs.Listings.{HasTooMany, ListsFindings, ListsFrozen, finding_text}
 use Rattle.olap_reasoning.proofs.NeedsLemmas.{one_needs}
-use Rattle.olap_reasoning.specs.Questions.{IsAnswer, Question, BySatisfiable, ByImplied, BySummarizable, ByProof, ByNeeds, ByFrozen, ByAudit}
+use Rattle.olap_reasoning.specs.ShapeListings.{HasTooManyShapes, ListsShapes}
+use Rattle.olap_reasoning.proofs.ShapeLemmas.{shapes_are_one, too_many_shapes_are_not_listed}
+use Rattle.olap_reasoning.specs.Questions.{IsAnswer, Question, BySatisfiable, ByImplied, BySummarizable, ByProof, ByNeeds, ByFrozen, ByShapes, ByAudit}
 
 -- ---- the line of a frozen dimension
 
@@ -99,6 +101,19 @@ no_listing s c ys m l =
     t.some l.all.complete t.differ t.sound in
     let many = t.many in let few = l.few in omega (arith, r, many, few)
 
+-- the list of all shapes has one text
+one_shaping : (s : Schema) (c : ℕ) (xs ys : List ℕ) → ListsShapes s c xs → ListsShapes s c ys → xs ≡ ys
+one_shaping s c xs ys a b =
+    let k = a.candidates in let h = b.candidates in
+    let p : a.shapes ≡ b.shapes = shapes_are_one s Truth c k h a.shapes b.shapes a.all b.all in
+    let m : (f : Frozen) → frozen_text s.graph k c f ≡ frozen_text s.graph h c f = λ f.
+    same_line s.graph k h c c f f refl refl (λ d. same_name s Truth k h a.all.candidates b.all.candidates f d) in
+    a.text ∙ (λ i. flat_map (λ f. m f i) (p i) ++ line (codes "count " ++ decimal (length (p i)))) ∙ sym b.text
+
+-- there is none where they are too many
+no_shaping : (s : Schema) (c : ℕ) (ys : List ℕ) → HasTooManyShapes s c → ListsShapes s c ys → ⊥
+no_shaping = too_many_shapes_are_not_listed
+
 -- the findings have one text
 one_audit : (s : Schema) (xs ys : List ℕ) → ListsFindings s xs → ListsFindings s ys → xs ≡ ys
 one_audit s xs ys a b =
@@ -135,6 +150,10 @@ one_answer (ByFrozen z c) s t xs ys (inl a) (inl b) = (a.0 ∙ sym b.0, inl (one
 one_answer (ByFrozen z c) s t xs ys (inl a) (inr b) = absurd (no_listing z c xs b.1 a.1)
 one_answer (ByFrozen z c) s t xs ys (inr a) (inl b) = absurd (no_listing z c ys a.1 b.1)
 one_answer (ByFrozen z c) s t xs ys (inr a) (inr b) = (a.0 ∙ sym b.0, inl (a.2 ∙ sym b.2))
+one_answer (ByShapes z c) s t xs ys (inl a) (inl b) = (a.0 ∙ sym b.0, inl (one_shaping z c xs ys a.1 b.1))
+one_answer (ByShapes z c) s t xs ys (inl a) (inr b) = absurd (no_shaping z c xs b.1 a.1)
+one_answer (ByShapes z c) s t xs ys (inr a) (inl b) = absurd (no_shaping z c ys a.1 b.1)
+one_answer (ByShapes z c) s t xs ys (inr a) (inr b) = (a.0 ∙ sym b.0, inl (a.2 ∙ sym b.2))
 one_answer (ByAudit z) s t xs ys a b = (a.0 ∙ sym b.0, inl (one_audit z xs ys a.1 b.1))
 
 -- so it is of all questions

@@ -11,7 +11,7 @@ use Rattle.olap_order.specs.Steps.{category_word, different_words, formula_word,
 use Rattle.olap_order.specs.declared.status.Status.TheVariants.{Yes}
 use Rattle.olap_proof.specs.declared.forms.Form.{Form}
 use Rattle.olap_proof.specs.declared.forms.Form.TheVariants.{Long, Short}
-use Rattle.olap_reasoning.specs.Questions.{Question, BySatisfiable, ByImplied, BySummarizable, ByProof, ByNeeds, ByFrozen, ByAudit}
+use Rattle.olap_reasoning.specs.Questions.{Question, BySatisfiable, ByImplied, BySummarizable, ByProof, ByNeeds, ByFrozen, ByShapes, ByAudit}
 
 -- the schema alone
 abbrev pub format_order : (schema : List ℕ) → Order Question
@@ -60,6 +60,13 @@ frozen_order schema category =
     and_then (category_word s.graph 3 category) (λ c.
     Done (ByFrozen s c)))
 
+-- the schema, and the category
+abbrev pub shapes_order : (schema category : List ℕ) → Order Question
+shapes_order schema category =
+    and_then (schema_file (codes "schema") schema) (λ s.
+    and_then (category_word s.graph 3 category) (λ c.
+    Done (ByShapes s c)))
+
 -- the schema alone
 abbrev pub audit_order : (schema : List ℕ) → Order Question
 audit_order schema = and_then (schema_file (codes "schema") schema) (λ s. Done (ByAudit s))
@@ -75,5 +82,6 @@ order_named name words =
     else if bytes_eq name (codes "prove-short") then by_two_or_more (prove_order Short) words
     else if bytes_eq name (codes "needs") then by_two_or_more needs_order words
     else if bytes_eq name (codes "frozen") then by_two frozen_order words
+    else if bytes_eq name (codes "shapes") then by_two shapes_order words
     else if bytes_eq name (codes "audit") then by_one audit_order words
     else None

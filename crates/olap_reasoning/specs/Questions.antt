@@ -15,6 +15,7 @@ use Rattle.olap_proof.specs.declared.forms.Form.{Form}
 use Rattle.olap_reasoning.specs.Certificates.{ShowsMember, ShowsUnmet, ShowsDifference}
 use Rattle.olap_reasoning.specs.Listings.{HasTooMany, ListsFindings, ListsFrozen}
 use Rattle.olap_reasoning.specs.Needing.{HasNoRoom, ListsEmptied, ListsNeeds}
+use Rattle.olap_reasoning.specs.ShapeListings.{HasTooManyShapes, ListsShapes}
 
 -- a command's question, with all that it needs
 pub data Question : Type 0 where
@@ -30,6 +31,8 @@ pub data Question : Type 0 where
   ByNeeds : (schema : Schema) (target : ℕ) (sources : List ℕ) → Question
   -- which frozen dimensions with this root are there?
   ByFrozen : (schema : Schema) (root : ℕ) → Question
+  -- which sets of edges do they have?
+  ByShapes : (schema : Schema) (root : ℕ) → Question
   -- what does the schema say or do for nothing?
   ByAudit : (schema : Schema) → Question
 
@@ -54,4 +57,7 @@ IsAnswer (ByNeeds s c sources) status bytes =
 IsAnswer (ByFrozen s c) status bytes =
     ((status ≡ Yes) × ListsFrozen s c bytes)
     ⊎ ((status ≡ Refused) × HasTooMany s c × (bytes ≡ refusal (codes "frozen TooMany")))
+IsAnswer (ByShapes s c) status bytes =
+    ((status ≡ Yes) × ListsShapes s c bytes)
+    ⊎ ((status ≡ Refused) × HasTooManyShapes s c × (bytes ≡ refusal (codes "shapes TooMany")))
 IsAnswer (ByAudit s) status bytes = (status ≡ Yes) × ListsFindings s bytes

@@ -9,7 +9,7 @@ use Rattle.olap_order.specs.Order.{Order, Done, Told, and_then}
 use Rattle.olap_order.specs.Steps.{schema_file}
 use Rattle.olap_order.specs.Words.{texts}
 use Rattle.olap_order.specs.declared.status.Status.TheVariants.{Yes}
-use Rattle.olap_reasoning.specs.Under.{frozen_under, implies_under, satisfiable_under, sources_under}
+use Rattle.olap_reasoning.specs.Under.{frozen_under, implies_under, satisfiable_under, shapes_under, sources_under}
 use Rattle.olap_reasoning.specs.Questions.{Question, ByAudit, ByNeeds, BySummarizable, ByProof}
 use Rattle.olap_reasoning.specs.declared.words.Asked.{Asked}
 use Rattle.olap_reasoning.specs.declared.words.Asked.TheVariants as code
@@ -31,6 +31,7 @@ seen_under s (code.Summarizable what target sources) =
     sources_under (question_of what) s target.now (texts sources.now)
 seen_under s (code.Needs target sources) = sources_under ByNeeds s target.now (texts sources.now)
 seen_under s (code.Frozen category) = frozen_under s category.now
+seen_under s (code.Shapes category) = shapes_under s category.now
 seen_under s code.Audit = Done (ByAudit s)
 
 -- the order of a command

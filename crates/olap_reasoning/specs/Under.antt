@@ -3,7 +3,7 @@ use Rattle.std.specs.Prelude.{ℕ, List, [], codes}
 use Rattle.olap_ast.specs.Schema.{Schema}
 use Rattle.olap_order.specs.Order.{Order, Done, and_then}
 use Rattle.olap_order.specs.Steps.{category_word, different_words, formula_word, root_word}
-use Rattle.olap_reasoning.specs.Questions.{Question, BySatisfiable, ByImplied, ByFrozen}
+use Rattle.olap_reasoning.specs.Questions.{Question, BySatisfiable, ByImplied, ByFrozen, ByShapes}
 
 -- the category
 abbrev pub satisfiable_under : Schema → (category : List ℕ) → Order Question
@@ -27,3 +27,7 @@ sources_under asked s target sources =
 -- the category
 abbrev pub frozen_under : Schema → (category : List ℕ) → Order Question
 frozen_under s category = and_then (category_word s.graph 3 category) (λ c. Done (ByFrozen s c))
+
+-- the category
+abbrev pub shapes_under : Schema → (category : List ℕ) → Order Question
+shapes_under s category = and_then (category_word s.graph 3 category) (λ c. Done (ByShapes s c))

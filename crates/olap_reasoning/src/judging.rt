@@ -13,6 +13,7 @@ use crate::implying::implies;
 use crate::listing::frozen;
 use crate::needing::needs;
 use crate::satisfying::satisfiable;
+use crate::shaping::shapes;
 use crate::summarizing::summarizable;
 use crate::words::{Asked, Command, parse};
 use olap_order::{Reply, Stop, schema_in};
@@ -35,6 +36,7 @@ fn reply(alloc: Global, schema: &Schema, asked: Asked) -> Result<Reply, Stop>
         } => summarizable(alloc, wanted, schema, target, sources),
         Asked::Needs { target, sources } => needs(alloc, schema, target, sources),
         Asked::Frozen { category } => frozen(alloc, schema, category),
+        Asked::Shapes { category } => shapes(alloc, schema, category),
         Asked::Audit => audit(alloc, schema),
     }
 }

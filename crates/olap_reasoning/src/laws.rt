@@ -1,6 +1,7 @@
 // Theorems over the definitions. Each is the clause of a function that does nothing but call others.
 ghost use Rattle.olap_reasoning.specs.Existing.{AnswersExist};
 ghost use Rattle.olap_reasoning.specs.Laws.{AllFrozenAreOne, AnswersAreOne, FindingsAreOne, TooManyAreNotListed};
+ghost use Rattle.olap_reasoning.specs.ShapeLaws.{EachShapeIsListedOnce, ShapesAreOne, TooManyShapesAreNotListed};
 
 use olap_ast::{
     implied_exactly_if_none_frozen, unsatisfiable_exactly_if_none_frozen,
@@ -40,6 +41,21 @@ pub fn all_frozen_are_one()
 /// If there are more frozen dimensions than may be listed, no list has all.
 pub fn too_many_are_not_listed()
     ensures { TooManyAreNotListed }
+{}
+
+/// The least frozen dimensions of all shapes of a root are one list, whichever candidates are taken.
+pub fn shapes_are_one()
+    ensures { ShapesAreOne }
+{}
+
+/// No shape is listed twice, and the edges of each frozen dimension are those of one that is listed.
+pub fn each_shape_is_listed_once()
+    ensures { EachShapeIsListedOnce }
+{}
+
+/// If there are more shapes than may be listed, no list has all.
+pub fn too_many_shapes_are_not_listed()
+    ensures { TooManyShapesAreNotListed }
 {}
 
 /// The findings of a schema are one list.

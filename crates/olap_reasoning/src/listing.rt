@@ -49,7 +49,7 @@ fn push_lines(
 }
 
 /// The line of each frozen dimension, and how many they are.
-fn listed(
+pub(crate) fn listed(
     alloc: Global,
     graph: &Graph,
     candidates: &Candidates,

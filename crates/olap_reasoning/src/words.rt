@@ -2,7 +2,7 @@
 ghost use Rattle.std.specs.Prelude.{◌≡◌, option_map};
 ghost use Rattle.olap_order.specs.Arguments.{by_one, by_three, by_two, by_two_or_more};
 ghost use Rattle.olap_order.specs.Words.{texts};
-ghost use Rattle.olap_reasoning.specs.Commands.{audit_order, format_order, frozen_order, implies_order, needs_order, order_named, satisfiable_order, sources_order};
+ghost use Rattle.olap_reasoning.specs.Commands.{audit_order, format_order, frozen_order, implies_order, needs_order, order_named, satisfiable_order, shapes_order, sources_order};
 ghost use Rattle.olap_reasoning.specs.Seen.{question_of, seen};
 
 use olap_proof::Form;
@@ -50,6 +50,10 @@ pub(crate) enum Asked<'a> {
     },
     /// All frozen dimensions with a root.
     Frozen {
+        category: &'a str,
+    },
+    /// The least frozen dimension of each shape of a root.
+    Shapes {
         category: &'a str,
     },
     /// What it says or does for nothing.
@@ -149,6 +153,21 @@ fn frozen(words: &[String]) -> Option<Command<'_>>
     }
 }
 
+/// The words after `shapes`.
+fn shapes(words: &[String]) -> Option<Command<'_>>
+    ensures { option_map seen result ≡ by_two shapes_order (texts words.now) }
+{
+    match words {
+        [schema, category] => Some(Command {
+            schema: schema.as_str(),
+            asked: Asked::Shapes {
+                category: category.as_str(),
+            },
+        }),
+        _ => None,
+    }
+}
+
 /// The words after `audit`.
 fn audit(words: &[String]) -> Option<Command<'_>>
     ensures { option_map seen result ≡ by_one audit_order (texts words.now) }
@@ -175,6 +194,7 @@ pub(crate) fn parse<'a>(name: &str, words: &'a [String]) -> Option<Command<'a>>
         "prove-short" => summarizable(Wanted::Certificate(Form::Short), words),
         "needs" => needs(words),
         "frozen" => frozen(words),
+        "shapes" => shapes(words),
         "audit" => audit(words),
         _ => None,
     }

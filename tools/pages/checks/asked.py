@@ -257,7 +257,7 @@ SAID = (
     ("schema line 1 RootIsAll", "the root of a constraint"), ("word 3 RootIsAll", "the root of implies"),
     ("facts TooLong", "too many bytes"),
     ("schema line 1 BadForm", "none of the forms"), ("word 3 BadForm", "joined by commas"), ("frozen TooMany", "than are listed"),
-    ("needs TooMany", "constraints or nodes"),
+    ("needs TooMany", "constraints or nodes"), ("shapes TooMany", "more shapes than are listed"),
 )  # fmt: skip
 
 

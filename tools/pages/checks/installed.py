@@ -205,6 +205,7 @@ def completion_faults(room: Path) -> Iterator[str]:
         f"olap verify {quoted} c Store Stage A": ["All"],
         "olap nothing x ": [],
         f"olap frozen {quoted} St": ["Store", "Stage"],
+        f"olap shapes {quoted} St": ["Store", "Stage"],
         f"olap frozen {escaped} ": ["Store", "Stage", "All"],
         f"olap implies {quoted} ": ["Store", "Stage"],
         f"olap summarizable {quoted} Store Stage ": ["Store", "All"],

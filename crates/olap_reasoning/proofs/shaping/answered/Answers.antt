@@ -1,0 +1,42 @@
+-- The candidates are those of the search, and its root is the root.
+use Rattle.std.proofs.Common.{◌≡◌, map, sym, subst, ◌∙◌}
+use Rattle.std.specs.Prelude.{All, IfErr, IfOk}
+use Rattle.olap_ast.specs.Formula.{Formula.Truth}
+use Rattle.olap_base.specs.Limits.{most_frozen}
+use Rattle.olap_base.specs.Refusing.{IsFor}
+use Rattle.olap_dimsat.specs.Shapes.{AreMoreShapes, AreShapes}
+use Rattle.olap_dimsat.specs.Searches.{candidates_in}
+use Rattle.olap_frozen.specs.LeastFound.{frozen_of}
+use Rattle.olap_frozen.specs.Leaves.{IsSized}
+use Rattle.olap_names.specs.Names.{Named, candidates_of}
+use Rattle.olap_schema.specs.Schemas.{schema_of}
+use Rattle.olap_reasoning.proofs.shaping.answered.Goals as goal
+
+pub told-requires-clause-all : goal.told-requires-clause-all
+told-requires-clause-all c =
+    let s = schema_of c.args.schema.now in
+    let o = c.shapes-shapes.result in
+    subst (λ (k : Named). IfOk o (λ fs. AreShapes s Truth c.args.root.0 (candidates_of k) (map frozen_of fs)))
+    (sym (c.into_candidates-candidates.ensures ∙ c.shapes-shapes.ensures.candidates))
+    (subst (λ q. IfOk o (λ fs. AreShapes s Truth q (candidates_in c.in_ok-search.search) (map frozen_of fs)))
+    c.in_ok-search.ensures.root c.shapes-shapes.ensures.all)
+
+pub told-requires-clause-roots : goal.told-requires-clause-roots
+told-requires-clause-roots c =
+    subst (λ q. IfOk c.shapes-shapes.result (λ fs. All (λ f. f.root.0 ≡ q) fs)) c.in_ok-search.ensures.root
+    c.shapes-shapes.ensures.roots
+
+pub told-requires-clause-sized : goal.told-requires-clause-sized
+told-requires-clause-sized c =
+    let s = schema_of c.args.schema.now in
+    subst (λ (k : Named). IfOk c.shapes-shapes.result (λ fs. All (λ f. IsSized s.graph k f.edges f.names) fs))
+    (sym (c.into_candidates-candidates.ensures ∙ c.shapes-shapes.ensures.candidates)) c.shapes-shapes.ensures.sized
+
+pub told-requires-clause-too_many : goal.told-requires-clause-too_many
+told-requires-clause-too_many c =
+    let s = schema_of c.args.schema.now in
+    let o = c.shapes-shapes.result in
+    subst (λ (k : Named). IfErr o (IsFor (λ e. AreMoreShapes most_frozen s Truth c.args.root.0 (candidates_of k))))
+    (sym (c.into_candidates-candidates.ensures ∙ c.shapes-shapes.ensures.candidates))
+    (subst (λ q. IfErr o (IsFor (λ e. AreMoreShapes most_frozen s Truth q (candidates_in c.in_ok-search.search))))
+    c.in_ok-search.ensures.root c.shapes-shapes.ensures.too_many)
