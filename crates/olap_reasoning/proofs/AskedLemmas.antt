@@ -11,10 +11,10 @@ use Rattle.olap_order.specs.declared.status.Status.TheVariants.{Yes}
 use Rattle.olap_order.proofs.Coming.{Comes, MayCome, asked, may_either, may_one, may_three, may_two, may_two_or_more, no_order, pass, then_comes, told}
 use Rattle.olap_order.proofs.ComingSteps.{formula_comes, root_declared, under_schema}
 use Rattle.olap_proof.specs.declared.forms.Form.TheVariants.{Long, Short}
-use Rattle.olap_reasoning.specs.Commands.{audit_order, format_order, frozen_order, implies_order, order_named, prove_order, satisfiable_order, sources_order, summarizable_order, needs_order}
+use Rattle.olap_reasoning.specs.Commands.{audit_order, format_order, frozen_order, implies_order, order_named, prove_order, satisfiable_order, sources_order, summarizable_order, needs_order, shapes_order}
 use Rattle.olap_reasoning.specs.Existing.{IsAsked}
-use Rattle.olap_reasoning.specs.Questions.{Question, BySatisfiable, ByImplied, BySummarizable, ByProof, ByFrozen, ByAudit, ByNeeds}
-use Rattle.olap_reasoning.specs.Under.{frozen_under, implies_under, satisfiable_under, sources_under}
+use Rattle.olap_reasoning.specs.Questions.{Question, BySatisfiable, ByImplied, BySummarizable, ByProof, ByFrozen, ByAudit, ByNeeds, ByShapes}
+use Rattle.olap_reasoning.specs.Under.{frozen_under, implies_under, satisfiable_under, sources_under, shapes_under}
 use Rattle.olap_schema_text.specs.Laws.{ReadQuestionsAreValid, ReadSchemasAreReadable}
 use Rattle.olap_schema_text.specs.Printing.{schema_text}
 
@@ -49,6 +49,10 @@ module _ (readable : ReadSchemasAreReadable) (questions : ReadQuestionsAreValid)
   of_frozen a b = under_schema readable IsAsked (codes "schema") a (λ s. frozen_under s b) (λ s v.
       pass IsAsked (category_word s.graph 3 b) (λ c. Done (ByFrozen s c)) (λ c. asked IsAsked (ByFrozen s c) v.valid))
 
+  of_shapes : (a b : List ℕ) → Comes IsAsked (shapes_order a b)
+  of_shapes a b = under_schema readable IsAsked (codes "schema") a (λ s. shapes_under s b) (λ s v.
+      pass IsAsked (category_word s.graph 3 b) (λ c. Done (ByShapes s c)) (λ c. asked IsAsked (ByShapes s c) v.valid))
+
   of_audit : (a : List ℕ) → Comes IsAsked (audit_order a)
   of_audit a = under_schema readable IsAsked (codes "schema") a (λ s. Done (ByAudit s)) (λ s v.
       asked IsAsked (ByAudit s) v.valid)
@@ -68,4 +72,5 @@ module _ (readable : ReadSchemasAreReadable) (questions : ReadQuestionsAreValid)
       (may_either IsAsked _ _ _ (may_two_or_more IsAsked needs_order
       (of_sources ByNeeds (λ s c cs v. v)) words)
       (may_either IsAsked _ _ _ (may_two IsAsked frozen_order of_frozen words)
-      (may_either IsAsked _ _ _ (may_one IsAsked audit_order of_audit words) (no_order IsAsked)))))))))
+      (may_either IsAsked _ _ _ (may_two IsAsked shapes_order of_shapes words)
+      (may_either IsAsked _ _ _ (may_one IsAsked audit_order of_audit words) (no_order IsAsked))))))))))

@@ -5,6 +5,7 @@ mod ShapeLemmas
 mod LineLemmas
 mod OneAnswer
 mod SomeNeeds
+mod SomeShapes
 mod SomeAnswer
 pub mod AskedLemmas
 mod ReplyLemmas

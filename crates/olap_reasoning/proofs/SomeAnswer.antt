@@ -25,8 +25,9 @@ use Rattle.olap_proof.specs.Verifying.{IsCertificateFor}
 use Rattle.olap_reasoning.specs.Certificates.{ShowsDifference}
 use Rattle.olap_reasoning.specs.Existing.{AnswersExist}
 use Rattle.olap_reasoning.specs.Listings.{finding_text}
-use Rattle.olap_reasoning.specs.Questions.{IsAnswer, Question, BySatisfiable, ByImplied, BySummarizable, ByProof, ByFrozen, ByAudit, ByNeeds}
+use Rattle.olap_reasoning.specs.Questions.{IsAnswer, Question, BySatisfiable, ByImplied, BySummarizable, ByProof, ByFrozen, ByAudit, ByNeeds, ByShapes}
 use Rattle.olap_reasoning.proofs.SomeNeeds.{needs_exist}
+use Rattle.olap_reasoning.proofs.SomeShapes.{shapes_exist}
 
 -- so many at most, or more
 few_or_more : (n m : ℕ) → (n ≤ m) ⊎ (m < n)
@@ -152,6 +153,7 @@ module _ (least : LeastFrozenExist) (lists : FrozenAreListed) (counterexamples :
   ]
   answers_exist (ByNeeds s c sources) v = needs_exist least implied leave of_sources s c sources v
   answers_exist (ByFrozen s c) v = listed lists candidates s c v
+  answers_exist (ByShapes s c) v = shapes_exist lists candidates s c v
   answers_exist (ByAudit s) v =
       let t = findings s v in (
         Yes,

@@ -4,7 +4,7 @@
 use Rattle.std.specs.Prelude.{ℕ, List}
 use Rattle.olap_ast.specs.Valid.{IsQuestion, IsValidSchema}
 use Rattle.olap_order.specs.declared.status.Status.{Status}
-use Rattle.olap_reasoning.specs.Questions.{IsAnswer, Question, BySatisfiable, ByImplied, BySummarizable, ByProof, ByFrozen, ByAudit, ByNeeds}
+use Rattle.olap_reasoning.specs.Questions.{IsAnswer, Question, BySatisfiable, ByImplied, BySummarizable, ByProof, ByFrozen, ByAudit, ByNeeds, ByShapes}
 
 -- what is asked is of a valid schema, and a formula is one of it
 abbrev pub IsAsked : Question → Type 0
@@ -14,6 +14,7 @@ IsAsked (BySummarizable s c sources) = IsValidSchema s
 IsAsked (ByProof f s c sources) = IsValidSchema s
 IsAsked (ByNeeds s c sources) = IsValidSchema s
 IsAsked (ByFrozen s c) = IsValidSchema s
+IsAsked (ByShapes s c) = IsValidSchema s
 IsAsked (ByAudit s) = IsValidSchema s
 
 -- such a question has a status and bytes that answer it
