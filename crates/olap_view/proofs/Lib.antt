@@ -11,6 +11,7 @@ mod SummaryTableLemmas
 mod TallyLemmas
 mod MergingLemmas
 pub mod RollingUpLemmas
+mod RollerLemmas
 mod StoredNumbersLemmas
 mod StoredRowsLemmas
 mod StoreReadingLemmas

@@ -30,7 +30,7 @@ pub use laws::{
     read_stores_are_sound,
 };
 pub use printing::{print_view, print_view_behind};
-pub use rolling_up::roll_up;
+pub use rolling_up::{Roller, roll_up};
 pub use storing::{print_store, read_store};
 pub use summaries::Summary;
 pub use summary_tables::SummaryTable;
