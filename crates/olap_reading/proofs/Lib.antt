@@ -1,3 +1,4 @@
 -- Lemmas.
 mod TellingLemmas
 mod ReadingLemmas
+mod RollingLemmas

@@ -1,6 +1,7 @@
 -- A file whose text has a fault is refused, and so is the run.
---     fault_told    where a text comes to a refusal, the file does
-use Rattle.std.proofs.Common.{◌≡◌, ◌≤◌, ◌++◌, ℕ, List, Option, None, Some, MatchOption, Result, Err, false, length, codes, refl, subst, sym, arith, nat_lt}
+--     fault_read    where a text comes to a refusal, the file does
+--     fault_told    the same of a file that has no more bytes than a limit
+use Rattle.std.proofs.Common.{◌≡◌, ◌≤◌, ◌++◌, ◌∙◌, ℕ, List, Option, None, Some, MatchOption, Result, Err, false, length, codes, refl, subst, sym, arith, nat_lt}
 use Rattle.std.specs.Prelude.{if◌then◌else◌}
 use Rattle.std.proofs.lemmas.Bool.Decides.{nat_tests}
 use Rattle.olap_outside.specs.Files.{Files, IsContent}
@@ -15,30 +16,28 @@ use Rattle.olap_order.specs.declared.replies.Stop.{Stop}
 use Rattle.olap_order.specs.declared.replies.Stop.TheVariants as stops
 use Rattle.olap_order.specs.declared.status.Status.TheVariants as statuses
 
-module _ {T : Type 0} (label file : List ℕ) (most : ℕ) (next : List ℕ → Order T) (text why : List ℕ) where
+module _ {T : Type 0} (file : List ℕ) (next : List ℕ → Order T) (text why : List ℕ) where
   -- over files that have the text
-  over : next text ≡ refused why → length text ≤ most → (told : Option Files) → IsContent told file text
+  over : next text ≡ refused why → (told : Option Files) → IsContent told file text
       → (bytes : List ℕ) → bytes ≡ refusal why
-      → GivesTold NoAnswer told (and_then (text_file label most file) next) statuses.Refused bytes
-  over e few None content bytes is = λ none. absurd none
-  over e few (Some files) content bytes is =
-      let short : nat_lt most (length text) ≡ false = grind (arith, nat_tests, few) in
-      subst (λ o. MatchOption o ⊥ (λ t. Gives NoAnswer files (and_then
-      (if nat_lt most (length t) then refused (label ++ codes " TooLong") else Done t) next) statuses.Refused bytes))
-      (sym content) (rw short (subst (λ o. Gives NoAnswer files o statuses.Refused bytes) (sym e) (refl, is)))
+      → GivesTold NoAnswer told (Read file next) statuses.Refused bytes
+  over e None content bytes is = λ none. absurd none
+  over e (Some files) content bytes is =
+      subst (λ o. MatchOption o ⊥ (λ t. Gives NoAnswer files (next t) statuses.Refused bytes))
+      (sym content) (subst (λ o. Gives NoAnswer files o statuses.Refused bytes) (sym e) (refl, is))
 
   -- the run ends as the order does
-  ends : {D : Type 0} {L : Library D} {old new : D} → next text ≡ refused why → length text ≤ most
+  ends : {D : Type 0} {L : Library D} {old new : D} → next text ≡ refused why
       → IsContent (L.contents old) file text → IsLater L old new → (stop : Stop) → IsRefusal why stop
-      → Judged NoAnswer L old new (and_then (text_file label most file) next) (Err stop)
-  ends {L = L} {old = old} e few content later (stops.Refused bytes) is = record {
-    right = over e few (L.contents old) content bytes.items is;
+      → Judged NoAnswer L old new (Read file next) (Err stop)
+  ends {L = L} {old = old} e content later (stops.Refused bytes) is = record {
+    right = over e (L.contents old) content bytes.items is;
     verdict = tt;
     read = λ h. absurd (cc);
     later = later;
   }
-  ends e few content later stops.Read is = absurd is
-  ends e few content later (stops.Memory m) is = record {
+  ends e content later stops.Read is = absurd is
+  ends e content later (stops.Memory m) is = record {
     right = tt;
     verdict = tt;
     read = λ h. absurd (cc);
@@ -46,13 +45,24 @@ module _ {T : Type 0} (label file : List ℕ) (most : ℕ) (next : List ℕ → 
   }
 
   -- where a text comes to a refusal, the file does
-  pub fault_told : {D X : Type 0} {L : Library D} {old new : D} {meaning : X → T} → next text ≡ refused why
-      → length text ≤ most → IsContent (L.contents old) file text
+  pub fault_read : {D X : Type 0} {L : Library D} {old new : D} {meaning : X → T} → next text ≡ refused why
+      → IsContent (L.contents old) file text
       → IsLater L old new → L.contents new ≡ L.contents old → (stop : Stop) → IsRefusal why stop
-      → FileStep L old new (and_then (text_file label most file) next) meaning (Err stop)
-  fault_told e few content later same stop is = record {
+      → FileStep L old new (Read file next) meaning (Err stop)
+  fault_read e content later same stop is = record {
     comes_out = tt;
-    ends = ends e few content later stop is;
+    ends = ends e content later stop is;
     same = same;
     later = later;
   }
+
+-- the same of a file that has no more bytes than a limit
+pub fault_told : {T : Type 0} (label file : List ℕ) (most : ℕ) (next : List ℕ → Order T) (text why : List ℕ)
+    → {D X : Type 0} {L : Library D} {old new : D} {meaning : X → T} → next text ≡ refused why
+    → length text ≤ most → IsContent (L.contents old) file text
+    → IsLater L old new → L.contents new ≡ L.contents old → (stop : Stop) → IsRefusal why stop
+    → FileStep L old new (and_then (text_file label most file) next) meaning (Err stop)
+fault_told label file most next text why e few =
+    let short : nat_lt most (length text) ≡ false = grind (arith, nat_tests, few) in
+    fault_read file (λ t. and_then (if nat_lt most (length t) then refused (label ++ codes " TooLong") else Done t) next)
+    text why (rw short e)

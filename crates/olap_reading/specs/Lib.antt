@@ -2,5 +2,6 @@
 pub mod Violations
 pub mod Steps
 pub mod OfFacts
--- The inside: what a refused check says.
+-- The inside: what a refused check says, and what an opened file comes to.
 pub mod Broken
+pub mod Rest

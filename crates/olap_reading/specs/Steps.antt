@@ -4,7 +4,7 @@
 --     store_file    stored views of it
 use Rattle.std.specs.Prelude.{List, ℕ, ◌++◌, codes, Option, None, Some}
 use Rattle.olap_base.specs.Instance.{Instance}
-use Rattle.olap_base.specs.Limits.{most_facts, most_facts_bytes, most_instance_bytes, most_store_bytes}
+use Rattle.olap_base.specs.Limits.{most_facts, most_instance_bytes, most_store_bytes}
 use Rattle.olap_base.specs.Views.{Fact, View}
 use Rattle.olap_ast.specs.Schema.{Schema}
 use Rattle.olap_ast.specs.Violation.{Violation}
@@ -17,7 +17,7 @@ use Rattle.olap_view.specs.StoreText.{store_read}
 use Rattle.olap_view.specs.Kinds.{name_of_kind as store_kind}
 use Rattle.olap_check.specs.FirstViolation.{first_violation}
 use Rattle.olap_check.specs.Reports.{told}
-use Rattle.olap_order.specs.Order.{Order, Done, and_then, refused}
+use Rattle.olap_order.specs.Order.{Order, Done, Read, and_then, refused}
 use Rattle.olap_order.specs.Steps.{meaning_or_fault, text_file}
 use Rattle.olap_reading.specs.Violations.{violation_text}
 
@@ -34,9 +34,9 @@ legal_file s label file =
     and_then (meaning_or_fault label (codes "record") instance_kind (instance_read s.graph (records_of text))) (λ i.
     legal_or_violation label s i (first_violation s i)))
 
--- the facts at an instance's members in a file
+-- the facts at an instance's members in a file of any length
 abbrev pub facts_file : Schema → Instance → List ℕ → List ℕ → Order (List Fact)
-facts_file s i label file = and_then (text_file label most_facts_bytes file) (λ text.
+facts_file s i label file = Read file (λ text.
     meaning_or_fault label (codes "record") fact_kind (facts_read_within most_facts s.graph i (records_of text)))
 
 -- the stored views of an instance in a file

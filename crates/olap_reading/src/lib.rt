@@ -6,6 +6,7 @@
 #![tactic(auto)]
 
 mod reading;
+mod rolling;
 mod telling;
 
 pub use reading::{legal_in, store_in, views_in};

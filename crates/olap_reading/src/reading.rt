@@ -10,15 +10,16 @@ ghost use Rattle.olap_order.specs.Taken.{FileStep, PlainStep};
 ghost use Rattle.olap_reading.specs.OfFacts.{AreOfFacts};
 ghost use Rattle.olap_reading.specs.Steps.{facts_file, legal_file, legal_or_violation, store_file};
 
+use crate::rolling::{Unrolled, rolled_up};
 use crate::telling::{check_laws, refuse_violation};
-use olap_base::{CatId, List, MOST_FACTS_BYTES, MOST_INSTANCE_BYTES, MOST_STORE_BYTES, Refusal};
+use olap_base::{CatId, List, MOST_INSTANCE_BYTES, MOST_STORE_BYTES, Refusal};
 use olap_check::Illegal;
 use olap_instance::{Instance, read_instance};
 use olap_legal::Legal;
 use olap_order::{Stop, read_file, refuse_long, refuse_part};
 use olap_outside::Library;
 use olap_schema::Schema;
-use olap_view::{Store, View, read_store, roll_up};
+use olap_view::{Store, View, read_store};
 use std::alloc::Global;
 
 /// The instance, where it is legal; else the refusal that tells its first violation.
@@ -113,7 +114,7 @@ pub fn store_in<L: Library>(
     }
 }
 
-/// The direct views of some categories, from the facts in a file.
+/// The direct views of some categories, from the facts in a file, which may be of any length.
 pub fn views_in<L: Library>(
     alloc: Global,
     schema: &Schema,
@@ -131,18 +132,19 @@ pub fn views_in<L: Library>(
         (facts_file (schema_of schema.now) legal.now (codes "facts") file.now) (λ facts. facts) (Err stop)) }
     ensures members { IfOk result (λ views. All (λ v. All (λ r. r.member.0 < length legal.now) v.rows) views) }
 {
-    let Some(text) = read_file(alloc, file, MOST_FACTS_BYTES, lib)? else {
-        return Err(refuse_long(alloc, "facts"));
+    let Ok(()) = lib.open_file(file) else {
+        return Err(Stop::Read);
     };
-    match roll_up(alloc, schema.graph(), legal, text, categories) {
+    match rolled_up(alloc, schema.graph(), legal, categories, lib) {
         Ok(views) => Ok(views),
-        Err(Refusal::Kind(fault)) => Err(refuse_part(
+        Err(Unrolled::Failed) => Err(Stop::Read),
+        Err(Unrolled::Refused(Refusal::Kind(fault))) => Err(refuse_part(
             alloc,
             "facts",
             "record",
             fault.at,
             fault.kind.name(),
         )),
-        Err(Refusal::Memory(memory)) => Err(Stop::Memory(memory)),
+        Err(Unrolled::Refused(Refusal::Memory(memory))) => Err(Stop::Memory(memory)),
     }
 }

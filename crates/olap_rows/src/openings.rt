@@ -236,15 +236,6 @@ const ROWS: &[(&[File], Row)] = &[
             output: "refused schema TooLong\n",
         },
     ),
-    (
-        &[SCHEMA, INSTANCE, ENDLESS],
-        Row {
-            name: "rollup of a file without an end",
-            words: &["rollup", "S", "I", "X", "City"],
-            status: Status::Refused,
-            output: "refused facts TooLong\n",
-        },
-    ),
 ];
 
 /// The row opens these files, in their order, and asks for nothing else.

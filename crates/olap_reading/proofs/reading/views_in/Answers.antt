@@ -1,24 +1,30 @@
 -- A text with a fault is refused.
-use Rattle.std.proofs.Common.{ap, codes}
-use Rattle.olap_base.specs.Limits.{most_facts, most_facts_bytes}
+use Rattle.std.proofs.Common.{◌≡◌, ◌∙◌, Err, ap, arith, codes, subst}
+use Rattle.olap_base.specs.Graph.{Graph}
+use Rattle.olap_base.specs.Limits.{most_facts}
 use Rattle.olap_facts.specs.FactText.{facts_read_within}
-use Rattle.olap_facts.specs.Kinds.{name_of_kind}
-use Rattle.olap_order.specs.Steps.{meaning_or_fault, part_text}
 use Rattle.olap_records.specs.Records.{records_of}
 use Rattle.olap_schema.specs.Schemas.{schema_of}
-use Rattle.olap_reading.proofs.ReadingLemmas.{fault_told}
+use Rattle.olap_reading.specs.Rest.{IsOfRest, IsWhyUnrolled}
+use Rattle.olap_reading.specs.declared.rolling.Unrolled.{Unrolled}
+use Rattle.olap_reading.specs.declared.rolling.Unrolled.TheVariants as unrolled
+use Rattle.olap_reading.proofs.RollingLemmas.{fault-out}
 use Rattle.olap_reading.proofs.reading.views_in.Goals as goal
 
-pub returns-in-Err-Kind-clause-step : goal.returns-in-Err-Kind-clause-step
-returns-in-Err-Kind-clause-step g c =
-    let label = codes "facts" in
-    let e = c.in-Err-Kind in
-    let read = rw (e.field-0-is, c.graph.ensures) at e.ensures.err in
-    fault_told label c.args.file.now most_facts_bytes
-    (λ t. meaning_or_fault label (codes "record") name_of_kind (facts_read_within most_facts
-    (schema_of c.args.schema.now).graph c.args.legal.now (records_of t)))
-    c.in-Some.text.items (part_text label (codes "record") e.fault.at (name_of_kind e.fault.kind))
-    (ap (meaning_or_fault label (codes "record") name_of_kind) read)
-    (rw c.in-Some.is at c.in_ok-text.ensures.within) (rw c.in-Some.is at c.in_ok-text.ensures.read)
-    c.in_ok-text.ensures.later c.in_ok-text.ensures.contents c.refuse_part.result
-    (rw c.name.ensures at c.refuse_part.ensures.refused)
+pub returns-in-Err-Refused-Kind-clause-step : goal.returns-in-Err-Refused-Kind-clause-step
+returns-in-Err-Refused-Kind-clause-step g c =
+    let lib = g.L.Library in
+    let i = c.args.legal.now in
+    let e = c.in-Err-Refused-Kind in
+    let rest = lib.rest c.open_file.new.self in
+    let why = subst (λ (u : Unrolled). IsWhyUnrolled c.graph.result.now i rest u)
+    (e.field-0-is ∙ ap unrolled.Refused e.field-0-0-is) e.ensures.fault in
+    let so = subst (λ (h : Graph). IsOfRest rest (λ text. facts_read_within most_facts h i (records_of text)
+    ≡ Err e.fault)) c.graph.ensures why in
+    fault-out (schema_of c.args.schema.now) i c.args.file.now rest c.in-Ok.ensures.opened
+    (c.rolled_up.ensures.kept.contents ∙ c.open_file.ensures.contents)
+    (record {
+      faults = omega (arith, c.open_file.ensures.cause.later, c.rolled_up.ensures.later);
+      sure = c.rolled_up.ensures.kept.sure ∙ c.open_file.ensures.sure;
+    })
+    e.fault so c.refuse_part.result (rw c.name.ensures at c.refuse_part.ensures.refused)
