@@ -22,6 +22,6 @@ mod words;
 
 pub use judging::judge;
 pub use laws::{
-    all_frozen_are_one, answers_are_one, answers_exist, each_shape_is_listed_once, findings_are_one,
-    shapes_are_one, too_many_are_not_listed, too_many_shapes_are_not_listed,
+    all_frozen_are_one, answers_are_one, answers_exist, each_shape_is_listed_once,
+    findings_are_one, shapes_are_one, too_many_are_not_listed, too_many_shapes_are_not_listed,
 };

@@ -162,7 +162,7 @@ same_different : (files : Files) (twice : List ℕ) (g : Graph) (at by : ℕ) (e
 same_different files twice g at by earlier [] cs h = h
 same_different files twice g at by earlier (name ∷ names) cs h =
     let b = both_came files (another_word twice g at earlier name)
-        (λ c. different_words twice g (suc at) (earlier ++ c ∷ []) names) cs h in
+    (λ c. different_words twice g (suc at) (earlier ++ c ∷ []) names) cs h in
     let w = both_came files (category_word g at name) _ b.0 b.1 in
     each_came files (another_word twice g by earlier name)
     (λ c. different_words twice g (suc by) (earlier ++ c ∷ []) names) b.0 cs
@@ -225,24 +225,28 @@ module _ (form : Form) (schema target : List ℕ) (sources : List (List ℕ)) wh
         × ComesOut files (certificate_of s) (ByCertificate form s c cs text)
     certificate_comes s q h =
         let target_comes = both_came files (category_word s.graph 3 target)
-            (λ c. and_then (different_words (codes "DuplicateSource") s.graph 4 [] sources) (λ cs.
-            Done (ByProof form s c cs))) q h in
+        (λ c. and_then (different_words (codes "DuplicateSource") s.graph 4 [] sources) (λ cs.
+        Done (ByProof form s c cs))) q h in
         let c = target_comes.0 in
         let sources_come = both_came files (different_words (codes "DuplicateSource") s.graph 4 [] sources)
-            (λ cs. Done (ByProof form s c cs)) q target_comes.2 in
-        let cs = sources_come.0 in
-        (c, cs, sources_come.2, each_came files (category_word s.graph 4 target)
-        (λ c. and_then (different_words (codes "DuplicateSource") s.graph 5 [] sources) (λ cs.
-        and_then (text_file (codes "certificate") most_certificate_bytes certificate) (λ text.
-        Done (ByCertificate form s c cs text)))) c (ByCertificate form s c cs text)
-        (same_named files (category_named s.graph target) c _ _ target_comes.1)
-        (each_came files (different_words (codes "DuplicateSource") s.graph 5 [] sources)
-        (λ cs. and_then (text_file (codes "certificate") most_certificate_bytes certificate) (λ text.
-        Done (ByCertificate form s c cs text))) cs (ByCertificate form s c cs text)
-        (same_different files (codes "DuplicateSource") s.graph 4 5 [] sources cs sources_come.1)
-        (each_came files (text_file (codes "certificate") most_certificate_bytes certificate)
-        (λ text. Done (ByCertificate form s c cs text)) text (ByCertificate form s c cs text)
-        (held_text files (codes "certificate") certificate text most_certificate_bytes held short) refl)))
+        (λ cs. Done (ByProof form s c cs)) q target_comes.2 in
+        let cs = sources_come.0 in (
+          c,
+          cs,
+          sources_come.2,
+          each_came files (category_word s.graph 4 target)
+              (λ c. and_then (different_words (codes "DuplicateSource") s.graph 5 [] sources) (λ cs.
+              and_then (text_file (codes "certificate") most_certificate_bytes certificate) (λ text.
+              Done (ByCertificate form s c cs text)))) c (ByCertificate form s c cs text)
+              (same_named files (category_named s.graph target) c _ _ target_comes.1)
+              (each_came files (different_words (codes "DuplicateSource") s.graph 5 [] sources)
+              (λ cs. and_then (text_file (codes "certificate") most_certificate_bytes certificate) (λ text.
+              Done (ByCertificate form s c cs text))) cs (ByCertificate form s c cs text)
+              (same_different files (codes "DuplicateSource") s.graph 4 5 [] sources cs sources_come.1)
+              (each_came files (text_file (codes "certificate") most_certificate_bytes certificate)
+              (λ text. Done (ByCertificate form s c cs text)) text (ByCertificate form s c cs text)
+              (held_text files (codes "certificate") certificate text most_certificate_bytes held short) refl)),
+        )
 
     -- a proof that is written is accepted
     yes_is_accepted : (q : reasoning.Question) (s : Schema) (c : ℕ) (cs : List ℕ) → ByProof form s c cs ≡ q
@@ -262,7 +266,7 @@ module _ (form : Form) (schema target : List ℕ) (sources : List (List ℕ)) wh
         (λ q. Done (OfVerdicts q))) Yes (line (codes "accepted"))
     accepted g =
         let asked = came IsAnswer files (prove_order form schema target sources) (λ q. Done (OfReasoning q)) text
-            proof_or_refused g in
+        proof_or_refused g in
         let read = both_came files (schema_file (codes "schema") schema) sources_of asked.0 asked.1 in
         let s = read.0 in
         let judged = certificate_comes s asked.0 read.2 in

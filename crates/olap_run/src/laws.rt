@@ -35,5 +35,4 @@ pub fn outcome_exists()
 /// clause `short`), and the command line, which has a word more then, has no more than it may.
 pub fn proved_is_accepted()
     ensures { ProvedIsAccepted }
-{
-}
+{}

@@ -23,7 +23,12 @@ use olap_view::{Store, print_store};
 use std::alloc::Global;
 
 /// The text of stored views, if a file of them may have so many bytes.
-pub(crate) fn told(alloc: Global, schema: &Schema, legal: &Legal, store: &Store) -> Result<Reply, Stop>
+pub(crate) fn told(
+    alloc: Global,
+    schema: &Schema,
+    legal: &Legal,
+    store: &Store,
+) -> Result<Reply, Stop>
     requires categories { All (λ v. IsCategory (schema_of schema.now).graph v.category) (views_of store.now) }
     requires at_members { All (λ v. All (λ r. r.member < length legal.now) v.rows) (views_of store.now) }
     ensures replies { Replies IsAnswer
