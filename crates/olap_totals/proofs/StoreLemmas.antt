@@ -1,5 +1,5 @@
 -- The text of stored views, as it is told or refused.
-use Rattle.std.proofs.Common.{◌≡◌, List, ℕ, Result, Ok, Err, true, false, ap, refl, subst, sym}
+use Rattle.std.proofs.Common.{◌≡◌, List, ℕ, Ok, Err, true, false, ap, refl, subst, sym}
 use Rattle.std.specs.Prelude.{Bool, codes, if◌then◌else◌, length, nat_lt}
 use Rattle.olap_base.specs.Graph.{Graph}
 use Rattle.olap_base.specs.Instance.{Instance}
@@ -29,7 +29,7 @@ refused_shown why (stops.Memory m) is = record { right = tt; verdict = tt; unrea
 
 module _ (g : Graph) (i : Instance) (views : List View) where
   -- of this length, as it is told or refused
-  of_length : Bool → Order Question
+  abbrev of_length : Bool → Order Question
   of_length long = if long then refused (codes "store TooLong") else Told Yes (store_text g i views)
 
   -- a text that is too long is refused

@@ -19,15 +19,16 @@ print_store-requires-clause-at_members c =
     subst (λ (j : Instance). All (λ v. All (λ r. r.member < length j) v.rows) (views_of c.args.store.now))
     (sym c.instance.ensures) c.requires.at_members
 
-pub returns-then-bytes-gt-MOST_STORE_BYTES : goal.returns-then-bytes-gt-MOST_STORE_BYTES
-returns-then-bytes-gt-MOST_STORE_BYTES c =
+pub returns-then-len-gt-MOST_STORE_BYTES : goal.returns-then-len-gt-MOST_STORE_BYTES
+returns-then-len-gt-MOST_STORE_BYTES c =
     let i = c.args.legal.now in
     let graph = (schema_of c.args.schema.now).graph in
     let views = views_of c.args.store.now in
-    let text = c.into_bytes.ensures ∙ c.in_ok-text.ensures.text
+    let text = c.into_bytes-bytes.ensures ∙ c.in_ok-text.ensures.text
     ∙ ap (λ (h : Graph). store_text h c.instance.result.now views) c.graph.ensures
     ∙ ap (λ (j : Instance). store_text graph j views) c.instance.ensures in
-    let long = subst (λ (xs : List ℕ). most_store_bytes < length xs) text c.if-bytes-gt-MOST_STORE_BYTES.true in
+    let long = subst (λ (xs : List ℕ). most_store_bytes < length xs) text
+    (subst (λ n. most_store_bytes < n) (c.len.ensures ∙ c.into_bytes-bytes.result.ok.0) c.if-len-gt-MOST_STORE_BYTES.true) in
     record {
       replies = long_is_refused graph i views (lt-ltb most_store_bytes (length (store_text graph i views)) long)
           c.refuse_long.result c.refuse_long.ensures.refused;
@@ -38,10 +39,11 @@ returns c =
     let i = c.args.legal.now in
     let graph = (schema_of c.args.schema.now).graph in
     let views = views_of c.args.store.now in
-    let text = c.into_bytes.ensures ∙ c.in_ok-text.ensures.text
+    let text = c.into_bytes-bytes.ensures ∙ c.in_ok-text.ensures.text
     ∙ ap (λ (h : Graph). store_text h c.instance.result.now views) c.graph.ensures
     ∙ ap (λ (j : Instance). store_text graph j views) c.instance.ensures in
-    let short = subst (λ (xs : List ℕ). length xs ≤ most_store_bytes) text c.if-bytes-gt-MOST_STORE_BYTES.false in
+    let short = subst (λ (xs : List ℕ). length xs ≤ most_store_bytes) text
+    (subst (λ n. n ≤ most_store_bytes) (c.len.ensures ∙ c.into_bytes-bytes.result.ok.0) c.if-len-gt-MOST_STORE_BYTES.false) in
     record {
       replies = short_is_told graph i views (le-ltb most_store_bytes (length (store_text graph i views)) short)
           c.yes.result c.yes.ensures.status (c.yes.ensures.bytes ∙ text);
