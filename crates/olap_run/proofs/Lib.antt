@@ -4,4 +4,3 @@ mod AskedLemmas
 mod OneOutcome
 mod SomeOutcome
 mod SureLemmas
-mod Accepting
