@@ -316,7 +316,7 @@ class Page:
         if not self.has_sql or not found.lists or found.lists == [()]:
             return ""
         texts_of = [f"-- {found.target} from {' '.join(some)}\n{sql.statement(found.target, some)}" for some in found.lists[:MOST_ENOUGH]]
-        return el("details", el("summary", "SQL"), [el("pre", text) for text in texts_of])
+        return el("details", el("summary", "SQL"), [el("pre", Markup("\n".join(many(line) for line in text.splitlines()))) for text in texts_of])
 
     def figure(self, key: tuple, caption: object, label: str) -> Markup:
         if key not in self.drawn:

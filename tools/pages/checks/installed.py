@@ -185,7 +185,7 @@ def completion_faults(room: Path) -> Iterator[str]:
     escaped = "".join("\\" + each if not each.isalnum() else each for each in name)
     wanted = {
         "olap ": list(manual.synopses()),
-        "olap s": ["summarizable", "satisfiable", "store"],
+        "olap s": ["summarizable", "satisfiable", "store", "shapes"],
         "olap a": ["audit", "answer", "append"],
         "olap check a": [],
         "olap retract a b c d": [],
