@@ -4,6 +4,7 @@ pub mod Unviolated
 pub mod Least
 pub mod Violated
 mod Truth
+mod PartLemmas
 pub mod ConstantLemmas
 pub mod AtomLemmas
 pub mod SameAtoms

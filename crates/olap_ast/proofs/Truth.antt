@@ -224,11 +224,11 @@ module _ (i j : Instance) (e : ℕ → ℕ) (p : IsPart i j e) (Q : ℕ → List
 -- ---- above one member
 
 -- all texts
-abbrev Any_text : ℕ → List ℕ → Type 0
+abbrev pub Any_text : ℕ → List ℕ → Type 0
 Any_text d text = Unit {0}
 
 -- all numbers
-abbrev Any_number : ℕ → ℤ → Type 0
+abbrev pub Any_number : ℕ → ℤ → Type 0
 Any_number d n = Unit {0}
 
 -- above one member the names are those of the whole

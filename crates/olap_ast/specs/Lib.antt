@@ -10,6 +10,7 @@ pub mod Frozen
 pub mod Summarizable
 pub mod Findings
 pub mod Questions
+pub mod Parts
 pub mod Example
 pub mod ThreeValues
 -- The inside: what the program's formulas stand for.

@@ -3,6 +3,7 @@ ghost use Rattle.olap_ast.specs.Constants.{FreshNamesExist, RenamingIsHarmless};
 ghost use Rattle.olap_ast.specs.Example.{NineIsFrozen, OneStoreIsCounterexample, OneStoreIsLegal, StoresAreSummarizable};
 ghost use Rattle.olap_ast.specs.Findings.{TheFindingsAreOne};
 ghost use Rattle.olap_ast.specs.Frozen.{CandidatesExist, FrozenExactlyIfSomeInstance, TheLeastIsOne};
+ghost use Rattle.olap_ast.specs.Parts.{LegalExactlyIfPartsAre};
 ghost use Rattle.olap_ast.specs.Questions.{ValidSchemasHaveCandidates, ImpliedExactlyIfNoneFrozen, RedundantExactlyIfNoneFrozen, SourcesHaveCandidates, UnsatisfiableExactlyIfNoneFrozen, UnusedExactlyIfNoneFrozen};
 ghost use Rattle.olap_ast.specs.Schema.{AboveIsLegal};
 ghost use Rattle.olap_ast.specs.Summarizable.{SummarizableExactlyIfNoneFrozen, TheCounterexampleIsOne};
@@ -117,4 +118,10 @@ pub fn one_store_is_counterexample()
 /// legal, there are candidates, and with all of them the instance is that of a frozen dimension.
 pub fn nine_is_frozen()
     ensures { NineIsFrozen }
+{}
+
+/// A list of members that is an instance is legal exactly if each of its parts is, where every member stands in one of
+/// them together with all that it reaches. So an instance that is too large can be checked part by part.
+pub fn legal_exactly_if_parts_are()
+    ensures { LegalExactlyIfPartsAre }
 {}

@@ -18,11 +18,11 @@ pub use copying::copy;
 pub use formulas::{Constraint, Formula, Op, Terms};
 pub use laws::{
     above_is_legal, candidates_exist, fresh_names_exist, frozen_exactly_if_some_instance,
-    implied_exactly_if_none_frozen, legal_exactly_if_no_violation, nine_is_frozen,
-    one_store_is_counterexample, one_store_is_legal, redundant_exactly_if_none_frozen,
-    renaming_is_harmless, stores_are_summarizable, summarizable_exactly_if_none_frozen,
-    the_counterexample_is_one, the_findings_are_one, the_least_is_one,
-    unsatisfiable_exactly_if_none_frozen, unused_exactly_if_none_frozen,
+    implied_exactly_if_none_frozen, legal_exactly_if_no_violation, legal_exactly_if_parts_are,
+    nine_is_frozen, one_store_is_counterexample, one_store_is_legal,
+    redundant_exactly_if_none_frozen, renaming_is_harmless, stores_are_summarizable,
+    summarizable_exactly_if_none_frozen, the_counterexample_is_one, the_findings_are_one,
+    the_least_is_one, unsatisfiable_exactly_if_none_frozen, unused_exactly_if_none_frozen,
     valid_schemas_have_candidates,
 };
 pub use measuring::{depth, nodes};
