@@ -309,6 +309,11 @@ def changed_faults(room: Path) -> Iterator[str]:
             yield f"explain of a file that changed: {said}: {done.stdout!r} {done.stderr!r}"
 
 
+def hear_interrupts() -> None:
+    """As in a shell's foreground: what a script starts in the background ignores them, and so would all that it starts."""
+    signal.signal(signal.SIGINT, signal.SIG_DFL)
+
+
 def time_faults(room: Path) -> Iterator[str]:
     """What isn't asked in time is told; and Ctrl-C ends a tool at once, with nothing left."""
     schema = str(EXAMPLES / LOCATION)
@@ -320,12 +325,16 @@ def time_faults(room: Path) -> Iterator[str]:
     for words in (("least", schema, "Region"), ("compare", schema, schema)):
         environment = {**os.environ, "OLAP": str(slow), "TMPDIR": str(room)}
         running = subprocess.Popen([sys.executable, TOOLS / words[0], *words[1:]], cwd=room, env=environment, stdout=subprocess.DEVNULL,
-                                   stderr=subprocess.PIPE, start_new_session=True)
+                                   stderr=subprocess.PIPE, start_new_session=True, preexec_fn=hear_interrupts)
         while not (room / "began").exists() and running.poll() is None:
             time.sleep(0.02)
         running.send_signal(signal.SIGINT)
         began = time.monotonic()
-        errors = running.communicate()[1].decode()
+        try:
+            errors = running.communicate(timeout=30)[1].decode()
+        except subprocess.TimeoutExpired:
+            running.kill()
+            errors = running.communicate()[1].decode()
         if running.returncode != 130 or errors or time.monotonic() - began > 10:
             yield f"Ctrl-C ends {words[0]} with {running.returncode} after {time.monotonic() - began:.0f} s: {errors.strip()[-200:]}"
         (room / "began").unlink(missing_ok=True)
