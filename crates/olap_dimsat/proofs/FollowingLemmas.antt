@@ -1,16 +1,14 @@
 -- The frozen dimension that comes next by its code.
-use Rattle.std.proofs.Common.{◌≡◌, ℕ, zero, suc, ◌+◌, ◌-◌, ◌<◌, ◌≤◌, List, [], ◌∷◌, ◌++◌, length, Bool, true, false, refl, ap, sym, subst, ◌∙◌, ◌⊎◌, inl, inr, arith}
+use Rattle.std.proofs.Common.{◌≡◌, ℕ, zero, suc, ◌+◌, ◌-◌, ◌<◌, ◌≤◌, List, [], ◌∷◌, length, Bool, true, false, refl, ap, sym, subst, ◌∙◌, ◌⊎◌, inl, inr, arith}
 use Rattle.std.specs.Prelude.{slice_index, slice_index_or}
 use Rattle.std.proofs.lemmas.List.{ext_get_or}
 use Rattle.olap_ast.specs.Frozen.{Frozen, code}
 use Rattle.olap_base.specs.Ranks.{IsNotAfter}
-use Rattle.olap_dimsat.specs.Following.{IsNext, IsRaised, IsRisen, IsZeroAt, NoneBeyond, NoneMore}
+use Rattle.olap_dimsat.specs.Following.{IsNext, IsRaised, IsRisen, NoneBeyond, NoneMore}
 use Rattle.olap_dimsat.specs.Listed.{IsBefore}
 use Rattle.olap_clauses.specs.declared.engine.Engine.{Engine}
 use Rattle.olap_clauses.specs.declared.trails.Step.{Step}
-use Rattle.olap_clauses.specs.Standing.{Agrees}
 use Rattle.olap_dimsat.specs.Pinned.{InRange, IsPinned, IsPlace, IsReady, IsReplaced, IsSame, NoneAt, NoneLess}
-use Rattle.olap_dimsat.specs.Reads.{Reads}
 use Rattle.olap_dimsat.specs.Tasks.{Task, IsOne, constant_count, graph_of}
 use Rattle.olap_dimsat.proofs.SettleLemmas.{at_least, bit, code_edge, code_name, length-code, not_after, same_bit}
 
@@ -213,7 +211,7 @@ none_beyond t n w a none f one l =
 -- ---- more at one place
 
 -- what stands at a place may stand there
-in_range : (t : Task) (f : Frozen) (p : ℕ) → IsOne t f → IsPlace t p → InRange t p (slice_index (code f) p)
+pub in_range : (t : Task) (f : Frozen) (p : ℕ) → IsOne t f → IsPlace t p → InRange t p (slice_index (code f) p)
 in_range t f p one h = record { edge = edge; name = name }
   where
     small : (b : Bool) → bit b ≤ 1
@@ -262,28 +260,3 @@ raised t p n x w y old new e ready i q l none r = record {
       (λ k h z. none k (omega arith) h f v.0 one v.1 ((i.exactly f v.0 one v.1).1 s) z) in
       let a = r.number in omega arith;
 }
-
--- ---- places at which all have 0
-
--- where each number but 0 was refuted, 0 is what stands there
-pub zero_left : (t : Task) (p most : ℕ) (steps : List Step) → IsPlace t p → ((x : ℕ) → InRange t p x → x ≤ most)
-    → ((x : ℕ) → 0 < x → x ≤ most → NoneAt t p x steps) → (f : Frozen) (v : ℕ → Bool) → IsOne t f → Reads t f v
-    → Agrees v steps → slice_index (code f) p ≡ 0
-zero_left t p most steps place top none f v one r a = go (slice_index (code f) p) refl
-  where
-    go : (n : ℕ) → slice_index (code f) p ≡ n → n ≡ 0
-    go zero e = refl
-    go (suc n) e = absurd (let m = top (slice_index (code f) p) (in_range t f p one place) in
-        none (suc n) (omega arith) (omega arith) f v one r a e)
-
--- one note more
-pub noted : (P : ℕ → Type 0) (notes : List Bool) (b : Bool) → ((q : ℕ) → slice_index_or notes q false ≡ true → P q)
-    → (b ≡ true → P (length notes)) → (q : ℕ) → slice_index_or (notes ++ b ∷ []) q false ≡ true → P q
-noted P [] b old next zero e = next e
-noted P [] b old next (suc q) e = absurd (let z : false ≡ true = e in cc)
-noted P (x ∷ notes) b old next zero e = old zero e
-noted P (x ∷ notes) b old next (suc q) e = noted (λ k. P (suc k)) notes b (λ k. old (suc k)) next q e
-
--- a place at which all have 0 can't have more
-pub none_zero : (t : Task) (p : ℕ) (w : Frozen) → IsZeroAt t p → NoneMore t p w
-none_zero t p w all f one s m = let e = all f one in omega arith

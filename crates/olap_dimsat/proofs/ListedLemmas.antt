@@ -1,6 +1,6 @@
 -- Lists of frozen dimensions by their codes.
 use Rattle.std.proofs.Common.{◌≡◌, ℕ, zero, suc, ◌<◌, ◌≤◌, List, [], ◌∷◌, ◌++◌, length, get_or, refl, ap, sym, subst, ◌∙◌, ◌⊎◌, inl, inr, arith, length-append}
-use Rattle.std.specs.Prelude.{All, AllPairs, Contains, slice_index}
+use Rattle.std.specs.Prelude.{All, AllPairs, Contains, IfSome, None, Option, Some, slice_index}
 use Rattle.std.proofs.lemmas.List.Elements.{All-append, Contains-append_left, Contains-append_right}
 use Rattle.std.proofs.lemmas.List.Quantifiers.{all_pairs_push}
 use Rattle.olap_ast.specs.Frozen.{Frozen, code}
@@ -190,6 +190,16 @@ more_firsts t n list w limit f a h =
       ordered = g.ordered;
       sound = g.sound;
     }
+
+-- an option that isn't Some is None
+pub none_left : (o : Option ℕ) → ((x : ℕ) → o ≡ Some x → ⊥) → o ≡ None
+none_left None f = refl
+none_left (Some x) f = absurd (f x refl)
+
+-- what follows from what is so where there is something
+pub some_more : (o : Option ℕ) (P Q : Type 0) → (P → Q) → IfSome o (λ x. P) → IfSome o (λ x. Q)
+some_more None P Q f m = m
+some_more (Some x) P Q f m = f m
 
 -- a refusal whose reason is allowed is one whose weaker reason is
 pub weaker_for : {K : Type 0} (P Q : K → Type 0) (e : Refusal K) → ((k : K) → P k → Q k) → IsFor P e → IsFor Q e

@@ -1,5 +1,4 @@
 -- The frozen dimension that comes next by its code, and lists of those that came so far.
---     IsZeroAt     all have 0 at a place
 --     NoneMore     none that is as w before a place has more there
 --     IsRaised     the least change of one place to more
 --     IsRisen      and the least with that change
@@ -19,10 +18,6 @@ use Rattle.olap_frozen.specs.Leaves.{IsSized, IsZeroAtAll}
 use Rattle.olap_dimsat.specs.Listed.{IsBefore}
 use Rattle.olap_dimsat.specs.Pinned.{IsPlace, IsSame, NoneLess}
 use Rattle.olap_dimsat.specs.Tasks.{Task, IsOne, graph_of}
-
--- each frozen dimension has 0 at the place p
-abbrev pub IsZeroAt : Task → ℕ → Type 0
-IsZeroAt t p = (f : Frozen) → IsOne t f → slice_index (code f) p ≡ 0
 
 -- no frozen dimension that is as w before the place p has more there
 abbrev pub NoneMore : Task → ℕ → Frozen → Type 0

@@ -142,6 +142,7 @@ pub(crate) fn replace(
         (chosen_of best.new.edges best.new.names) (trail_of engine.new) }
     ensures no { result ≡ false → NoneAt (task_of a.now) p x (trail_of engine.old) }
     ensures trail { result ≡ false → trail_of engine.new ≡ trail_of engine.old }
+    ensures longer { result ≡ true → IsLonger (trail_of engine.old) (trail_of engine.new) }
     ensures stays { result ≡ false → best.new ≡ best.old }
     ensures best { IsFor (task_of a.now) best.new }
     ensures suited { IsSuited (task_of a.now) leaf.new (variables_of engine.new) }
@@ -181,6 +182,7 @@ pub(crate) fn keep(engine: &mut Engine, a: &Asker<'_>, best: &Frozen, p: u16)
     requires pinned { IsPinned (task_of a.now) p (chosen_of best.now.edges best.now.names) (trail_of engine.old) }
     requires variables { variables_of engine.old ≡ a.now.layout.now.variables }
     ensures pinned { IsPinned (task_of a.now) (p + 1) (chosen_of best.now.edges best.now.names) (trail_of engine.new) }
+    ensures longer { IsLonger (trail_of engine.old) (trail_of engine.new) }
     ensures variables { variables_of engine.new ≡ variables_of engine.old }
     ensures ready { IsReady (task_of a.now) engine.new }
 {
@@ -248,6 +250,7 @@ fn settle(engine: &mut Engine, a: &Asker<'_>, leaf: &mut Leaf, best: &mut Frozen
     requires best { IsFor (task_of a.now) best.old }
     requires pinned { IsPinned (task_of a.now) p (chosen_of best.old.edges best.old.names) (trail_of engine.old) }
     ensures pinned { IsPinned (task_of a.now) (p + 1) (chosen_of best.new.edges best.new.names) (trail_of engine.new) }
+    ensures longer { IsLonger (trail_of engine.old) (trail_of engine.new) }
     ensures same { IsSame p (chosen_of best.new.edges best.new.names) (chosen_of best.old.edges best.old.names) }
     ensures least { NoneLess (task_of a.now) p (chosen_of best.new.edges best.new.names) }
     ensures best { IsFor (task_of a.now) best.new }
@@ -280,6 +283,7 @@ fn settle_next(
     requires known { (q : ℕ) → p ≤ q → q < known
         → NoneLess (task_of a.now) q (chosen_of best.old.edges best.old.names) }
     ensures pinned { IsPinned (task_of a.now) (p + 1) (chosen_of best.new.edges best.new.names) (trail_of engine.new) }
+    ensures longer { IsLonger (trail_of engine.old) (trail_of engine.new) }
     ensures same { IsSame p (chosen_of best.new.edges best.new.names) (chosen_of best.old.edges best.old.names) }
     ensures least { NoneLess (task_of a.now) p (chosen_of best.new.edges best.new.names) }
     ensures known { (q : ℕ) → p < q → q < result
@@ -321,6 +325,7 @@ pub(crate) fn settle_from(
     requires best { IsFor (task_of a.now) best.old }
     requires pinned { IsPinned (task_of a.now) from (chosen_of best.old.edges best.old.names) (trail_of engine.old) }
     ensures one { IsOne (task_of a.now) (chosen_of best.new.edges best.new.names) }
+    ensures longer { IsLonger (trail_of engine.old) (trail_of engine.new) }
     ensures same { IsSame from (chosen_of best.new.edges best.new.names) (chosen_of best.old.edges best.old.names) }
     ensures least { (p : ℕ) → from ≤ p → IsPlace (task_of a.now) p
         → NoneLess (task_of a.now) p (chosen_of best.new.edges best.new.names) }

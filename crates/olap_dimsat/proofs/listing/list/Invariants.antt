@@ -1,8 +1,9 @@
-use Rattle.std.proofs.Common.{◌≡◌, ◌-◌, ◌≤◌, map, true, false, vec_len}
-use Rattle.std.specs.Prelude.{All}
-use Rattle.olap_clauses.specs.Engines.{variables_of}
+use Rattle.std.proofs.Common.{◌≡◌, ◌-◌, ◌≤◌, map, vec_len}
+use Rattle.std.specs.Prelude.{All, IfSome, None}
+use Rattle.olap_clauses.specs.Engines.{trail_of, variables_of}
 use Rattle.olap_frozen.specs.LeastFound.{frozen_of}
 use Rattle.olap_dimsat.specs.Asking.{IsFor, IsSuited, task_of}
+use Rattle.olap_dimsat.specs.Branches.{IsOpen}
 use Rattle.olap_dimsat.specs.Following.{IsHanded}
 use Rattle.olap_dimsat.specs.Pinned.{IsReady}
 use Rattle.olap_dimsat.proofs.ListedLemmas.{HasAll, IsAhead, IsFront}
@@ -13,8 +14,10 @@ invariant-listed l = record {
   few : vec_len l.list ≤ l.limit;
   handed : All (IsHanded (task_of l.a)) l.list.items;
   front : IsFront (task_of l.a) l.apart (map frozen_of l.list.items);
-  ahead : l.more ≡ true → IsAhead (task_of l.a) l.apart (map frozen_of l.list.items) (frozen_of l.best);
-  whole : l.more ≡ false → HasAll (task_of l.a) l.apart (map frozen_of l.list.items);
+  ahead : IfSome l.place (λ p. IsAhead (task_of l.a) l.apart (map frozen_of l.list.items) (frozen_of l.best));
+  branches : IfSome l.place (λ p.
+      IsOpen (task_of l.a) p l.apart (frozen_of l.best) (trail_of l.engine) l.branches.items);
+  whole : l.place ≡ None → HasAll (task_of l.a) l.apart (map frozen_of l.list.items);
   best : IsFor (task_of l.a) l.best;
   suited : IsSuited (task_of l.a) l.leaf (variables_of l.engine);
   ready : IsReady (task_of l.a) l.engine;

@@ -1,85 +1,109 @@
-use Rattle.std.proofs.Common.{◌-◌, refl, sym, subst, ◌∙◌, inl, inr, arith}
+-- The last branch at which there is more is where the next one differs first.
+use Rattle.std.proofs.Common.{◌≡◌, ◌++◌, ◌∷◌, [], List, length, take, refl, sym, subst, ◌∙◌, arith}
+use Rattle.olap_clauses.specs.declared.trails.Step.{Step}
+use Rattle.olap_clauses.specs.Engines.{trail_of}
 use Rattle.olap_frozen.specs.declared.frozen.Frozen.{Frozen}
 use Rattle.olap_frozen.specs.Leaves.{chosen_of}
-use Rattle.olap_dimsat.specs.Asking.{IsFor, task_of}
+use Rattle.olap_dimsat.specs.declared.branching.Branch.{Branch}
+use Rattle.olap_dimsat.specs.Asking.{task_of}
+use Rattle.olap_dimsat.specs.Branches.{AreBranches, IsOpen}
 use Rattle.olap_dimsat.specs.Following.{IsRisen, NoneMore}
-use Rattle.olap_dimsat.specs.Tasks.{IsOne}
-use Rattle.olap_dimsat.proofs.FollowingLemmas.{next_of, none_beyond}
-use Rattle.olap_dimsat.proofs.SettleLemmas.{at_or_below}
+use Rattle.olap_dimsat.specs.Pinned.{IsLonger, IsPinned}
+use Rattle.olap_dimsat.proofs.BranchLemmas.{branches_left, last_mark, last_pinned, last_place, no_branches, none_case, risen_next, risen_open}
+use Rattle.olap_dimsat.proofs.WitnessLemmas.{ready_still}
 use Rattle.olap_dimsat.proofs.listing.next.Goals as goal
 
-pub places-init : goal.places-init
-places-init c = record {
-  inside = c.requires.places;
-  none = λ q l h. absurd (omega arith);
-  few = omega arith;
+pub branches-init : goal.branches-init
+branches-init c = record {
+  branches = c.requires.branches;
   best = refl;
   suited = c.requires.suited;
   ready = c.requires.ready;
 }
 
-pub step-requires-clause-best : goal.step-requires-clause-best
-step-requires-clause-best c =
-    subst (λ (f : Frozen). IsFor (task_of c.args.a.now) f) (sym c.places.invariant.best) c.requires.best
+pub rise-requires-clause-ready : goal.rise-requires-clause-ready
+rise-requires-clause-ready c =
+    ready_still (task_of c.args.a.now) c.branches.engine c.undo.new.self c.branches.invariant.ready
+    (λ v m a. c.undo.ensures.admits v a)
 
-pub step-requires-clause-one : goal.step-requires-clause-one
-step-requires-clause-one c =
-    subst (λ (f : Frozen). IsOne (task_of c.args.a.now) (chosen_of f.edges f.names)) (sym c.places.invariant.best)
-    c.requires.one
+pub rise-requires-clause-pinned : goal.rise-requires-clause-pinned
+rise-requires-clause-pinned c =
+    let t = task_of c.args.a.now in
+    let w = chosen_of c.args.best.now.edges c.args.best.now.names in
+    let i = c.branches.invariant in
+    let ss = trail_of c.branches.engine in
+    let b = c.in-Some.last in
+    let all = subst (λ bs. AreBranches t c.args.apart w ss bs) c.in-Some.ensures.items i.branches in
+    subst (λ (f : Frozen). IsPinned t b.place (chosen_of f.edges f.names) (trail_of c.undo.new.self)) (sym i.best)
+    (subst (λ (xs : List Step). IsPinned t b.place w xs) (sym c.undo.ensures.trail)
+    (last_pinned t c.args.apart w ss c.pop.new.self.items b all))
+
+pub rise-requires-clause-fits : goal.rise-requires-clause-fits
+rise-requires-clause-fits c =
+    let t = task_of c.args.a.now in
+    let w = chosen_of c.args.best.now.edges c.args.best.now.names in
+    let ss = trail_of c.branches.engine in
+    let all = subst (λ bs. AreBranches t c.args.apart w ss bs) c.in-Some.ensures.items c.branches.invariant.branches in
+    let l = last_place t c.args.apart w ss c.pop.new.self.items c.in-Some.last all in
+    let f = c.ranges.apart.fits in omega arith
+
+pub returns-then-rise-clause-some : goal.returns-then-rise-clause-some
+returns-then-rise-clause-some c =
+    let t = task_of c.args.a.now in
+    let w = chosen_of c.args.best.now.edges c.args.best.now.names in
+    let y = chosen_of c.rise.new.best.edges c.rise.new.best.names in
+    let i = c.branches.invariant in
+    let ss = trail_of c.branches.engine in
+    let b = c.in-Some.last in
+    let all = subst (λ bs. AreBranches t c.args.apart w ss bs) c.in-Some.ensures.items i.branches in
+    risen_next t c.args.apart w ss c.pop.new.self.items b all y c.requires.one c.requires.places
+    (subst (λ (f : Frozen). IsRisen t b.place (chosen_of f.edges f.names) y) i.best (c.if-rise.ensures.some refl))
+
+pub returns-then-rise-clause-branches : goal.returns-then-rise-clause-branches
+returns-then-rise-clause-branches c =
+    let t = task_of c.args.a.now in
+    let w = chosen_of c.args.best.now.edges c.args.best.now.names in
+    let y = chosen_of c.rise.new.best.edges c.rise.new.best.names in
+    let i = c.branches.invariant in
+    let ss = trail_of c.branches.engine in
+    let ts = trail_of c.rise.new.engine in
+    let rest = c.pop.new.self.items in
+    let b = c.in-Some.last in
+    let all = subst (λ bs. AreBranches t c.args.apart w ss bs) c.in-Some.ensures.items i.branches in
+    let longer = subst (λ (xs : List Step). IsLonger xs ts) c.undo.ensures.trail (c.if-rise.ensures.longer refl) in
+    subst (λ (xs : List Step). IsOpen t b.place c.args.apart y xs rest)
+    (sym (c.undo-then-rise.ensures.trail ∙ last_mark t c.args.apart w ss rest b all ts longer))
+    (risen_open t c.args.apart w ss rest b all y
+    (subst (λ (f : Frozen). IsRisen t b.place (chosen_of f.edges f.names) y) i.best (c.if-rise.ensures.some refl)))
+
+pub returns-then-rise-clause-ready : goal.returns-then-rise-clause-ready
+returns-then-rise-clause-ready c =
+    ready_still (task_of c.args.a.now) c.rise.new.engine c.undo-then-rise.new.self c.rise.ensures.ready
+    (λ v m a. c.undo-then-rise.ensures.admits v a)
+
+pub branches-preserved : goal.branches-preserved
+branches-preserved c =
+    let t = task_of c.args.a.now in
+    let w = chosen_of c.args.best.now.edges c.args.best.now.names in
+    let i = c.branches.invariant in
+    let ss = trail_of c.branches.engine in
+    let rest = c.pop.new.self.items in
+    let b = c.in-Some.last in
+    let all = subst (λ bs. AreBranches t c.args.apart w ss bs) c.in-Some.ensures.items i.branches in
+    let r = c.if-rise.ensures in record {
+      branches = subst (λ (xs : List Step). AreBranches t c.args.apart w xs rest)
+          (sym (r.trail refl ∙ c.undo.ensures.trail))
+          (branches_left t c.args.apart w ss rest b all
+          (subst (λ (f : Frozen). NoneMore t b.place (chosen_of f.edges f.names)) i.best (r.none refl)));
+      best = r.stays refl ∙ i.best;
+      suited = c.rise.ensures.suited;
+      ready = c.rise.ensures.ready;
+    }
 
 pub returns-clause-none : goal.returns-clause-none
 returns-clause-none c = λ e.
-    let old = c.args.best.now in
-    none_beyond (task_of c.args.a.now) c.args.apart (chosen_of old.edges old.names) c.requires.one
-    (λ q l h. c.places.invariant.none q (let b = c.places-test.false in omega arith) l h)
-
-pub step-requires-clause-suited : goal.step-requires-clause-suited
-step-requires-clause-suited c = c.places.invariant.suited
-
-pub step-requires-clause-ready : goal.step-requires-clause-ready
-step-requires-clause-ready c = c.places.invariant.ready
-
-pub returns-then-step-clause-some : goal.returns-then-step-clause-some
-returns-then-step-clause-some c = λ _.
-    let t = task_of c.args.a.now in
-    let old = c.args.best.now in
-    let new = c.step.new.best in
-    let some = c.places-test.true in
-    let i = c.places.invariant in
-    let r = subst (λ (f : Frozen). IsRisen t (c.places.p - 1) (chosen_of f.edges f.names)
-    (chosen_of new.edges new.names)) i.best (c.if-step.ensures.some refl) in
-    next_of t c.args.apart (c.places.p - 1) (chosen_of old.edges old.names) (chosen_of new.edges new.names)
-    c.requires.one (let f = i.few in omega arith) (i.inside (c.places.p - 1) (omega arith)) r
-    (λ q l h place. i.none q (omega arith) h place)
-
-pub returns-then-step-clause-best : goal.returns-then-step-clause-best
-returns-then-step-clause-best c = c.step.ensures.best
-
-pub returns-then-step-clause-suited : goal.returns-then-step-clause-suited
-returns-then-step-clause-suited c = c.step.ensures.suited
-
-pub returns-then-step-clause-ready : goal.returns-then-step-clause-ready
-returns-then-step-clause-ready c = c.step.ensures.ready
-
-pub places-preserved : goal.places-preserved
-places-preserved c =
-    let t = task_of c.args.a.now in
-    let old = c.args.best.now in
-    let i = c.places.invariant in
-    let s = c.if-step.ensures in
-    let some = c.places-test.true in record {
-      inside = λ q h. i.inside q (omega arith);
-      none = λ q l h place. elim (at_or_below (c.places.p - 1) q (omega arith)) [
-        | inl b ↦ i.none q (omega arith) h place
-        | inr e ↦ subst (λ m. NoneMore t m (chosen_of old.edges old.names)) e
-            (subst (λ (f : Frozen). NoneMore t (c.places.p - 1) (chosen_of f.edges f.names)) i.best (s.none refl))
-      ];
-      few = let f = i.few in omega arith;
-      best = s.stays refl ∙ i.best;
-      suited = c.step.ensures.suited;
-      ready = c.step.ensures.ready;
-    }
-
-pub returns-clause-best : goal.returns-clause-best
-returns-clause-best c =
-    subst (λ (f : Frozen). IsFor (task_of c.args.a.now) f) (sym c.places.invariant.best) c.requires.best
+    let n = none_case c.pop.result _ _ c.in_default.not-Some c.pop.ensures.cases in
+    let o = c.branches.branches.ok in
+    no_branches (task_of c.args.a.now) c.args.apart (chosen_of c.args.best.now.edges c.args.best.now.names)
+    (trail_of c.branches.engine) c.branches.branches.items (let m = n.0 in omega arith) c.requires.one
+    c.branches.invariant.branches

@@ -5,7 +5,7 @@ use Rattle.olap_clauses.specs.Standing.{Agrees}
 use Rattle.olap_frozen.specs.declared.frozen.Frozen.{Frozen}
 use Rattle.olap_frozen.specs.Leaves.{chosen_of}
 use Rattle.olap_dimsat.specs.Asking.{IsFor, task_of}
-use Rattle.olap_dimsat.specs.Pinned.{IsPinned, IsReplaced}
+use Rattle.olap_dimsat.specs.Pinned.{IsLonger, IsPinned, IsReplaced}
 use Rattle.olap_dimsat.proofs.SettleLemmas.{at_or_below}
 use Rattle.olap_dimsat.proofs.FollowingLemmas.{none_more, raised}
 use Rattle.olap_dimsat.proofs.listing.raise.Goals as goal
@@ -90,3 +90,11 @@ returns-clause-best c =
 
 pub returns-clause-suited : goal.returns-clause-suited
 returns-clause-suited c = c.numbers.invariant.suited
+
+pub returns-then-replace-clause-longer : goal.returns-then-replace-clause-longer
+returns-then-replace-clause-longer c = λ _.
+    subst (λ (ss : List Step). IsLonger ss (trail_of c.replace.new.engine)) c.numbers.invariant.trail
+    (c.if-replace.ensures.longer refl)
+
+pub returns-clause-trail : goal.returns-clause-trail
+returns-clause-trail c = λ _. c.numbers.invariant.trail

@@ -24,3 +24,6 @@ returns-clause-pinned c =
 pub returns-clause-ready : goal.returns-clause-ready
 returns-clause-ready c = ready_still (task_of c.args.a.now) c.args.engine.now c.assume_at.new.engine c.requires.ready
     (λ v m a. c.assume_at.ensures.admits v a)
+
+pub returns-clause-longer : goal.returns-clause-longer
+returns-clause-longer c = c.assume_at.ensures.longer

@@ -60,3 +60,6 @@ pub returns-clause-suited : goal.returns-clause-suited
 returns-clause-suited c =
     suited_still (task_of c.args.a.now) c.probe.new.leaf (variables_of c.probe.new.engine)
     (variables_of c.undo.new.self) c.probe.ensures.suited c.undo.ensures.variables
+
+pub returns-then-probe-clause-longer : goal.returns-then-probe-clause-longer
+returns-then-probe-clause-longer c = λ _. c.probe.ensures.longer

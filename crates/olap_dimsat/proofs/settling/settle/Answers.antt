@@ -5,7 +5,7 @@ use Rattle.olap_clauses.specs.Standing.{Agrees}
 use Rattle.olap_frozen.specs.declared.frozen.Frozen.{Frozen}
 use Rattle.olap_frozen.specs.Leaves.{chosen_of}
 use Rattle.olap_dimsat.specs.Asking.{IsFor, task_of}
-use Rattle.olap_dimsat.specs.Pinned.{IsPinned, IsReplaced, IsSame, NoneLess}
+use Rattle.olap_dimsat.specs.Pinned.{IsLonger, IsPinned, IsReplaced, IsSame, NoneLess}
 use Rattle.olap_dimsat.proofs.MadeLemmas.{suited_still}
 use Rattle.olap_dimsat.proofs.SettleLemmas.{at_or_below, none_less}
 use Rattle.olap_dimsat.proofs.settling.settle.Goals as goal
@@ -133,3 +133,12 @@ returns-clause-pinned c = c.keep.ensures.pinned
 pub returns-clause-best : goal.returns-clause-best
 returns-clause-best c =
     subst (λ (f : Frozen). IsFor (task_of c.args.a.now) f) (sym c.numbers.invariant.best) c.requires.best
+
+pub returns-then-replace-clause-longer : goal.returns-then-replace-clause-longer
+returns-then-replace-clause-longer c =
+    subst (λ (ss : List Step). IsLonger ss (trail_of c.replace.new.engine)) c.numbers.invariant.trail
+    (c.if-replace.ensures.longer refl)
+
+pub returns-clause-longer : goal.returns-clause-longer
+returns-clause-longer c =
+    subst (λ (ss : List Step). IsLonger ss (trail_of c.keep.new.engine)) c.numbers.invariant.trail c.keep.ensures.longer

@@ -1,8 +1,9 @@
 use Rattle.std.proofs.Common.{◌∙◌, inl, inr, sym, subst, arith}
+use Rattle.olap_clauses.specs.Engines.{trail_of}
 use Rattle.olap_frozen.specs.Leaves.{chosen_of}
 use Rattle.olap_dimsat.specs.Asking.{task_of}
 use Rattle.olap_dimsat.specs.Pinned.{NoneLess}
-use Rattle.olap_dimsat.proofs.SettleLemmas.{at_or_below, none_less_still}
+use Rattle.olap_dimsat.proofs.SettleLemmas.{at_or_below, longer_again, none_less_still}
 use Rattle.olap_dimsat.proofs.settling.settle_from.Goals as goal
 
 pub settle_next-known-requires-clause-place : goal.settle_next-known-requires-clause-place
@@ -18,6 +19,8 @@ places-preserved c =
     let w = chosen_of old.edges old.names in
     let y = chosen_of new.edges new.names in record {
       pinned = s.pinned;
+      longer = longer_again (trail_of c.args.engine.now) (trail_of c.places.engine)
+          (trail_of c.settle_next-known.new.engine) i.longer s.longer;
       same = λ q h. s.same q (let f = c.places.auto.p in omega arith) ∙ i.same q h;
       least = λ q f h. elim (at_or_below q c.places.p h) [
         | inl l ↦ none_less_still t c.places.p q w y l s.same (i.least q f l)
@@ -33,3 +36,6 @@ pub returns-clause-least : goal.returns-clause-least
 returns-clause-least c = λ p f h.
     let l = (c.places-p-end.ensures p).1 h in
     c.places.invariant.least p f (let b = c.places-test.false in omega arith)
+
+pub returns-clause-longer : goal.returns-clause-longer
+returns-clause-longer c = c.places.invariant.longer

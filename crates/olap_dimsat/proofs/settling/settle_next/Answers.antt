@@ -1,9 +1,9 @@
 use Rattle.std.proofs.Common.{List, refl, sym, subst, ◌∙◌, arith}
 use Rattle.olap_clauses.specs.declared.trails.Step.{Step}
-use Rattle.olap_clauses.specs.Engines.{variables_of}
+use Rattle.olap_clauses.specs.Engines.{trail_of, variables_of}
 use Rattle.olap_frozen.specs.Leaves.{chosen_of}
 use Rattle.olap_dimsat.specs.Asking.{task_of}
-use Rattle.olap_dimsat.specs.Pinned.{IsPinned}
+use Rattle.olap_dimsat.specs.Pinned.{IsLonger, IsPinned}
 use Rattle.olap_dimsat.proofs.MadeLemmas.{suited_still}
 use Rattle.olap_dimsat.proofs.settling.settle_next.Goals as goal
 
@@ -20,6 +20,7 @@ keep-requires c = record {
 pub returns-then-p-known : goal.returns-then-p-known
 returns-then-p-known c = record {
   pinned = c.keep.ensures.pinned;
+  longer = c.keep.ensures.longer;
   same = λ q h. refl;
   least = let b = c.if-p-known.true in c.requires.known c.args.p (omega arith) (omega arith);
   known = λ q f l. c.requires.known q (omega arith) l;
@@ -68,6 +69,8 @@ pub returns-then-p-next : goal.returns-then-p-next
 returns-then-p-next c =
     let s = c.first_open-next.ensures in record {
       pinned = c.keep-then-p-next.ensures.pinned;
+      longer = subst (λ (ss : List Step). IsLonger ss (trail_of c.keep-then-p-next.new.engine)) s.trail
+          c.keep-then-p-next.ensures.longer;
       same = λ q h. refl;
       least = let b = c.if-p-next.true in s.least c.args.p (omega arith) (omega arith);
       known = λ q f l. s.least q (omega arith) l;
@@ -81,6 +84,8 @@ returns-then-p-next c =
 pub returns : goal.returns
 returns c = record {
   pinned = c.settle.ensures.pinned;
+  longer = subst (λ (ss : List Step). IsLonger ss (trail_of c.settle.new.engine)) c.first_open-next.ensures.trail
+      c.settle.ensures.longer;
   same = c.settle.ensures.same;
   least = c.settle.ensures.least;
   known = λ q f l. absurd (omega arith);

@@ -1,11 +1,12 @@
--- Each number but 0 is refuted.
+-- Each greater number is refuted.
 use Rattle.std.proofs.Common.{◌+◌, inl, inr, subst, sym, arith}
 use Rattle.olap_clauses.specs.Trails.{steps_of}
+use Rattle.olap_frozen.specs.Leaves.{chosen_of}
 use Rattle.olap_dimsat.specs.Asking.{task_of}
 use Rattle.olap_dimsat.specs.Pinned.{NoneAt}
-use Rattle.olap_dimsat.proofs.FollowingLemmas.{zero_left}
+use Rattle.olap_dimsat.proofs.BranchLemmas.{topped}
 use Rattle.olap_dimsat.proofs.SettleLemmas.{at_or_below}
-use Rattle.olap_dimsat.proofs.listing.is_zero.Goals as goal
+use Rattle.olap_dimsat.proofs.branching.is_topped.Goals as goal
 
 pub numbers-init : goal.numbers-init
 numbers-init c = λ x l h. absurd (omega arith)
@@ -23,6 +24,7 @@ numbers-preserved c = λ x l h. elim (at_or_below x (c.numbers.x + 1) (omega ari
 
 pub returns : goal.returns
 returns c = λ _.
-    zero_left (task_of c.args.a.now) c.args.p c.most_at-most.result (steps_of c.args.trail.now) c.requires.place
-    c.most_at-most.ensures.most
+    topped (task_of c.args.a.now) c.args.p c.number_at-number.result c.most_at-most.result
+    (chosen_of c.args.best.now.edges c.args.best.now.names) (steps_of c.args.trail.now) c.requires.place
+    c.number_at-number.ensures.number c.most_at-most.ensures.most
     (λ x l h. c.numbers.invariant x l (let b = c.numbers-test.false in omega arith))

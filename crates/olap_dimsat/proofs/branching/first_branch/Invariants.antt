@@ -1,0 +1,13 @@
+-- The places so far have no more.
+use Rattle.std.proofs.Common.{ℕ, ◌-◌, ◌<◌, ◌≤◌}
+use Rattle.olap_frozen.specs.Leaves.{chosen_of}
+use Rattle.olap_dimsat.specs.Asking.{task_of}
+use Rattle.olap_dimsat.specs.Branches.{IsTopped}
+use Rattle.olap_dimsat.proofs.branching.first_branch.Given as goal
+
+abbrev pub invariant-places : goal.invariant-places
+invariant-places l = (q : ℕ) → l.from ≤ q → q < l.p
+    → IsTopped (task_of l.a) l.engine.trail q (chosen_of l.best.edges l.best.names)
+
+abbrev pub decreases-places : goal.decreases-places
+decreases-places l = 65536 - l.p
