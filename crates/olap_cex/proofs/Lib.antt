@@ -1,5 +1,6 @@
 -- Lemmas.
 mod PresentLemmas
+mod EndLemmas
 mod LineLemmas
 mod ListLemmas
 mod DraftLemmas

@@ -12,16 +12,12 @@ use Rattle.olap_ast.specs.Frozen.{chosen, is_present}
 use Rattle.olap_base.specs.Above.{place_in}
 use Rattle.olap_base.specs.Graph.{Edge}
 use Rattle.olap_frozen.proofs.ChosenLemmas.{chosen_place, place_chosen}
-use Rattle.olap_cex.specs.Present.{first_present}
+use Rattle.olap_cex.specs.Present.{first_present, has_end}
 use Rattle.olap_cex.proofs.ListLemmas.{length_filter}
 
 -- the edge past the end
 abbrev pub nowhere : Edge
 nowhere = record { child = 0; parent = 0 }
-
--- whether c is an end of the edge
-abbrev pub has_end : ℕ → Edge → Bool
-has_end c e = (e.child == c) || (e.parent == c)
 
 -- the root is present
 pub root_present : (r : ℕ) (es : List Edge) (c : ℕ) → c ≡ r → is_present r es c ≡ true

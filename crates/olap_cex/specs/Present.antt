@@ -1,13 +1,18 @@
 -- The present categories of a choice of edges, and an instance in the making with a member for each.
+--     has_end          whether a category is an end of an edge
 --     first_present    the present ones of the first n declared categories
 --     place_or_all     where the member of a category stands
 --     drafted          the draft with these members
-use Rattle.std.specs.Prelude.{ℕ, zero, suc, ◌==◌, List, Option, Some, None, filter, if◌then◌else◌, length, map}
+use Rattle.std.specs.Prelude.{ℕ, zero, suc, ◌==◌, ◌||◌, Bool, List, Option, Some, None, filter, if◌then◌else◌, length, map}
 use Rattle.std.specs.List.{range_with_len}
 use Rattle.olap_ast.specs.Frozen.{id_of, is_present}
 use Rattle.olap_base.specs.Graph.{Edge, Graph, category_count}
 use Rattle.olap_instance.specs.Drafts.{Draft, numbers_in}
 use Rattle.olap_instance.specs.Members.{childless}
+
+-- whether c is an end of the edge
+abbrev pub has_end : ℕ → Edge → Bool
+has_end c e = (e.child == c) || (e.parent == c)
 
 -- the present ones of the first n declared categories
 abbrev pub first_present : ℕ → List Edge → ℕ → List ℕ

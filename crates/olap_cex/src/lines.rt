@@ -8,7 +8,7 @@ ghost use Rattle.olap_frozen.specs.LeastFound.{frozen_of};
 ghost use Rattle.olap_frozen.specs.Leaves.{IsSized};
 ghost use Rattle.olap_names.specs.Names.{candidates_of};
 
-use crate::members::{has_member, name};
+use crate::members::{ends_of, is_present, name};
 use olap_base::{CatId, Memory, Text};
 use olap_frozen::Frozen;
 use olap_grammar::push_quoted;
@@ -62,8 +62,9 @@ fn push_members(
         (member_text graph.now (candidates_of candidates.now) (frozen_of frozen.now))
         (first_present frozen.now.root.0 (chosen graph.now.edges frozen.now.edges) (length graph.now.names))) }
 {
+    let ends = ends_of(graph, frozen.edges.items());
     'categories: for c in 1..graph.categories() {
-        if has_member(graph, frozen.root, frozen.edges.items(), CatId(c)) {
+        if is_present(frozen.root, &ends, CatId(c)) {
             push_member(out, graph, frozen, candidates, CatId(c))?;
         }
     }
@@ -72,7 +73,7 @@ fn push_members(
 
 /// The line of a frozen dimension: its edges, and the present categories with the names of their members.
 ///
-/// Cost: categories times edges. `Memory`: out of memory.
+/// Cost: the categories, and the edges. `Memory`: out of memory.
 pub fn print_frozen(
     alloc: Global,
     graph: &Graph,
