@@ -1,6 +1,8 @@
 -- A set for each category, edge by edge, and what the sets hold in the end.
-use Rattle.std.proofs.Common.{◌≡◌, ℕ, ◌+◌, ◌<◌, List, length, get_or, set, Bool, true, false, refl, ap, sym, ◌∙◌, ◌↔◌, ◌⊎◌, inl, inr, arith}
-use Rattle.std.specs.FinSet.{contains, insert}
+use Rattle.std.proofs.Common.{◌≡◌, ℕ, ◌+◌, ◌<◌, List, length, get_or, set, Bool, true, false, refl, ap, sym, subst, ◌∙◌, ◌↔◌, ◌⊎◌, inl, inr, arith}
+use Rattle.std.specs.Cmp.{nat_cmp_total}
+use Rattle.std.specs.FinSet.{contains, contains-empty, empty, insert, is_subset, is_subset-contains}
+use Rattle.std.specs.Ordering.{nat_cmp}
 use Rattle.olap_base.specs.Reaching.{category_reaches, category_reaches_is}
 use Rattle.olap_base.specs.Graph.{Graph, Edge, IsHierarchy, category_count}
 use Rattle.olap_base.specs.Steps.{Steps, Steps-from_reaches, reaches_from_Steps}
@@ -8,8 +10,8 @@ use Rattle.olap_ast.specs.Frozen.{chosen}
 use Rattle.olap_bits.specs.Sets.{members}
 use Rattle.olap_bits.specs.declared.sets.CatSet.{CatSet}
 use Rattle.olap_graph.specs.Lookups.{edge_at}
-use Rattle.olap_graph.specs.Rows.{AreOwn, Has, IsClosure, row}
-use Rattle.olap_graph.proofs.RowLemmas.{closure_joined, joined_more, joined_same, newest, same_edge}
+use Rattle.olap_graph.specs.Rows.{AreOwn, Has, IsClosure, Passes, row}
+use Rattle.olap_graph.proofs.RowLemmas.{closure_joined, has_insert, joined_more, joined_same, newest, same_edge}
 use Rattle.olap_frozen.specs.Chosen.{Joins}
 use Rattle.olap_frozen.specs.Rows.{AreDrawn, AreRows, JoinsBefore, with_edges}
 use Rattle.olap_frozen.proofs.ChosenLemmas.{chosen_within, joins_before}
@@ -62,6 +64,26 @@ draw_more g bits k c d rows x bit edge h e drawn =
         | inr p ↦ (k, omega arith, bit, edge ∙ same_edge p.0 p.1)
       ],
     )) h e drawn
+
+-- ---- a set alone
+
+-- a set with its own category alone has nothing to pass on
+pub alone : {W : ℕ} (rows : List (CatSet W)) (k : ℕ) (x y e : CatSet W) → members x ≡ row rows k
+    → members y ≡ insert (members e) k → members e ≡ empty → is_subset (members x) (members y) ≡ true
+    → (c d : ℕ) → Has rows c d ↔ Passes rows k c d
+alone rows k x y e at one none within c d = (
+  λ m. inl m,
+  λ o. elim o [
+    | inl m ↦ m
+    | inr t ↦
+        let m = is_subset-contains nat_cmp_total (members x) (members y) within d (ap (λ s. contains s d) at ∙ t.1) in
+        elim ((has_insert (members e) k d).0 (ap (λ s. contains s d) (sym one) ∙ m)) [
+          | inl q ↦ subst (λ z. Has rows c z) q t.0
+          | inr n ↦ absurd (let z : false ≡ true = sym (contains-empty nat_cmp d)
+              ∙ ap (λ s. contains s d) (sym none) ∙ n in cc)
+        ]
+  ],
+)
 
 -- ---- all chosen edges
 

@@ -2,10 +2,10 @@ use Rattle.std.proofs.Common.{inl, refl, ◌∙◌}
 use Rattle.olap_frozen.proofs.RowLemmas.{closed_rows}
 use Rattle.olap_frozen.proofs.closing.close.Goals as goal
 
-pub close-requires-clause-own : goal.close-requires-clause-own
-close-requires-clause-own c = λ x h. (c.draw.ensures.drawn x x h).1 (inl refl)
+pub pass_all-requires-clause-own : goal.pass_all-requires-clause-own
+pass_all-requires-clause-own c = λ x h. (c.draw.ensures.drawn x x h).1 (inl refl)
 
 pub returns-clause-rows : goal.returns-clause-rows
 returns-clause-rows c =
-    closed_rows c.args.graph.now c.args.edges.now c.draw.new.rows c.close.new.rows c.categories-few.ensures.hierarchy
-    (c.draw.ensures.count ∙ c.requires.rows) c.draw.ensures.drawn c.close.ensures
+    closed_rows c.args.graph.now c.args.edges.now c.draw.new.rows c.pass_all.new.rows c.categories-few.ensures.hierarchy
+    (c.draw.ensures.count ∙ c.requires.rows) c.draw.ensures.drawn c.pass_all.ensures
