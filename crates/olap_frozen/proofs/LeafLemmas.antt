@@ -13,7 +13,6 @@ use Rattle.olap_base.specs.Deciding.{contains_cons}
 use Rattle.olap_base.proofs.ListLemmas.{contains_head}
 use Rattle.olap_ast.specs.Formula.{Formula, IsNumbered}
 use Rattle.olap_numerals.specs.Comparing.{Op}
-use Rattle.olap_numerals.specs.Numerals.{number_of}
 use Rattle.olap_numerals.proofs.NameLemmas.{name_is_one}
 use Rattle.olap_ast.specs.Schema.{Constraint, Schema}
 use Rattle.olap_ast.specs.Constants.{IsNameOf, numbers}
