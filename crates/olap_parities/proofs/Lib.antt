@@ -1,0 +1,9 @@
+-- Lemmas.
+mod BitLemmas
+mod SumLemmas
+mod RowLemmas
+mod KnownLemmas
+mod FindingLemmas
+mod EliminatingLemmas
+mod ColumnLemmas
+mod ParityLemmas

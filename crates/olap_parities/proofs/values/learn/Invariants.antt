@@ -1,0 +1,8 @@
+-- Who makes the clauses true is as the table says.
+use Rattle.std.proofs.Common.{ℕ, Bool}
+use Rattle.olap_pool.specs.Pools.{AreTrue}
+use Rattle.olap_parities.specs.Known.{Knows}
+use Rattle.olap_parities.proofs.values.learn.Given as goal
+
+abbrev pub invariant-passes : goal.invariant-passes
+invariant-passes l = (v : ℕ → Bool) → AreTrue v l.pool → Knows l.fn.values v → Knows l.values v

@@ -1,0 +1,6 @@
+-- What clauses inside the crate cite.
+pub mod Sums
+pub mod Known
+pub mod Sets
+pub mod Rows
+pub mod Columns

@@ -1,0 +1,274 @@
+// Sets of variables, and the clauses that stand over each. All of it is a hint: what is found by it is tested where it is
+// used.
+ghost use Rattle.std.specs.Prelude.{◌≡◌, ◌≤◌};
+
+use crate::values::{is_false, value};
+use olap_pool::{Lit, Pool};
+use std::alloc::{AllocError, Global};
+
+/// So many variables a set has at most.
+pub(crate) const LARGEST: usize = 5;
+
+/// So many clauses with one hash are looked at.
+const PATIENCE: usize = 64;
+
+/// A set of at most five variables.
+#[derive(Clone, Copy)]
+pub(crate) struct Set {
+    variables: [u32; LARGEST],
+    count: usize,
+    ghost within: { count ≤ 5 },
+}
+
+impl Set {
+    ghost use Rattle.olap_parities.specs.Sets.{variables_of};
+
+    /// The set of no variables.
+    pub(crate) fn empty() -> Set {
+        Set {
+            variables: [0; LARGEST],
+            count: 0,
+        }
+    }
+
+    /// The variables of a clause that are open, where it has from two to five, each once, and isn't known true.
+    pub(crate) fn of(values: &[Option<bool>], clause: &[Lit]) -> Option<Set> {
+        let mut set = Set::empty();
+        'lits: for k in 0..clause.len() {
+            let lit = clause[k];
+            if value(values, lit.variable).is_none() {
+                if set.count >= LARGEST || set.has(lit.variable) {
+                    return None;
+                }
+                set.push(lit.variable);
+            } else if !is_false(values, lit) {
+                return None;
+            }
+        }
+        if set.count >= 2 { Some(set) } else { None }
+    }
+
+    /// Adds a variable where there is room.
+    fn push(&mut self, variable: u32) {
+        if self.count < LARGEST {
+            self.variables[self.count] = variable;
+            self.count += 1;
+        }
+    }
+
+    /// How many variables it has.
+    pub(crate) fn len(&self) -> usize
+        ensures { result ≤ 5 }
+    {
+        self.count
+    }
+
+    /// The variables.
+    pub(crate) fn variables(&self) -> &[u32]
+        ensures { result.now ≡ variables_of self.now }
+    {
+        &self.variables[..self.count]
+    }
+
+    /// Whether the variable is in it.
+    pub(crate) fn has(&self, variable: u32) -> bool {
+        'variables: for k in 0..self.count {
+            if self.variables[k] == variable {
+                return true;
+            }
+        }
+        false
+    }
+
+    /// Those of its variables whose place is a bit of the number.
+    pub(crate) fn part(&self, places: u32) -> Set {
+        let mut part = Set::empty();
+        'variables: for k in 0..self.count {
+            if (places >> k) & 1 == 1 {
+                part.push(self.variables[k]);
+            }
+        }
+        part
+    }
+
+    /// A number that is the same for sets with the same variables.
+    fn hash(&self) -> u64 {
+        let mut sum: u64 = 0;
+        'variables: for k in 0..self.count {
+            let spread = (u64::from(self.variables[k]) + 1).wrapping_mul(0x9e37_79b9_7f4a_7c15);
+            sum = sum.wrapping_add(spread ^ (spread >> 29));
+        }
+        sum.wrapping_mul(0xbf58_476d_1ce4_e5b9) >> 20
+    }
+
+    /// Whether each variable of the other is in it.
+    fn contains(&self, other: &Set) -> bool {
+        'variables: for k in 0..other.count {
+            if !self.has(other.variables[k]) {
+                return false;
+            }
+        }
+        true
+    }
+}
+
+/// The clauses over each set of variables: chains of those with one hash, which end at 0, each clause counted from 1.
+#[derive(Drop)]
+pub(crate) struct Index {
+    heads: Vec<u32>,
+    next: Vec<u32>,
+}
+
+impl Index {
+    /// Room for so many clauses.
+    pub(crate) fn new(alloc: Global, clauses: usize) -> Result<Index, AllocError> {
+        let heads = vec![in alloc; 0; clauses]?;
+        Ok(Index {
+            heads,
+            next: vec![in alloc; 0; clauses]?,
+        })
+    }
+
+    /// How many clauses it has room for.
+    pub(crate) fn len(&self) -> usize {
+        self.next.len()
+    }
+
+    /// The chain of a set.
+    fn chain(&self, set: &Set) -> usize {
+        let count = self.heads.len() as u64;
+        if count == 0 {
+            0
+        } else {
+            (set.hash() % count) as usize
+        }
+    }
+
+    /// Enters the first clauses, as many as there is room for.
+    pub(crate) fn fill(&mut self, pool: &Pool, values: &[Option<bool>]) {
+        'heads: for head in self.heads.iter_mut() {
+            *head = 0;
+        }
+        let count = pool.len().min(self.next.len());
+        'clauses: for id in 0..count {
+            if let Some(set) = Set::of(values, pool.clause(id)) {
+                self.enter(&set, id);
+            }
+        }
+    }
+
+    /// Enters a clause over this set.
+    fn enter(&mut self, set: &Set, id: usize) {
+        let chain = self.chain(set);
+        if chain < self.heads.len() && id < self.next.len() && id < u32::MAX as usize {
+            self.next[id] = self.heads[chain];
+            self.heads[chain] = id as u32 + 1;
+        }
+    }
+
+    /// Notes the clauses of this set's chain whose open variables are all among those of the whole set.
+    pub(crate) fn gather(
+        &self,
+        pool: &Pool,
+        values: &[Option<bool>],
+        part: &Set,
+        whole: &Set,
+        found: &mut Found,
+    ) {
+        let chain = self.chain(part);
+        let mut at = if chain < self.heads.len() {
+            self.heads[chain]
+        } else {
+            0
+        };
+        'chain: for _ in 0..PATIENCE {
+            let id = at as usize;
+            if id == 0 || id > self.next.len() || id > pool.len() {
+                return;
+            }
+            if let Some(set) = Set::of(values, pool.clause(id - 1)) {
+                if set.count == part.count && whole.contains(&set) {
+                    found.push(id as u32 - 1);
+                }
+            }
+            at = self.next[id - 1];
+        }
+    }
+}
+
+/// So many clauses are noted at most.
+const ROOM: usize = 128;
+
+/// Clauses that were noted.
+#[derive(Drop)]
+pub(crate) struct Found {
+    ids: [u32; ROOM],
+    count: usize,
+    ghost within: { count ≤ 128 },
+}
+
+impl Found {
+    /// No clauses.
+    pub(crate) fn empty() -> Found {
+        Found {
+            ids: [0; ROOM],
+            count: 0,
+        }
+    }
+
+    /// Notes a clause where there is room.
+    fn push(&mut self, id: u32) {
+        if self.count < ROOM {
+            self.ids[self.count] = id;
+            self.count += 1;
+        }
+    }
+
+    /// The clauses.
+    pub(crate) fn ids(&self) -> &[u32] {
+        &self.ids[..self.count]
+    }
+
+    /// How many there are.
+    pub(crate) fn len(&self) -> usize {
+        self.count
+    }
+
+    /// The first clause.
+    pub(crate) fn first(&self) -> Option<usize> {
+        if self.count > 0 {
+            Some(self.ids[0] as usize)
+        } else {
+            None
+        }
+    }
+}
+
+/// The clauses that may leave the set of this clause one parity, if it is the first of that set and there are enough.
+pub(crate) fn candidates(
+    index: &Index,
+    pool: &Pool,
+    values: &[Option<bool>],
+    id: usize,
+    set: &Set,
+) -> Option<Found> {
+    let mut found = Found::empty();
+    index.gather(pool, values, set, set, &mut found);
+    let wanted = match set.len() {
+        2 => 2,
+        3 => 1,
+        4 => 4,
+        _ => 8,
+    };
+    if found.len() < wanted || found.first() != Some(id) {
+        return None;
+    }
+    let all = (1u32 << set.len()) - 1;
+    'parts: for places in 3..all {
+        let part = set.part(places);
+        if part.len() >= 2 {
+            index.gather(pool, values, &part, set, &mut found);
+        }
+    }
+    Some(found)
+}
