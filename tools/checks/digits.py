@@ -23,6 +23,7 @@ OTHERS = {
         "4294967295": "the place of no member",
         "4_294_967_295": "the place of no member",
     },
+    "olap_parities": {"64": "the bits of a word, the words of a row, and the clauses of a chain that are looked at"},
     "olap_pool": {"256": "the room with which a pool is full"},
     "olap_patterns": {"256": "the masks over eight sources"},
     "olap_generate": {"64": "the stores for each group of cities"},

@@ -15,8 +15,11 @@ use crate::values::learn;
 use olap_pool::{Lit, Pool};
 use std::alloc::{AllocError, Global};
 
-/// So many variables have a column at most: a row has 64 words, and its first column stands for what is true.
-const COLUMNS: usize = 4095;
+/// So many words a row has.
+const WORDS: usize = 64;
+
+/// So many variables have a column at most: the first column stands for what is true.
+const COLUMNS: usize = 64 * WORDS - 1;
 
 /// So many rows there are at most.
 const ROWS: usize = 5000;
@@ -59,7 +62,7 @@ fn parity_of(index: &Index, pool: &Pool, values: &mut [Option<bool>], id: usize)
 }
 
 /// Keeps a row where there is room.
-fn keep_row(rows: &mut Vec<Row<64>>, row: Row<64>)
+fn keep_row(rows: &mut Vec<Row<WORDS>>, row: Row<WORDS>)
     ensures { (v : ℕ → Bool) (columns : Columns) → AreZero v columns rows.old.items → row_value v columns row ≡ false
         → AreZero v columns rows.new.items }
 {
@@ -75,7 +78,7 @@ fn write_row(
     columns: &Columns,
     pool: &Pool,
     values: &mut [Option<bool>],
-    rows: &mut Vec<Row<64>>,
+    rows: &mut Vec<Row<WORDS>>,
 )
     ensures zero { (v : ℕ → Bool) → AreTrue v pool.now → Knows values.old v → AreZero v columns.now rows.old.items
         → AreZero v columns.now rows.new.items }
@@ -95,7 +98,7 @@ fn write_rows(
     columns: &Columns,
     pool: &Pool,
     values: &mut [Option<bool>],
-    rows: &mut Vec<Row<64>>,
+    rows: &mut Vec<Row<WORDS>>,
 )
     ensures { (v : ℕ → Bool) → AreTrue v pool.now → Knows values.old v → AreZero v columns.now rows.new.items }
 {
@@ -189,7 +192,7 @@ fn keep_sum(into: &mut Pool, first: Option<u32>, second: Option<u32>, odd: bool)
 }
 
 /// Hands out what a row says, if it has two variables at most. False: no valuation makes it add up to nothing.
-fn hand_out(columns: &Columns, row: &Row<64>, into: &mut Pool) -> bool
+fn hand_out(columns: &Columns, row: &Row<WORDS>, into: &mut Pool) -> bool
     ensures none { result ≡ false → (v : ℕ → Bool) → row_value v columns.now row.now ≡ false → ⊥ }
     ensures kept { (v : ℕ → Bool) → row_value v columns.now row.now ≡ false → AreTrue v into.old
         → AreTrue v into.new }
@@ -206,7 +209,7 @@ fn hand_out(columns: &Columns, row: &Row<64>, into: &mut Pool) -> bool
 }
 
 /// Hands out what the rows with two variables at most say. False: no valuation makes all of them add up to nothing.
-fn hand_out_all(columns: &Columns, rows: &[Row<64>], into: &mut Pool) -> bool
+fn hand_out_all(columns: &Columns, rows: &[Row<WORDS>], into: &mut Pool) -> bool
     ensures none { result ≡ false → (v : ℕ → Bool) → AreZero v columns.now rows.now → ⊥ }
     ensures kept { (v : ℕ → Bool) → AreZero v columns.now rows.now → AreTrue v into.old → AreTrue v into.new }
 {
@@ -225,7 +228,7 @@ fn read(
     values: &mut [Option<bool>],
     leaders: &mut Vec<u32>,
     columns: &mut Columns,
-    rows: &mut Vec<Row<64>>,
+    rows: &mut Vec<Row<WORDS>>,
 )
     ensures { (v : ℕ → Bool) → AreTrue v pool.now → Knows values.old v → AreZero v columns.new rows.new.items }
 {
@@ -235,7 +238,7 @@ fn read(
 
 /// Eliminates either way, and hands out what the rows with two variables at most say. False: no valuation makes all rows
 /// add up to nothing.
-fn reduce(columns: &Columns, rows: &mut [Row<64>], pivots: &mut [bool], into: &mut Pool) -> bool
+fn reduce(columns: &Columns, rows: &mut [Row<WORDS>], pivots: &mut [bool], into: &mut Pool) -> bool
     ensures none { result ≡ false → (v : ℕ → Bool) → AreZero v columns.now rows.old → ⊥ }
     ensures kept { (v : ℕ → Bool) → AreZero v columns.now rows.old → AreTrue v into.old → AreTrue v into.new }
 {
@@ -255,7 +258,7 @@ pub struct Parities {
     index: Index,
     /// The clauses whose variables have one parity.
     leaders: Vec<u32>,
-    rows: Vec<Row<64>>,
+    rows: Vec<Row<WORDS>>,
     pivots: Vec<bool>,
 }
 

@@ -92,13 +92,13 @@ impl Set {
     }
 
     /// A number that is the same for sets with the same variables.
-    fn hash(&self) -> u64 {
+    fn hash(&self) -> u32 {
         let mut sum: u64 = 0;
         'variables: for k in 0..self.count {
             let spread = (u64::from(self.variables[k]) + 1).wrapping_mul(0x9e37_79b9_7f4a_7c15);
             sum = sum.wrapping_add(spread ^ (spread >> 29));
         }
-        sum.wrapping_mul(0xbf58_476d_1ce4_e5b9) >> 20
+        (sum.wrapping_mul(0xbf58_476d_1ce4_e5b9) >> 32) as u32
     }
 
     /// Whether each variable of the other is in it.
@@ -112,20 +112,22 @@ impl Set {
     }
 }
 
-/// The clauses over each set of variables: chains of those with one hash, which end at 0, each clause counted from 1.
+/// The clauses over each set of variables, in chains that end at 0, each clause counted from 1.
 #[derive(Drop)]
 pub(crate) struct Index {
     heads: Vec<u32>,
     next: Vec<u32>,
+    /// The hash of each clause that was entered, so that few others of its chain are looked at.
+    hashes: Vec<u32>,
 }
 
 impl Index {
     /// Room for so many clauses.
     pub(crate) fn new(alloc: Global, clauses: usize) -> Result<Index, AllocError> {
-        let heads = vec![in alloc; 0; clauses]?;
         Ok(Index {
-            heads,
+            heads: vec![in alloc; 0; clauses]?,
             next: vec![in alloc; 0; clauses]?,
+            hashes: vec![in alloc; 0; clauses]?,
         })
     }
 
@@ -134,14 +136,10 @@ impl Index {
         self.next.len()
     }
 
-    /// The chain of a set.
-    fn chain(&self, set: &Set) -> usize {
-        let count = self.heads.len() as u64;
-        if count == 0 {
-            0
-        } else {
-            (set.hash() % count) as usize
-        }
+    /// The chain of a hash.
+    fn chain(&self, hash: u32) -> usize {
+        let count = self.heads.len();
+        if count == 0 { 0 } else { hash as usize % count }
     }
 
     /// Enters the first clauses, as many as there is room for.
@@ -159,14 +157,20 @@ impl Index {
 
     /// Enters a clause over this set.
     fn enter(&mut self, set: &Set, id: usize) {
-        let chain = self.chain(set);
-        if chain < self.heads.len() && id < self.next.len() && id < u32::MAX as usize {
+        let hash = set.hash();
+        let chain = self.chain(hash);
+        if chain < self.heads.len()
+            && id < self.next.len()
+            && id < self.hashes.len()
+            && id < u32::MAX as usize
+        {
+            self.hashes[id] = hash;
             self.next[id] = self.heads[chain];
             self.heads[chain] = id as u32 + 1;
         }
     }
 
-    /// Notes the clauses of this set's chain whose open variables are all among those of the whole set.
+    /// Notes the clauses whose open variables are as many as this part of a set has, and all in that set.
     pub(crate) fn gather(
         &self,
         pool: &Pool,
@@ -175,7 +179,8 @@ impl Index {
         whole: &Set,
         found: &mut Found,
     ) {
-        let chain = self.chain(part);
+        let hash = part.hash();
+        let chain = self.chain(hash);
         let mut at = if chain < self.heads.len() {
             self.heads[chain]
         } else {
@@ -183,12 +188,14 @@ impl Index {
         };
         'chain: for _ in 0..PATIENCE {
             let id = at as usize;
-            if id == 0 || id > self.next.len() || id > pool.len() {
+            if id == 0 || id > self.next.len() || id > self.hashes.len() || id > pool.len() {
                 return;
             }
-            if let Some(set) = Set::of(values, pool.clause(id - 1)) {
-                if set.count == part.count && whole.contains(&set) {
-                    found.push(id as u32 - 1);
+            if self.hashes[id - 1] == hash {
+                if let Some(set) = Set::of(values, pool.clause(id - 1)) {
+                    if set.count == part.count && whole.contains(&set) {
+                        found.push(id as u32 - 1, whole.count.saturating_sub(part.count));
+                    }
                 }
             }
             at = self.next[id - 1];
@@ -197,14 +204,16 @@ impl Index {
 }
 
 /// So many clauses are noted at most.
-const ROOM: usize = 128;
+const ROOM: usize = 48;
 
 /// Clauses that were noted.
 #[derive(Drop)]
 pub(crate) struct Found {
     ids: [u32; ROOM],
     count: usize,
-    ghost within: { count ≤ 128 },
+    /// So many assignments these forbid together, where none is forbidden twice.
+    weight: usize,
+    ghost within: { count ≤ 48 },
 }
 
 impl Found {
@@ -213,14 +222,16 @@ impl Found {
         Found {
             ids: [0; ROOM],
             count: 0,
+            weight: 0,
         }
     }
 
-    /// Notes a clause where there is room.
-    fn push(&mut self, id: u32) {
-        if self.count < ROOM {
+    /// Notes a clause where there is room, which leaves so many variables free.
+    fn push(&mut self, id: u32, free: usize) {
+        if self.count < ROOM && free < LARGEST {
             self.ids[self.count] = id;
             self.count += 1;
+            self.weight = self.weight.saturating_add(1 << free);
         }
     }
 
@@ -270,5 +281,9 @@ pub(crate) fn candidates(
             index.gather(pool, values, &part, set, &mut found);
         }
     }
-    Some(found)
+    if found.weight > all as usize / 2 {
+        Some(found)
+    } else {
+        None
+    }
 }
