@@ -13,6 +13,8 @@ mod encoding;
 #[cfg(test)]
 mod eval;
 #[cfg(test)]
+mod parities;
+#[cfg(test)]
 mod plain;
 #[cfg(test)]
 mod reading;
