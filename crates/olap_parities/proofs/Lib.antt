@@ -7,3 +7,4 @@ mod FindingLemmas
 mod EliminatingLemmas
 mod ColumnLemmas
 mod ParityLemmas
+mod EntryLemmas

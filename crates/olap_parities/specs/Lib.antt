@@ -2,5 +2,6 @@
 pub mod Sums
 pub mod Known
 pub mod Sets
+pub mod Entries
 pub mod Rows
 pub mod Columns

@@ -6,11 +6,15 @@
 #![tactic(auto)]
 
 mod columns;
+mod counting;
 mod eliminating;
+mod entries;
 mod finding;
+mod grouping;
 mod parities;
 mod rows;
 mod sets;
 mod values;
 
+pub use counting::Counting;
 pub use parities::Parities;

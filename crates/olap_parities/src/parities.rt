@@ -11,7 +11,7 @@ use crate::eliminating::eliminate;
 use crate::finding::parity;
 use crate::rows::Row;
 use crate::sets::{Index, Set, candidates};
-use crate::values::learn;
+use crate::values::{forget, learn};
 use olap_pool::{Lit, Pool};
 use std::alloc::{AllocError, Global};
 
@@ -29,15 +29,6 @@ const LARGEST: usize = 150_000;
 
 /// So many sums of rows are made at most, each way.
 const PATIENCE: usize = 4_000_000;
-
-/// Forgets all values.
-fn forget(values: &mut [Option<bool>])
-    ensures { (v : ℕ → Bool) → Knows values.new v }
-{
-    'values: for k in 0..values.len() {
-        values[k] = None;
-    }
-}
 
 /// The parity of a set of variables.
 #[derive(Clone, Copy)]

@@ -10,6 +10,15 @@ use olap_pool::{Lit, Pool};
 /// So often at most the clauses are gone through.
 const PASSES: usize = 16;
 
+/// Forgets all values.
+pub(crate) fn forget(values: &mut [Option<bool>])
+    ensures { (v : ℕ → Bool) → Knows values.new v }
+{
+    'values: for k in 0..values.len() {
+        values[k] = None;
+    }
+}
+
 /// What is known of a variable.
 pub(crate) fn value(values: &[Option<bool>], variable: u32) -> Option<bool>
     ensures { result ≡ value_of values.now variable }
