@@ -26,23 +26,21 @@ pub(crate) struct Notes {
 }
 
 impl Notes {
-    /// For so many variables, the clauses of the pool, and so many more.
+    /// For so many variables, so many clauses that are given, and so many more.
     pub(crate) fn new(
         alloc: Global,
         variables: u32,
-        pool: &Pool,
+        given: usize,
         more: u32,
     ) -> Result<Notes, AllocError>
         ensures room { IfOk result (λ notes. variables ≤ vec_capacity notes.work) }
     {
-        let mut notes = Notes {
-            watches: Watches::new(alloc, variables, pool.len(), more)?,
+        Ok(Notes {
+            watches: Watches::new(alloc, variables, given, more)?,
             seen: vec![in alloc; false; variables as usize]?,
             work: Vec::with_capacity(alloc, variables as usize)?,
             scores: Scores::new(alloc, variables)?,
-        };
-        notes.watches.enter_all(pool);
-        Ok(notes)
+        })
     }
 }
 

@@ -1,5 +1,5 @@
-// Whose order a round of the search goes by. Nothing here is trusted.
-use crate::engine::Effort;
+// Whose order a round of the search goes by, and who searches. Nothing here is trusted.
+use crate::effort::Effort;
 
 /// Whose order the decisions of a round are taken in.
 #[derive(Clone, Copy)]
@@ -12,24 +12,34 @@ pub(crate) enum Order {
     Free,
 }
 
-/// Of so many rounds the first three try each order.
-const TURNS: u64 = 24;
-
-/// Whether the round tries an order, whatever that did so far.
-fn is_trial(round: u64) -> bool {
-    round % TURNS < 3
+/// Which solver searches.
+#[derive(Clone, Copy)]
+pub(crate) enum Part {
+    /// The one that asks from the first round on.
+    First,
+    /// The second.
+    Second,
+    /// The third.
+    Third,
 }
 
-/// How many conflicts a round has: 200 in the first, and more in later ones, up to every 32nd; a quarter where it tries
-/// an order.
-pub(crate) fn budget_of(round: u64) -> u64 {
-    let part = 50 * (1 + round % 32);
-    if is_trial(round) {
-        part.max(200)
-    } else {
-        4 * part
-    }
+/// What a round does.
+#[derive(Clone, Copy)]
+pub(crate) struct Round {
+    pub(crate) part: Part,
+    pub(crate) order: Order,
+    /// So many conflicts it has.
+    pub(crate) budget: u64,
 }
+
+/// So many rounds the first solver has alone. Later ones go to each in turn, which keeps to an order of its own.
+const ALONE: u64 = 6;
+
+/// Conflicts of a round that tries an order.
+const SHORT: u64 = 200;
+
+/// Conflicts of a round by the order that was best.
+const LONG: u64 = 1000;
 
 /// What the rounds of each order took, late ones counting more.
 #[derive(Clone, Copy)]
@@ -42,14 +52,10 @@ pub(crate) struct Orders {
 impl Orders {
     /// No order was tried.
     pub(crate) fn new() -> Orders {
-        let nothing = Effort {
-            conflicts: 0,
-            literals: 0,
-        };
         Orders {
-            judge: nothing,
-            shown: nothing,
-            free: nothing,
+            judge: Effort::NONE,
+            shown: Effort::NONE,
+            free: Effort::NONE,
         }
     }
 
@@ -73,13 +79,36 @@ impl Orders {
         best
     }
 
-    /// The order of this round.
-    pub(crate) fn choose(&self, round: u64) -> Order {
-        match round % TURNS {
-            0 => Order::Judge,
-            1 => Order::Free,
-            2 => Order::Shown,
-            _ => self.best(),
+    /// What the first solver does in a round that it has alone.
+    fn alone(&self, round: u64) -> Round {
+        let (order, budget) = match round {
+            0 => (Order::Judge, SHORT),
+            1 => (Order::Free, SHORT),
+            2 => (Order::Shown, SHORT),
+            _ => (self.best(), LONG),
+        };
+        Round {
+            part: Part::First,
+            order,
+            budget,
+        }
+    }
+
+    /// What this round does: later ones have more conflicts.
+    pub(crate) fn plan(&self, round: u64) -> Round {
+        if round < ALONE {
+            return self.alone(round);
+        }
+        let (part, order) = match round % 3 {
+            0 => (Part::First, Order::Shown),
+            1 => (Part::Second, Order::Free),
+            _ => (Part::Third, Order::Judge),
+        };
+        let turn = (round - ALONE) / 3;
+        Round {
+            part,
+            order,
+            budget: SHORT.max((SHORT / 4).saturating_mul(turn)),
         }
     }
 

@@ -129,11 +129,19 @@ fn force_short(trail: &mut Trail, pool: &Pool, id: usize) -> Option<usize>
     }
 }
 
-/// Forces what clauses of at most one literal force. A clause that is false, if one is.
-pub(crate) fn force_each_short(trail: &mut Trail, pool: &Pool, watches: &Watches) -> Option<usize>
+/// Forces what clauses of at most one literal force, unless that stands already. A clause that is false, if one is.
+pub(crate) fn force_each_short(
+    trail: &mut Trail,
+    pool: &Pool,
+    watches: &Watches,
+    stand: bool,
+) -> Option<usize>
     ensures extends { Extends pool.now trail.old trail.new }
     ensures broken { IfSome result (IsBroken pool.now trail.new) }
 {
+    if stand {
+        return None;
+    }
     let mut at = watches.first_short();
     'nodes: for _ in 0..pool.len() {
         let Some(id) = watches.clause(&at) else {

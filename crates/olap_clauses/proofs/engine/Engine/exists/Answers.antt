@@ -8,54 +8,44 @@ use Rattle.olap_clauses.proofs.engine.Engine.exists.Goals as goal
 pub returns-in-Found : goal.returns-in-Found
 returns-in-Found g c =
     let i = c.rounds.invariant in
-    let r = c.make_room.ensures in
-    let p = c.simplify.ensures in
-    let s = c.search.ensures in
-    let trail = p.trail ∙ r.trail ∙ i.trail in
-    let variables = p.variables ∙ r.variables ∙ i.variables in
+    let s = c.take_round.ensures in
     let more = c.in-Found.ensures.found refl in
-    let took = λ (ss : List Step). g.J.Judge.Took c.args.judge.now c.search.new.state (ss ++ more.0) in
-    let suits = λ (n : ℕ). g.J.Judge.Suits c.args.judge.now c.search.new.state n in
+    let took = λ (ss : List Step). g.J.Judge.Took c.args.judge.now c.take_round.new.state (ss ++ more.0) in
+    let suits = λ (n : ℕ). g.J.Judge.Suits c.args.judge.now c.take_round.new.state n in
     record {
-      found = λ _. (more.0, subst took trail more.1);
+      found = λ _. (more.0, subst took i.trail more.1);
       nothing = λ e. absurd (true_is_not_false e);
-      trail = s.trail ∙ trail;
-      variables = s.variables ∙ variables;
-      admits = λ v m a. s.admits v m (p.admits v (r.admits v (i.admits v m a)));
-      suits = subst suits variables s.suits;
+      trail = s.trail ∙ i.trail;
+      variables = s.variables ∙ i.variables;
+      admits = λ v m a. s.admits v m (i.admits v m a);
+      suits = subst suits i.variables s.suits;
     }
 
 pub returns-in-Nothing : goal.returns-in-Nothing
 returns-in-Nothing g c =
     let i = c.rounds.invariant in
-    let r = c.make_room.ensures in
-    let p = c.simplify.ensures in
-    let s = c.search.ensures in
-    let trail = p.trail ∙ r.trail ∙ i.trail in
-    let variables = p.variables ∙ r.variables ∙ i.variables in
-    let suits = λ (n : ℕ). g.J.Judge.Suits c.args.judge.now c.search.new.state n in
+    let s = c.take_round.ensures in
+    let suits = λ (n : ℕ). g.J.Judge.Suits c.args.judge.now c.take_round.new.state n in
     record {
       found = λ e. absurd (false_is_not_true e);
-      nothing = λ _ v m a d. c.in-Nothing.ensures.nothing refl v m (p.admits v (r.admits v (i.admits v m a)))
-          (subst (λ (ss : List Step). AgreesDecisions v ss) (sym trail) d);
-      trail = s.trail ∙ trail;
-      variables = s.variables ∙ variables;
-      admits = λ v m a. s.admits v m (p.admits v (r.admits v (i.admits v m a)));
-      suits = subst suits variables s.suits;
+      nothing = λ _ v m a d. c.in-Nothing.ensures.nothing refl v m (i.admits v m a)
+          (subst (λ (ss : List Step). AgreesDecisions v ss) (sym i.trail) d);
+      trail = s.trail ∙ i.trail;
+      variables = s.variables ∙ i.variables;
+      admits = λ v m a. s.admits v m (i.admits v m a);
+      suits = subst suits i.variables s.suits;
     }
 
 pub rounds-preserved : goal.rounds-preserved
 rounds-preserved g c =
     let i = c.rounds.invariant in
-    let r = c.make_room.ensures in
-    let p = c.simplify.ensures in
-    let s = c.search.ensures in
-    let suits = λ (n : ℕ). g.J.Judge.Suits c.args.judge.now c.search.new.state n in
+    let s = c.take_round.ensures in
+    let suits = λ (n : ℕ). g.J.Judge.Suits c.args.judge.now c.take_round.new.state n in
     record {
-      trail = s.trail ∙ p.trail ∙ r.trail ∙ i.trail;
-      variables = s.variables ∙ p.variables ∙ r.variables ∙ i.variables;
-      admits = λ v m a. s.admits v m (p.admits v (r.admits v (i.admits v m a)));
-      suits = subst suits (p.variables ∙ r.variables ∙ i.variables) s.suits;
+      trail = s.trail ∙ i.trail;
+      variables = s.variables ∙ i.variables;
+      admits = λ v m a. s.admits v m (i.admits v m a);
+      suits = subst suits i.variables s.suits;
     }
 
 pub rounds-init : goal.rounds-init
@@ -66,13 +56,19 @@ rounds-init g c = record {
   suits = c.requires.suits;
 }
 
+pub take_round-requires : goal.take_round-requires
+take_round-requires g c =
+    let i = c.rounds.invariant in
+    let suits = λ (n : ℕ). g.J.Judge.Suits c.args.judge.now c.rounds.state n in
+    record { suits = subst suits (sym i.variables) i.suits }
+
 pub returns-in-Found-search : goal.returns-in-Found-search
 returns-in-Found-search g c =
     let i = c.rounds.invariant in
-    let s = c.search-2.ensures in
+    let s = c.search.ensures in
     let more = c.in-Found-search.ensures.found refl in
-    let took = λ (ss : List Step). g.J.Judge.Took c.args.judge.now c.search-2.new.state (ss ++ more.0) in
-    let suits = λ (n : ℕ). g.J.Judge.Suits c.args.judge.now c.search-2.new.state n in
+    let took = λ (ss : List Step). g.J.Judge.Took c.args.judge.now c.search.new.state (ss ++ more.0) in
+    let suits = λ (n : ℕ). g.J.Judge.Suits c.args.judge.now c.search.new.state n in
     record {
       found = λ _. (more.0, subst took i.trail more.1);
       nothing = λ e. absurd (true_is_not_false e);
@@ -85,8 +81,8 @@ returns-in-Found-search g c =
 pub returns-in-Nothing-search : goal.returns-in-Nothing-search
 returns-in-Nothing-search g c =
     let i = c.rounds.invariant in
-    let s = c.search-2.ensures in
-    let suits = λ (n : ℕ). g.J.Judge.Suits c.args.judge.now c.search-2.new.state n in
+    let s = c.search.ensures in
+    let suits = λ (n : ℕ). g.J.Judge.Suits c.args.judge.now c.search.new.state n in
     record {
       found = λ e. absurd (false_is_not_true e);
       nothing = λ _ v m a d. c.in-Nothing-search.ensures.nothing refl v m (i.admits v m a)
@@ -100,8 +96,8 @@ returns-in-Nothing-search g c =
 pub returns-in-Stop-search : goal.returns-in-Stop-search
 returns-in-Stop-search g c =
     let i = c.rounds.invariant in
-    let s = c.search-2.ensures in
-    let suits = λ (n : ℕ). g.J.Judge.Suits c.args.judge.now c.search-2.new.state n in
+    let s = c.search.ensures in
+    let suits = λ (n : ℕ). g.J.Judge.Suits c.args.judge.now c.search.new.state n in
     record {
       found = λ e. absurd (false_is_not_true e);
       nothing = λ _ v m a d. absurd (false_is_not_true (c.in-Stop-search.ensures.stop refl));

@@ -1,16 +1,8 @@
--- What is forced is true of each valuation that is admitted and agreed before.
-use Rattle.olap_clauses.proofs.AdmitsLemmas.{agrees_grown, extends_again}
+-- The other solvers' clauses stay.
 use Rattle.olap_clauses.proofs.engine.Engine.force.Goals as goal
 
-pub returns-then-is_none-clause-follows : goal.returns-then-is_none-clause-follows
-returns-then-is_none-clause-follows c = λ v a h.
-    let x = extends_again c.force_each_short.ensures.extends c.propagate.ensures.extends in
-    agrees_grown v x.steps (x.kept v a).forced h
+pub returns-clause-follows : goal.returns-clause-follows
+returns-clause-follows c = λ v a h. c.force.ensures.follows v a.0 h
 
-pub returns-then-is_none-clause-admits : goal.returns-then-is_none-clause-admits
-returns-then-is_none-clause-admits c = λ v a.
-    (extends_again c.force_each_short.ensures.extends c.propagate.ensures.extends).kept v a
-
-pub returns-else-is_none-clause-follows : goal.returns-else-is_none-clause-follows
-returns-else-is_none-clause-follows c = λ v a h.
-    let x = c.force_each_short.ensures.extends in agrees_grown v x.steps (x.kept v a).forced h
+pub returns-clause-admits : goal.returns-clause-admits
+returns-clause-admits c = λ v a. (c.force.ensures.admits v a.0, a.1, a.2)

@@ -1,10 +1,9 @@
--- Nobody is lost before the facts are kept, nor then.
-use Rattle.std.proofs.Common.{sym, subst}
-use Rattle.olap_clauses.specs.Standing.{Forced}
+-- The second and the third solver have no clauses.
 use Rattle.olap_clauses.proofs.engine.Engine.new.Goals as goal
 
 pub returns-clause-admits : goal.returns-clause-admits
-returns-clause-admits c = λ v t. c.simplify.ensures.admits v (record {
-  clauses = c.in_ok-reserve.ensures.kept v t;
-  forced = subst (λ ss. Forced v ss) (sym c.in_ok-trail.ensures.empty) tt;
-})
+returns-clause-admits c = λ v t. (
+  c.in_ok-solver.ensures.admits v t,
+  c.in_ok-second.ensures v,
+  c.in_ok-third.ensures v,
+)

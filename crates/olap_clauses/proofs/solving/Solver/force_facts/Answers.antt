@@ -1,6 +1,6 @@
 -- Where nothing stood, what is forced is true of each valuation that makes the clauses true.
 use Rattle.olap_clauses.proofs.AdmitsLemmas.{facts_agree, extends_again}
-use Rattle.olap_clauses.proofs.engine.Engine.force_facts.Goals as goal
+use Rattle.olap_clauses.proofs.solving.Solver.force_facts.Goals as goal
 
 pub returns-in-Some-clause-facts : goal.returns-in-Some-clause-facts
 returns-in-Some-clause-facts c = λ v t. facts_agree c.in-Some.ensures.extends c.requires v t

@@ -2,7 +2,7 @@
 use Rattle.std.proofs.Common.{sym, subst}
 use Rattle.olap_pool.specs.declared.pools.Pool.{Pool}
 use Rattle.olap_pool.specs.Pools.{AreTrue}
-use Rattle.olap_clauses.proofs.engine.Engine.reduce.Goals as goal
+use Rattle.olap_clauses.proofs.solving.Solver.reduce.Goals as goal
 
 pub returns-clause-admits : goal.returns-clause-admits
 returns-clause-admits c = λ v a. record {

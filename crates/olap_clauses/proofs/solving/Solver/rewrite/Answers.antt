@@ -2,7 +2,7 @@
 use Rattle.std.proofs.Common.{sym, subst}
 use Rattle.olap_pool.specs.declared.pools.Pool.{Pool}
 use Rattle.olap_pool.specs.Pools.{AreTrue}
-use Rattle.olap_clauses.proofs.engine.Engine.rewrite.Goals as goal
+use Rattle.olap_clauses.proofs.solving.Solver.rewrite.Goals as goal
 
 pub returns-clause-clauses : goal.returns-clause-clauses
 returns-clause-clauses c = λ v a t.

@@ -1,0 +1,488 @@
+// A solver: clauses, a trail, and the search over them.
+ghost use Rattle.std.specs.Prelude.{◌≡◌, ℕ, ◌+◌, ◌<◌, ◌≤◌, Bool, true, false, List, [], ◌∷◌, ◌++◌, length, take, vec_capacity, IfOk, IsSome};
+ghost use Rattle.olap_clauses.specs.declared.trails.Step.{Step};
+ghost use Rattle.olap_clauses.specs.Standing.{Agrees, AgreesDecisions};
+ghost use Rattle.olap_clauses.specs.Trails.{values_of, IsOpen};
+ghost use Rattle.olap_pool.specs.Pools.{AreTrue, clause_count};
+ghost use Rattle.olap_clauses.specs.Judging.{JudgesSo};
+ghost use Rattle.olap_clauses.specs.Ranks.{left};
+
+use crate::effort::Effort;
+use crate::fixpoints::Fixpoints;
+use crate::judging::{Judge, Verdict};
+use crate::learning::{Notes, copy_some, learn};
+use crate::ordering::Order;
+use crate::picking::pick;
+use crate::propagating::{force_each_short, propagate};
+use crate::retreating::retreat;
+use crate::simplifying::copy_all;
+use crate::trails::{Reason, Trail};
+use olap_pool::{Lit, Pool};
+use std::alloc::{AllocError, Global};
+use std::mem::swap;
+
+/// So many learned clauses are kept at first, before the older ones are dropped: with more, each step takes longer.
+const KEPT: usize = 6000;
+
+/// So many more are kept each time.
+const MORE_KEPT: usize = 300;
+
+/// How a search ended.
+#[derive(Clone, Copy, PartialEq, Eq)]
+pub enum Outcome {
+    /// The judge took a trail.
+    Found,
+    /// There is nothing that it means below what stands.
+    Nothing,
+    /// The budget was spent, or the room to learn in: nothing is known.
+    Stop,
+}
+
+/// Clauses, a trail, and the search over them.
+#[derive(Drop)]
+pub(crate) struct Solver {
+    trail: Trail,
+    pool: Pool,
+    /// Where the clauses to be kept are copied, before the two pools change places.
+    spare: Pool,
+    /// How many clauses were given; those behind them were learned.
+    given: usize,
+    /// How many learned ones are kept before the older ones are dropped.
+    kept: usize,
+    notes: Notes,
+    /// What was learned from the last conflict, if anything was.
+    last: Option<usize>,
+    /// How many literals of the trail were looked at for what they force.
+    done: usize,
+    fixpoints: Fixpoints,
+    /// How many literals were known with no decision when the clauses were last rid of them.
+    facts: usize,
+    effort: Effort,
+    ghost reserved: { length (values_of trail) ≤ vec_capacity notes.work },
+}
+
+/// What one turn of the search did.
+#[derive(Clone, Copy)]
+enum Turn {
+    /// It decided a literal.
+    Decided,
+    /// It found that nothing agrees with the trail.
+    Failed,
+    /// The judge took the trail.
+    Taken,
+}
+
+/// Whether there was a budget, and so many conflicts are all of it, or there is no room to learn
+/// more.
+fn is_spent(budget: &Option<u64>, conflicts: u64, full: bool) -> bool
+    ensures { result ≡ true → IsSome budget.now }
+{
+    match budget {
+        Some(most) => full || conflicts >= *most,
+        None => false,
+    }
+}
+
+impl Solver {
+    ghost use Rattle.olap_clauses.specs.Solvers.{admits, trail_of, variables_of};
+    ghost use Rattle.olap_clauses.specs.Engines.{Finds};
+    ghost use Rattle.olap_clauses.specs.Turns.{TurnsSo};
+
+    /// Takes all memory that the solver will use: for these clauses, and for so many literals and clauses that are
+    /// learned.
+    pub(crate) fn new(
+        alloc: Global,
+        variables: u32,
+        pool: Pool,
+        room: u32,
+        clause_room: u32,
+    ) -> Result<Solver, AllocError>
+        ensures empty { IfOk result (λ s. trail_of s ≡ []) }
+        ensures variables { IfOk result (λ s. variables_of s ≡ variables) }
+        ensures admits { IfOk result (λ s. (v : ℕ → Bool) → AreTrue v pool → admits v s) }
+    {
+        let mut pool = pool;
+        pool.reserve(room as usize, clause_room as usize)?;
+        let mut notes = Notes::new(alloc, variables, pool.len(), clause_room)?;
+        notes.watches.enter_all(&pool);
+        let spare = pool.spare(alloc)?;
+        let trail = Trail::new(alloc, variables)?;
+        let fixpoints = Fixpoints::new(alloc, variables)?;
+        let given = pool.len();
+        let mut solver = Solver {
+            trail,
+            pool,
+            spare,
+            given,
+            kept: KEPT,
+            notes,
+            last: None,
+            done: 0,
+            fixpoints,
+            facts: 0,
+            effort: Effort::NONE,
+        };
+        solver.simplify();
+        Ok(solver)
+    }
+
+    /// A solver with as much room, in which nothing stands, and no clauses.
+    pub(crate) fn beside(
+        &self,
+        alloc: Global,
+        variables: u32,
+        clause_room: u32,
+    ) -> Result<Solver, AllocError>
+        ensures { IfOk result (λ s. (v : ℕ → Bool) → AreTrue v s.pool) }
+    {
+        let pool = self.pool.spare(alloc)?;
+        let notes = Notes::new(alloc, variables, self.pool.len(), clause_room)?;
+        let spare = self.pool.spare(alloc)?;
+        let trail = Trail::new(alloc, variables)?;
+        let fixpoints = Fixpoints::new(alloc, variables)?;
+        Ok(Solver {
+            trail,
+            pool,
+            spare,
+            given: 0,
+            kept: KEPT,
+            notes,
+            last: None,
+            done: 0,
+            fixpoints,
+            facts: 0,
+            effort: Effort::NONE,
+        })
+    }
+
+    /// Copies the clauses of another solver that were given, and those that it learned on few levels, where this one has
+    /// none.
+    pub(crate) fn fill_from(&mut self, other: &Solver)
+        ensures trail { self.new.trail ≡ self.old.trail }
+        ensures clauses { (v : ℕ → Bool) → AreTrue v other.now.pool → AreTrue v self.old.pool → AreTrue v self.new.pool }
+    {
+        if self.pool.len() == 0 {
+            copy_some(&other.pool, &mut self.pool, other.given, other.pool.len());
+            self.given = other.given.min(self.pool.len());
+            self.notes.watches.enter_all(&self.pool);
+        }
+    }
+
+    /// Changes places with another solver, but for what stands.
+    pub(crate) fn change_places(&mut self, other: &mut Solver)
+        ensures trail { self.new.trail ≡ self.old.trail }
+        ensures clauses { (v : ℕ → Bool) → AreTrue v self.old.pool → AreTrue v other.old.pool
+            → AreTrue v self.new.pool × AreTrue v other.new.pool }
+    {
+        if self.trail.variables() == other.trail.variables() {
+            swap(self, other);
+            swap(&mut self.trail, &mut other.trail);
+            self.fixpoints.forget();
+        }
+    }
+
+    /// Forces what is forced with no decision. False: nothing agrees with that.
+    fn force_facts(&mut self) -> bool
+        requires { trail_of self.old ≡ [] }
+        ensures facts { (v : ℕ → Bool) → AreTrue v self.old.pool → Agrees v (trail_of self.new) }
+        ensures clauses { (v : ℕ → Bool) → AreTrue v self.old.pool → AreTrue v self.new.pool }
+        ensures variables { variables_of self.new ≡ variables_of self.old }
+    {
+        self.done = 0;
+        if let Some(_) = force_each_short(&mut self.trail, &self.pool, &self.notes.watches, false) {
+            return false;
+        }
+        let broken = propagate(
+            &mut self.trail,
+            &self.pool,
+            &mut self.notes.watches,
+            &mut self.done,
+        );
+        broken.is_none()
+    }
+
+    /// Puts what stands in the place of each clause that it makes true, and takes out of the others
+    /// what it makes false.
+    fn rewrite(&mut self)
+        ensures clauses { (v : ℕ → Bool) → Agrees v (trail_of self.old) → AreTrue v self.old.pool
+            → AreTrue v self.new.pool }
+        ensures variables { variables_of self.new ≡ variables_of self.old }
+    {
+        self.given = copy_all(
+            &self.trail,
+            &self.pool,
+            &mut self.spare,
+            &mut self.notes.work,
+            self.given,
+        );
+        swap(&mut self.pool, &mut self.spare);
+        self.notes.watches.enter_all(&self.pool);
+        self.fixpoints.forget();
+        self.last = None;
+        self.facts = self.trail.len();
+    }
+
+    /// Rids the clauses of what is known with no decision, where more is known than the last time.
+    fn keep_facts(&mut self)
+        requires { trail_of self.old ≡ [] }
+        ensures clauses { (v : ℕ → Bool) → AreTrue v self.old.pool → AreTrue v self.new.pool }
+        ensures variables { variables_of self.new ≡ variables_of self.old }
+    {
+        if self.force_facts() && self.trail.len() > self.facts {
+            self.rewrite();
+        }
+    }
+
+    /// The same, where nothing stands; else nothing is done.
+    pub(crate) fn simplify(&mut self)
+        ensures trail { trail_of self.new ≡ trail_of self.old }
+        ensures variables { variables_of self.new ≡ variables_of self.old }
+        ensures admits { (v : ℕ → Bool) → admits v self.old → admits v self.new }
+    {
+        if self.trail.len() > 0 {
+            return;
+        }
+        self.keep_facts();
+        self.undo(0);
+    }
+
+    /// What searching took so far: conflicts, and literals learned from them.
+    pub(crate) fn effort(&self) -> Effort {
+        self.effort
+    }
+
+    /// The literals that stand.
+    pub(crate) fn trail(&self) -> &Trail
+        ensures { result.now ≡ self.now.trail }
+    {
+        &self.trail
+    }
+
+    /// Decides an open literal.
+    pub(crate) fn decide(&mut self, lit: Lit)
+        requires { IsOpen self.old.trail lit }
+        ensures trail { trail_of self.new
+            ≡ trail_of self.old ++ (record { lit = lit; reason = Reason.Decision }) ∷ [] }
+        ensures variables { variables_of self.new ≡ variables_of self.old }
+        ensures admits { (v : ℕ → Bool) → admits v self.old → admits v self.new }
+    {
+        self.trail.push(lit, Reason::Decision);
+    }
+
+    /// Takes literals off until so many are left.
+    pub(crate) fn undo(&mut self, mark: usize)
+        ensures trail { trail_of self.new ≡ take mark (trail_of self.old) }
+        ensures variables { variables_of self.new ≡ variables_of self.old }
+        ensures admits { (v : ℕ → Bool) → admits v self.old → admits v self.new }
+        ensures clauses { (v : ℕ → Bool) → AreTrue v self.old.pool → AreTrue v self.new.pool }
+    {
+        self.trail.cut(mark);
+        self.done = self.fixpoints.cut(mark);
+    }
+
+    /// Forces what the clauses force below what stands, up to one that is false.
+    pub(crate) fn force(&mut self)
+        ensures follows { (v : ℕ → Bool) → admits v self.old → Agrees v (trail_of self.old)
+            → Agrees v (trail_of self.new) }
+        ensures longer { (more : List Step) × (trail_of self.new ≡ trail_of self.old ++ more) }
+        ensures variables { variables_of self.new ≡ variables_of self.old }
+        ensures admits { (v : ℕ → Bool) → admits v self.old → admits v self.new }
+    {
+        self.done = self.fixpoints.cut(self.trail.len());
+        let stand = !self.fixpoints.is_empty();
+        if force_each_short(&mut self.trail, &self.pool, &self.notes.watches, stand).is_none() {
+            let broken = propagate(
+                &mut self.trail,
+                &self.pool,
+                &mut self.notes.watches,
+                &mut self.done,
+            );
+            self.fixpoints.note(self.trail.len(), broken.is_none());
+        }
+    }
+
+    /// From now on decisions are taken in this order.
+    pub(crate) fn show(&mut self, order: Order)
+        ensures trail { trail_of self.new ≡ trail_of self.old }
+        ensures variables { variables_of self.new ≡ variables_of self.old }
+        ensures admits { (v : ℕ → Bool) → admits v self.old → admits v self.new }
+    {
+        self.notes.scores.show(order);
+    }
+
+    /// Learns from a clause that is false.
+    fn learn_from(&mut self, id: usize)
+        requires { id < clause_count self.old.pool }
+        ensures trail { self.new.trail ≡ self.old.trail }
+        ensures admits { (v : ℕ → Bool) → admits v self.old → admits v self.new }
+    {
+        self.last = learn(&self.trail, &mut self.pool, &mut self.notes, id);
+        self.notes.scores.age();
+        self.effort = self.effort.with_conflict(self.notes.work.len());
+    }
+
+    /// What comes next: the open literal that had most to do with conflicts is decided, or the judge is asked.
+    fn ask<S, J: Judge<S>>(&self, judge: &J, state: &mut S) -> Verdict
+        requires suits { J.Suits judge.now state.old (variables_of self.now) }
+        ensures right { JudgesSo (J.Means judge.now) (J.Took judge.now state.new) self.now.trail result }
+        ensures suits { J.Suits judge.now state.new (variables_of self.now) }
+    {
+        match pick(&self.trail, self.notes.scores.free()) {
+            Some(lit) => Verdict::Decide(lit),
+            None => judge.judge(state, &self.trail, self.notes.scores.shown()),
+        }
+    }
+
+    /// One turn of the search: forces what is forced, and then learns, or asks the judge.
+    fn turn<S, J: Judge<S>>(&mut self, judge: &J, state: &mut S) -> Turn
+        requires suits { J.Suits judge.now state.old (variables_of self.old) }
+        ensures turn { TurnsSo (J.Means judge.now) (J.Took judge.now state.new) self.old self.new result }
+        ensures front { (off : List Step) × (trail_of self.new ≡ trail_of self.old ++ off) }
+        ensures variables { variables_of self.new ≡ variables_of self.old }
+        ensures admits { (v : ℕ → Bool) → admits v self.old → admits v self.new }
+        ensures suits { J.Suits judge.now state.new (variables_of self.old) }
+    {
+        let broken = propagate(
+            &mut self.trail,
+            &self.pool,
+            &mut self.notes.watches,
+            &mut self.done,
+        );
+        if let Some(id) = broken {
+            self.learn_from(id);
+            return Turn::Failed;
+        }
+        match self.ask(judge, state) {
+            Verdict::Decide(lit) => {
+                self.trail.push(lit, Reason::Decision);
+                Turn::Decided
+            }
+            Verdict::Take => Turn::Taken,
+            Verdict::Refuse => {
+                self.last = None;
+                Turn::Failed
+            }
+        }
+    }
+
+    /// Goes to the other side of a branch, where there is one behind the floor.
+    fn turn_back(&mut self, floor: usize) -> bool
+        requires { floor ≤ length (trail_of self.old) }
+        ensures on { result ≡ true → (v : ℕ → Bool) → admits v self.old
+            → (Agrees v (trail_of self.old) → ⊥) → admits v self.new }
+        ensures off { result ≡ false → (v : ℕ → Bool) → admits v self.old
+            → (Agrees v (trail_of self.old) → ⊥) → Agrees v (take floor (trail_of self.old)) → ⊥ }
+        ensures front { take floor (trail_of self.new) ≡ take floor (trail_of self.old) }
+        ensures floor { floor ≤ length (trail_of self.new) }
+        ensures variables { variables_of self.new ≡ variables_of self.old }
+        ensures less { result ≡ true
+            → left self.old.trail self.new.trail < left self.old.trail self.old.trail }
+        ensures clauses { (v : ℕ → Bool) → AreTrue v self.old.pool → AreTrue v self.new.pool }
+    {
+        let on = retreat(&mut self.trail, &self.pool, self.last, floor);
+        self.done = self.done.min(self.trail.len().saturating_sub(1));
+        on
+    }
+
+    /// The search. What is forced stays on the trail.
+    fn run<S, J: Judge<S>>(
+        &mut self,
+        judge: &J,
+        state: &mut S,
+        budget: Option<u64>,
+        floor: usize,
+    ) -> Outcome
+        requires suits { J.Suits judge.now state.old (variables_of self.old) }
+        requires floor { floor ≡ length (trail_of self.old) }
+        ensures found { result ≡ Outcome.Found
+            → Finds (J.Took judge.now state.new) (trail_of self.old) }
+        ensures nothing { result ≡ Outcome.Nothing → (v : ℕ → Bool) → J.Means judge.now v
+            → admits v self.old → Agrees v (trail_of self.old) → ⊥ }
+        ensures stop { result ≡ Outcome.Stop → IsSome budget }
+        ensures front { take floor (trail_of self.new) ≡ trail_of self.old }
+        ensures variables { variables_of self.new ≡ variables_of self.old }
+        ensures admits { (v : ℕ → Bool) → J.Means judge.now v → admits v self.old
+            → AreTrue v self.new.pool }
+        ensures suits { J.Suits judge.now state.new (variables_of self.old) }
+    {
+        let stand = !self.fixpoints.is_empty();
+        if let Some(_) = force_each_short(&mut self.trail, &self.pool, &self.notes.watches, stand) {
+            return Outcome::Nothing;
+        }
+        let mut conflicts: u64 = 0;
+        'turns: loop {
+            match self.turn(judge, state) {
+                Turn::Decided => {}
+                Turn::Taken => return Outcome::Found,
+                Turn::Failed => {
+                    if !self.turn_back(floor) {
+                        return Outcome::Nothing;
+                    }
+                    if is_spent(&budget, conflicts, self.pool.is_full()) {
+                        return Outcome::Stop;
+                    }
+                    conflicts = conflicts.saturating_add(1);
+                }
+            }
+        }
+    }
+
+    /// Searches below what stands for what the judge takes, through at most so many conflicts. What
+    /// stands is left as it was.
+    pub(crate) fn search<S, J: Judge<S>>(
+        &mut self,
+        judge: &J,
+        state: &mut S,
+        budget: Option<u64>,
+    ) -> Outcome
+        requires suits { J.Suits judge.now state.old (variables_of self.old) }
+        ensures found { result ≡ Outcome.Found
+            → Finds (J.Took judge.now state.new) (trail_of self.old) }
+        ensures nothing { result ≡ Outcome.Nothing → (v : ℕ → Bool) → J.Means judge.now v
+            → admits v self.old → AgreesDecisions v (trail_of self.old) → ⊥ }
+        ensures stop { result ≡ Outcome.Stop → IsSome budget }
+        ensures trail { trail_of self.new ≡ trail_of self.old }
+        ensures variables { variables_of self.new ≡ variables_of self.old }
+        ensures admits { (v : ℕ → Bool) → J.Means judge.now v → admits v self.old
+            → admits v self.new }
+        ensures suits { J.Suits judge.now state.new (variables_of self.old) }
+    {
+        let floor = self.trail.len();
+        self.done = self.fixpoints.cut(floor);
+        let before = self.effort.conflicts;
+        let outcome = self.run(judge, state, budget, floor);
+        self.undo(floor);
+        self.fixpoints
+            .forget_unless(self.effort.conflicts == before);
+        outcome
+    }
+
+    /// Drops about half of what was learned: kept are the newest quarter, and about as many of the others, whose literals
+    /// stood on the fewest levels of decisions.
+    fn reduce(&mut self)
+        ensures trail { trail_of self.new ≡ trail_of self.old }
+        ensures variables { variables_of self.new ≡ variables_of self.old }
+        ensures admits { (v : ℕ → Bool) → admits v self.old → admits v self.new }
+    {
+        let learned = self.pool.len().saturating_sub(self.given);
+        let newer = self.pool.len() - learned / 2;
+        copy_some(&self.pool, &mut self.spare, self.given, newer);
+        swap(&mut self.pool, &mut self.spare);
+        self.notes.watches.enter_all(&self.pool);
+        self.fixpoints.forget();
+        self.last = None;
+    }
+
+    /// Drops what was learned long ago, where there is little room or much was learned.
+    pub(crate) fn make_room(&mut self)
+        ensures trail { trail_of self.new ≡ trail_of self.old }
+        ensures variables { variables_of self.new ≡ variables_of self.old }
+        ensures admits { (v : ℕ → Bool) → admits v self.old → admits v self.new }
+    {
+        let learned = self.pool.len().saturating_sub(self.given);
+        if self.pool.is_full() || learned > self.kept {
+            self.kept = self.kept.saturating_add(MORE_KEPT);
+            self.reduce();
+        }
+    }
+}
