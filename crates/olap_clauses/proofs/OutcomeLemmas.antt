@@ -1,7 +1,7 @@
 -- The outcomes of a search differ, and so do yes and no. Stated here once, since a search for it among all that a
 -- function knows is dear.
 use Rattle.std.proofs.Common.{◌≡◌, true, false}
-use Rattle.olap_clauses.specs.declared.solving.Outcome.TheVariants.{Found, Nothing, Stop}
+use Rattle.olap_clauses.specs.declared.outcomes.Outcome.TheVariants.{Found, Nothing, Stop}
 
 -- it didn't end both with nothing and with something
 pub nothing_is_not_found : Nothing ≡ Found → ⊥

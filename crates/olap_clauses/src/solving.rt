@@ -12,11 +12,13 @@ use crate::fixpoints::Fixpoints;
 use crate::judging::{Judge, Verdict};
 use crate::learning::{Notes, copy_some, learn};
 use crate::ordering::Order;
+use crate::outcomes::Outcome;
 use crate::picking::pick;
 use crate::propagating::{force_each_short, propagate};
 use crate::retreating::retreat;
 use crate::simplifying::copy_all;
 use crate::trails::{Reason, Trail};
+use olap_parities::Parities;
 use olap_pool::{Lit, Pool};
 use std::alloc::{AllocError, Global};
 use std::mem::swap;
@@ -26,17 +28,6 @@ const KEPT: usize = 6000;
 
 /// So many more are kept each time.
 const MORE_KEPT: usize = 300;
-
-/// How a search ended.
-#[derive(Clone, Copy, PartialEq, Eq)]
-pub enum Outcome {
-    /// The judge took a trail.
-    Found,
-    /// There is nothing that it means below what stands.
-    Nothing,
-    /// The budget was spent, or the room to learn in: nothing is known.
-    Stop,
-}
 
 /// Clauses, a trail, and the search over them.
 #[derive(Drop)]
@@ -88,8 +79,7 @@ impl Solver {
     ghost use Rattle.olap_clauses.specs.Engines.{Finds};
     ghost use Rattle.olap_clauses.specs.Turns.{TurnsSo};
 
-    /// Takes all memory that the solver will use: for these clauses, and for so many literals and clauses that are
-    /// learned.
+    /// Takes all memory that the solver will use: for these clauses, and so many literals and clauses more.
     pub(crate) fn new(
         alloc: Global,
         variables: u32,
@@ -251,6 +241,11 @@ impl Solver {
         self.effort
     }
 
+    /// The clauses.
+    pub(crate) fn pool(&self) -> &Pool {
+        &self.pool
+    }
+
     /// The literals that stand.
     pub(crate) fn trail(&self) -> &Trail
         ensures { result.now ≡ self.now.trail }
@@ -299,6 +294,23 @@ impl Solver {
             );
             self.fixpoints.note(self.trail.len(), broken.is_none());
         }
+    }
+
+    /// Adds what the parities that stand in the clauses come to. False: no valuation makes all clauses true.
+    pub(crate) fn derive(&mut self, parities: &mut Parities) -> bool
+        ensures none { result ≡ false → (v : ℕ → Bool) → AreTrue v self.old.pool → ⊥ }
+        ensures trail { trail_of self.new ≡ trail_of self.old }
+        ensures variables { variables_of self.new ≡ variables_of self.old }
+        ensures admits { (v : ℕ → Bool) → admits v self.old → admits v self.new }
+    {
+        let all = self.pool.len();
+        copy_some(&self.pool, &mut self.spare, all, all);
+        let some = parities.derive(&self.pool, &mut self.spare);
+        swap(&mut self.pool, &mut self.spare);
+        self.notes.watches.enter_all(&self.pool);
+        self.fixpoints.forget();
+        self.last = None;
+        some
     }
 
     /// From now on decisions are taken in this order.

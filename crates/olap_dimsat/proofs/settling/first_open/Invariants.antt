@@ -7,7 +7,7 @@ use Rattle.olap_dimsat.proofs.settling.first_open.Given as goal
 
 abbrev pub invariant-places : goal.invariant-places
 invariant-places l = (q : ℕ) → l.from ≤ q → q < l.p
-    → IsSettled (task_of l.a) l.engine.trail q (chosen_of l.best.edges l.best.names)
+    → IsSettled (task_of l.a) l.engine.solver.trail q (chosen_of l.best.edges l.best.names)
 
 abbrev pub decreases-places : goal.decreases-places
 decreases-places l = 65536 - l.p

@@ -5,47 +5,63 @@ use Rattle.olap_clauses.specs.Standing.{AgreesDecisions}
 use Rattle.olap_clauses.proofs.OutcomeLemmas.{false_is_not_true, true_is_not_false}
 use Rattle.olap_clauses.proofs.engine.Engine.exists.Goals as goal
 
+pub returns-then-not-derive : goal.returns-then-not-derive
+returns-then-not-derive g c =
+    let i = c.rounds.invariant in
+    let d = c.derive.ensures in
+    record {
+      found = λ e. absurd (false_is_not_true e);
+      nothing = λ _ v m a h. c.if-not-derive.ensures.none refl v (i.admits v m a);
+      trail = d.trail ∙ i.trail;
+      variables = d.variables ∙ i.variables;
+      admits = λ v m a. d.admits v (i.admits v m a);
+      suits = i.suits;
+    }
+
 pub returns-in-Found : goal.returns-in-Found
 returns-in-Found g c =
     let i = c.rounds.invariant in
+    let d = c.derive.ensures in
     let s = c.take_round.ensures in
     let more = c.in-Found.ensures.found refl in
     let took = λ (ss : List Step). g.J.Judge.Took c.args.judge.now c.take_round.new.state (ss ++ more.0) in
     let suits = λ (n : ℕ). g.J.Judge.Suits c.args.judge.now c.take_round.new.state n in
     record {
-      found = λ _. (more.0, subst took i.trail more.1);
+      found = λ _. (more.0, subst took (d.trail ∙ i.trail) more.1);
       nothing = λ e. absurd (true_is_not_false e);
-      trail = s.trail ∙ i.trail;
-      variables = s.variables ∙ i.variables;
-      admits = λ v m a. s.admits v m (i.admits v m a);
-      suits = subst suits i.variables s.suits;
+      trail = s.trail ∙ d.trail ∙ i.trail;
+      variables = s.variables ∙ d.variables ∙ i.variables;
+      admits = λ v m a. s.admits v m (d.admits v (i.admits v m a));
+      suits = subst suits (d.variables ∙ i.variables) s.suits;
     }
 
 pub returns-in-Nothing : goal.returns-in-Nothing
 returns-in-Nothing g c =
     let i = c.rounds.invariant in
+    let d = c.derive.ensures in
     let s = c.take_round.ensures in
     let suits = λ (n : ℕ). g.J.Judge.Suits c.args.judge.now c.take_round.new.state n in
     record {
       found = λ e. absurd (false_is_not_true e);
-      nothing = λ _ v m a d. c.in-Nothing.ensures.nothing refl v m (i.admits v m a)
-          (subst (λ (ss : List Step). AgreesDecisions v ss) (sym i.trail) d);
-      trail = s.trail ∙ i.trail;
-      variables = s.variables ∙ i.variables;
-      admits = λ v m a. s.admits v m (i.admits v m a);
-      suits = subst suits i.variables s.suits;
+      nothing = λ _ v m a h. c.in-Nothing.ensures.nothing refl v m (d.admits v (i.admits v m a))
+          (subst (λ (ss : List Step). AgreesDecisions v ss) (sym (d.trail ∙ i.trail)) h);
+      trail = s.trail ∙ d.trail ∙ i.trail;
+      variables = s.variables ∙ d.variables ∙ i.variables;
+      admits = λ v m a. s.admits v m (d.admits v (i.admits v m a));
+      suits = subst suits (d.variables ∙ i.variables) s.suits;
     }
 
 pub rounds-preserved : goal.rounds-preserved
 rounds-preserved g c =
     let i = c.rounds.invariant in
+    let d = c.derive.ensures in
     let s = c.take_round.ensures in
     let suits = λ (n : ℕ). g.J.Judge.Suits c.args.judge.now c.take_round.new.state n in
     record {
-      trail = s.trail ∙ i.trail;
-      variables = s.variables ∙ i.variables;
-      admits = λ v m a. s.admits v m (i.admits v m a);
-      suits = subst suits i.variables s.suits;
+      trail = s.trail ∙ d.trail ∙ i.trail;
+      variables = s.variables ∙ d.variables ∙ i.variables;
+      admits = λ v m a. s.admits v m (d.admits v (i.admits v m a));
+      suits = subst suits (d.variables ∙ i.variables) s.suits;
     }
 
 pub rounds-init : goal.rounds-init
@@ -59,8 +75,9 @@ rounds-init g c = record {
 pub take_round-requires : goal.take_round-requires
 take_round-requires g c =
     let i = c.rounds.invariant in
+    let d = c.derive.ensures in
     let suits = λ (n : ℕ). g.J.Judge.Suits c.args.judge.now c.rounds.state n in
-    record { suits = subst suits (sym i.variables) i.suits }
+    record { suits = subst suits (sym (d.variables ∙ i.variables)) i.suits }
 
 pub returns-in-Found-search : goal.returns-in-Found-search
 returns-in-Found-search g c =
@@ -85,8 +102,8 @@ returns-in-Nothing-search g c =
     let suits = λ (n : ℕ). g.J.Judge.Suits c.args.judge.now c.search.new.state n in
     record {
       found = λ e. absurd (false_is_not_true e);
-      nothing = λ _ v m a d. c.in-Nothing-search.ensures.nothing refl v m (i.admits v m a)
-          (subst (λ (ss : List Step). AgreesDecisions v ss) (sym i.trail) d);
+      nothing = λ _ v m a h. c.in-Nothing-search.ensures.nothing refl v m (i.admits v m a)
+          (subst (λ (ss : List Step). AgreesDecisions v ss) (sym i.trail) h);
       trail = s.trail ∙ i.trail;
       variables = s.variables ∙ i.variables;
       admits = λ v m a. s.admits v m (i.admits v m a);
@@ -100,7 +117,7 @@ returns-in-Stop-search g c =
     let suits = λ (n : ℕ). g.J.Judge.Suits c.args.judge.now c.search.new.state n in
     record {
       found = λ e. absurd (false_is_not_true e);
-      nothing = λ _ v m a d. absurd (false_is_not_true (c.in-Stop-search.ensures.stop refl));
+      nothing = λ _ v m a h. absurd (false_is_not_true (c.in-Stop-search.ensures.stop refl));
       trail = s.trail ∙ i.trail;
       variables = s.variables ∙ i.variables;
       admits = λ v m a. s.admits v m (i.admits v m a);
