@@ -15,6 +15,7 @@ ghost use Rattle.olap_frozen.specs.LeastFound.{HasNothing, IsLeastFound, frozen_
 ghost use Rattle.olap_frozen.specs.Leaves.{IsSized, IsZeroAtAll};
 ghost use Rattle.olap_schema.specs.Schemas.{schema_of};
 
+use crate::aiming::look;
 use crate::asker::{Asker, Leaf, blank, nothing};
 use crate::existing::exists;
 use crate::listing::list;
@@ -154,6 +155,38 @@ impl Search {
         true
     }
 
+    /// Some frozen dimension whose root makes the question true, looked for where of the categories exactly those are
+    /// present whose bits are in the mask. What it finds may be of another kind. It gives up soon: false says nothing,
+    /// and then `into` stays.
+    ///
+    /// It can't return out of memory.
+    pub fn look(
+        &mut self,
+        schema: &Schema,
+        question: &Formula,
+        categories: &[CatId],
+        mask: u16,
+        into: &mut Frozen,
+    ) -> bool
+        requires made { IsMadeWith (schema_of schema.now) (formula_of question.now) self.old }
+        requires sizes { IsSizedFor self.old into.old }
+        ensures some { IsTrue result → IsOneFound (schema_of schema.now) (formula_of question.now)
+            (root_of self.old) (found_in self.old into.new) }
+        ensures stays { result ≡ false → into.new ≡ into.old }
+        ensures candidates { named_in self.new ≡ named_in self.old }
+        ensures root { root_of self.new ≡ root_of self.old }
+        ensures made { IsMadeWith (schema_of schema.now) (formula_of question.now) self.new }
+    {
+        let asker = Asker::of(schema, question, self.root, &self.candidates, &self.layout);
+        let found = look(&mut self.engine, &asker, &mut self.leaf, categories, mask);
+        self.engine.undo(0);
+        if !found {
+            return false;
+        }
+        hand_out(self.root, &mut self.leaf.frozen, into);
+        true
+    }
+
     /// All frozen dimensions whose root makes the question true, by their codes, where they are at most `limit`.
     ///
     /// `TooMany`: exactly where there are more. It takes memory for the list, and for a note of each edge and category.
@@ -233,6 +266,13 @@ impl Search {
     }
 
     /// The candidates of the schema and the question that it was made with.
+    pub fn candidates(&self) -> &Candidates
+        ensures { result.now ≡ named_in self.now }
+    {
+        &self.candidates
+    }
+
+    /// The same, of a search that is over.
     pub fn into_candidates(self) -> Candidates
         ensures { result ≡ named_in self }
     {
