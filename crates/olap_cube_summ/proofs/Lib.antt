@@ -10,3 +10,4 @@ mod FamilyLemmas
 mod LeastLemmas
 mod TupleLemmas
 mod SettingLemmas
+mod LookingLemmas

@@ -2,3 +2,4 @@
 pub mod Questions
 pub mod Patterns
 pub mod Dimensions
+pub mod Looking

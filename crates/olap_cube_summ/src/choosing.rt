@@ -46,7 +46,13 @@ fn take_least(
     let patterns = possible(mask, &family.patterns, rest, sources);
     let found = least_found(alloc, schema, question, family.bottom, &patterns)?;
     let mut room = Room::new(alloc, schema.graph())?;
-    let pattern = pattern(schema, question, &found, &mut room);
+    let pattern = pattern(
+        schema,
+        question,
+        &found.candidates,
+        &found.frozen,
+        &mut room,
+    );
     let left = mask & pattern;
     Ok(Taken { found, left })
 }

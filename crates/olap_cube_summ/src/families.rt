@@ -6,6 +6,7 @@ ghost use Rattle.olap_cube_summ.specs.Questions.{IsQuestionOf};
 ghost use Rattle.olap_schema.specs.Schemas.{schema_of};
 
 use crate::asking::other_found;
+use crate::looking::soon_found;
 use crate::questions::Question;
 use crate::ways::pattern;
 use olap_base::{CatId, List, Memory};
@@ -14,7 +15,8 @@ use olap_patterns::{Family, Patterns};
 use olap_schema::Schema;
 use std::alloc::Global;
 
-// The patterns of the frozen dimensions with this root. Each search finds one that is new.
+// The patterns of the frozen dimensions with this root. Behind those that are soon found each search finds one that is
+// new, and the last one none.
 fn patterns_of(
     alloc: Global,
     schema: &Schema,
@@ -29,9 +31,10 @@ fn patterns_of(
         (record { bottom = root; patterns = patterns })) }
     ensures room { length room.new.rows.items ≡ category_count (schema_of schema.now).graph }
 {
-    let mut patterns = Patterns::empty();
+    let mut patterns = soon_found(alloc, schema, question, root)?;
     'patterns: while let Some(found) = other_found(alloc, schema, question, root, &patterns)? {
-        patterns = patterns.with(pattern(schema, question, &found, room));
+        let new = pattern(schema, question, &found.candidates, &found.frozen, room);
+        patterns = patterns.with(new);
     }
     Ok(patterns)
 }

@@ -2,8 +2,8 @@
 //! their legal instances and all fact tables.
 //!
 //! In each dimension the sources by way of which a root reaches the target are its pattern (`olap_patterns`). The
-//! patterns of the frozen dimensions of each bottom category are searched for, one search a pattern; whether a choice
-//! is bad depends on its patterns alone, and so sets of patterns are combined, not tuples of bottom categories. A
+//! patterns of the frozen dimensions of each bottom category are searched for, most of them by one search; whether a
+//! choice is bad depends on its patterns alone, and so sets of patterns are combined, not tuples of bottom categories. A
 //! contract sees the answer by the definitions of `olap_cube`; facts and views aren't known here.
 #![tactic(auto)]
 
@@ -11,6 +11,7 @@ mod asking;
 mod choosing;
 mod distinct;
 mod families;
+mod looking;
 mod questions;
 mod summarizing;
 mod ways;

@@ -81,8 +81,8 @@ fn counterexample(
 ///
 /// `DuplicateSource`: exactly where a source stands twice. `Memory`: out of memory. The target may be a source.
 ///
-/// It makes one search for each pattern of each bottom category of each dimension, and one more for each bottom
-/// category and each dimension; one stands at a time.
+/// It makes two searches for each bottom category of each dimension, one more for each pattern that the first of them
+/// passes over, and one for each dimension; one stands at a time.
 pub fn cube_summarizable(
     alloc: Global,
     cube: &Cube,

@@ -5,7 +5,7 @@ use Rattle.olap_base.specs.declared.ids.CatId.{CatId}
 use Rattle.olap_dimensions.specs.Found.{chosen_of}
 use Rattle.olap_patterns.specs.Ways.{HasWaysTo}
 use Rattle.olap_schema.specs.Schemas.{schema_of}
-use Rattle.olap_cube_summ.specs.Patterns.{shape_of}
+use Rattle.olap_cube_summ.specs.Patterns.{named_by, shape_of}
 use Rattle.olap_cube_summ.specs.Questions.{sources_in, target_in}
 use Rattle.olap_cube_summ.proofs.WayLemmas.{bit_is, more_room, put_small, way_at, way_passed, way_put}
 use Rattle.olap_cube_summ.proofs.ways.pattern.Goals as goal
@@ -14,7 +14,7 @@ use Rattle.olap_cube_summ.proofs.ways.pattern.Goals.{then-reaches_by, else-reach
 pub sources-preserved : goal.sources-preserved
 sources-preserved c =
     let q = c.args.question.now in
-    let i = shape_of (schema_of c.args.schema.now) (chosen_of c.args.found.now) in
+    let i = shape_of (schema_of c.args.schema.now) (chosen_of (named_by c.args.candidates.now c.args.frozen.now)) in
     let t = target_in q in
     let column = sources_in q in
     let k = c.sources.k in
@@ -23,7 +23,7 @@ sources-preserved c =
     let inside : k < length q.sources =
     subst (λ (l : List CatId). k < length l) c.items-sources.ensures c.sources-test.true in
     let bit = bit_is k (let few = c.requires.few in omega arith) in
-    let at = λ (x : ℕ) (m : IsMemberOf i c.args.found.now.frozen.root.0 x).
+    let at = λ (x : ℕ) (m : IsMemberOf i c.args.frozen.now.root.0 x).
     way_at q.sources c.items-sources.result.now c.items-sources.ensures k _ inside c.reaches_by.result i x t
     (c.reaches_by.ensures.way x m) in
     elim c.if-reaches_by.branch [
@@ -45,7 +45,7 @@ sources-preserved c =
 pub returns-clause-pattern : goal.returns-clause-pattern
 returns-clause-pattern c = λ x m.
     let q = c.args.question.now in
-    let i = shape_of (schema_of c.args.schema.now) (chosen_of c.args.found.now) in
+    let i = shape_of (schema_of c.args.schema.now) (chosen_of (named_by c.args.candidates.now c.args.frozen.now)) in
     let count = length-map q.sources (λ (y : CatId). y.0) in
     let same = ap length c.items-sources.ensures in
     let all : c.sources.k ≡ length (sources_in q) = (let a = c.sources-test.false in let b = c.sources.auto.k-end in

@@ -7,6 +7,7 @@ use Rattle.olap_ast.specs.Trees.{constraint_of}
 use Rattle.olap_frozen.specs.LeastFound.{frozen_of}
 use Rattle.olap_names.specs.Names.{candidates_of}
 use Rattle.olap_schema.specs.Schemas.{schema_of}
+use Rattle.olap_cube_summ.specs.Patterns.{named_by}
 use Rattle.olap_cube_summ.proofs.WayLemmas.{candidates_for, way_is, whole_is}
 use Rattle.olap_cube_summ.proofs.ways.reaches_by.Goals as goal
 
@@ -16,13 +17,14 @@ is_frozen-is_way-requires-clause-candidates c =
     let whole = whole_is s c.graph.result.now (map constraint_of c.constraints.result.now) c.graph.ensures
     c.constraints.ensures.list in
     subst (λ (w : Schema). AreCandidates w (Via c.args.source.0 c.args.target.0)
-    (candidates_of c.args.found.now.candidates)) (sym whole)
-    (candidates_for s c.args.target.0 c.args.found.now c.requires.found c.args.source.0)
+    (candidates_of c.args.candidates.now)) (sym whole)
+    (candidates_for s c.args.target.0 (named_by c.args.candidates.now c.args.frozen.now) c.requires.found
+    c.args.source.0)
 
 pub returns-clause-way : goal.returns-clause-way
 returns-clause-way c = λ x m.
     let s = schema_of c.args.schema.now in
-    let found = c.args.found.now in
+    let found = named_by c.args.candidates.now c.args.frozen.now in
     let whole = whole_is s c.graph.result.now (map constraint_of c.constraints.result.now) c.graph.ensures
     c.constraints.ensures.list in
     let way = way_is s c.args.target.0 found c.requires.found c.args.source.0 x m in
