@@ -71,8 +71,8 @@ impl Lookout {
         Ok(Lookout { search, room })
     }
 
-    // The pattern of a frozen dimension, looked for where of the first sources exactly those are present whose bits are
-    // in the mask. There may be one of this kind, though none is found or one of another.
+    // The pattern of a frozen dimension, looked for where the target is reached by way of exactly those of the first
+    // sources whose bits are in the mask. There may be one of this kind, though none is found or one of another.
     fn pattern(
         &mut self,
         schema: &Schema,
@@ -92,7 +92,7 @@ impl Lookout {
         let mut frozen = self.search.blank()?;
         let reach = Formula::Reach(question.target);
         let sources = &question.sources.items()[..first];
-        if !self.search.look(schema, &reach, sources, mask, &mut frozen) {
+        if !self.search.look(schema, &reach, question.target, sources, mask, &mut frozen) {
             return Ok(None);
         }
         let candidates = self.search.candidates();
@@ -166,8 +166,8 @@ impl Lookout {
     }
 }
 
-/// Patterns of frozen dimensions with this root that are soon found, by one search that is told of each source whether
-/// it is to be present.
+/// Patterns of frozen dimensions with this root that are soon found, by one search that is told which sources are to be
+/// ways to the target.
 pub(crate) fn soon_found(
     alloc: Global,
     schema: &Schema,

@@ -155,20 +155,22 @@ impl Search {
         true
     }
 
-    /// Some frozen dimension whose root makes the question true, looked for where of the categories exactly those are
-    /// present whose bits are in the mask. What it finds may be of another kind. It gives up soon: false says nothing,
-    /// and then `into` stays.
+    /// Some frozen dimension whose root makes the question true, looked for where the target is likely reached by way of
+    /// exactly the sources whose bits are in the mask. What it finds may be of another kind. It gives up soon: false
+    /// says nothing, and then `into` stays.
     ///
     /// It can't return out of memory.
     pub fn look(
         &mut self,
         schema: &Schema,
         question: &Formula,
-        categories: &[CatId],
+        target: CatId,
+        sources: &[CatId],
         mask: u16,
         into: &mut Frozen,
     ) -> bool
         requires made { IsMadeWith (schema_of schema.now) (formula_of question.now) self.old }
+        requires target { IsCategory (schema_of schema.now).graph target.0 }
         requires sizes { IsSizedFor self.old into.old }
         ensures some { IsTrue result → IsOneFound (schema_of schema.now) (formula_of question.now)
             (root_of self.old) (found_in self.old into.new) }
@@ -178,7 +180,14 @@ impl Search {
         ensures made { IsMadeWith (schema_of schema.now) (formula_of question.now) self.new }
     {
         let asker = Asker::of(schema, question, self.root, &self.candidates, &self.layout);
-        let found = look(&mut self.engine, &asker, &mut self.leaf, categories, mask);
+        let found = look(
+            &mut self.engine,
+            &asker,
+            &mut self.leaf,
+            target,
+            sources,
+            mask,
+        );
         self.engine.undo(0);
         if !found {
             return false;

@@ -3,8 +3,8 @@ use Rattle.std.proofs.Common.{◌≡◌, ℕ, Bool}
 use Rattle.olap_clauses.specs.Engines.{admits, variables_of}
 use Rattle.olap_dimsat.proofs.aiming.suppose_all.Given as goal
 
-abbrev pub invariant-categories : goal.invariant-categories
-invariant-categories l = record {
+abbrev pub invariant-sources : goal.invariant-sources
+invariant-sources l = record {
   variables : variables_of l.engine ≡ variables_of l.fn.engine;
   admits : (v : ℕ → Bool) → admits v l.fn.engine → admits v l.engine;
 }

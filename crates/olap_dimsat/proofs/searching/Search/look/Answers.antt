@@ -1,10 +1,11 @@
 -- What is asked is the search's task.
-use Rattle.std.proofs.Common.{refl, sym, ap}
+use Rattle.std.proofs.Common.{refl, sym, subst, ap}
 use Rattle.olap_ast.specs.Trees.{formula_of}
+use Rattle.olap_base.specs.Graph.{IsCategory}
 use Rattle.olap_clauses.specs.Engines.{variables_of}
 use Rattle.olap_schema.specs.Schemas.{schema_of}
 use Rattle.olap_dimsat.specs.Asking.{task_of}
-use Rattle.olap_dimsat.specs.Tasks.{Task}
+use Rattle.olap_dimsat.specs.Tasks.{Task, graph_of}
 use Rattle.olap_dimsat.proofs.MadeLemmas.{handed_one, keeps, left_for, made_still, suited_with}
 use Rattle.olap_dimsat.proofs.searching.Search.look.Goals as goal
 
@@ -15,6 +16,7 @@ look-found-requires c =
     record {
       suited = k.suited;
       ready = k.ready;
+      target = subst (λ (t : Task). IsCategory (graph_of t) c.args.target.0) (sym c.of-asker.ensures) c.requires.target;
     }
 
 pub returns-then-not-found-clause-made : goal.returns-then-not-found-clause-made
