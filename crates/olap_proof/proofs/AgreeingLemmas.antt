@@ -10,7 +10,7 @@
 --     cycle_none        the edges that were decided present hold no cycle
 --     shortcut_none     and no shortcut
 use Rattle.std.proofs.Common.{◌≡◌, ℕ, zero, suc, ◌<◌, List, [], ◌∷◌, length, get_or, Bool, true, false, cond, Option, Some, None, refl, ap, sym, subst, ◌∙◌}
-use Rattle.std.specs.Prelude.{Contains, ◌==◌, filter}
+use Rattle.std.specs.Prelude.{Contains, ◌==◌, filter, option_map}
 use Rattle.std.specs.List.{range_with_len}
 use Rattle.olap_base.specs.Deciding.{contains_cons}
 use Rattle.olap_base.specs.Graph.{Edge, Graph, HasEdge, IsCategory, IsHierarchy}
@@ -29,7 +29,7 @@ use Rattle.olap_frozen.proofs.ChosenLemmas.{bit_joins, choice_of, chosen_place, 
 use Rattle.olap_graph.specs.Lookups.{edge_at, edge_between, edges_from}
 use Rattle.olap_names.specs.Names.{name_at}
 use Rattle.olap_trail.specs.Decisions.{Decided, Decision, HoldsCycle, HoldsShortcut, present_edges, present_graph, status_in, status_of}
-use Rattle.olap_proof.specs.Places.{Naming, decided_name, index_of, is_possible, name_of, possible_graph, truth_of, truth_of_edge}
+use Rattle.olap_proof.specs.Places.{Naming, index_of, is_possible, name_of, possible_graph, truth_of, truth_of_edge}
 
 -- ---- what was decided
 
@@ -212,7 +212,7 @@ module _ (s : Schema) (q : Formula) (r : ℕ) (k : Candidates) (f : Frozen) (hie
   name_told zero w h = cc
   name_told (suc c) w h = go (index_of ns (suc c)) refl h
     where
-      go : (o : Option ℕ) → index_of ns (suc c) ≡ o → decided_name k (suc c) o ≡ Some w → name (suc c) ≡ w
+      go : (o : Option ℕ) → index_of ns (suc c) ≡ o → option_map (name_at k (suc c)) o ≡ Some w → name (suc c) ≡ w
       go None e h = absurd (cc)
       go (Some i) e h =
           let n = index_some ns (suc c) i e in

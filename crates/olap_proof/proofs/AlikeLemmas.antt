@@ -5,7 +5,9 @@
 --     runs_alike      and lines do the same
 --     wrong_alike     and a text has the same first wrong line
 use Rattle.std.proofs.Common.{◌≡◌, ℕ, zero, suc, ◌+◌, List, [], ◌∷◌, length, map, Option, Some, None, refl, ap, sym, subst}
+use Rattle.std.specs.Prelude.{option_map}
 use Rattle.std.specs.List.{range_with_len}
+use Rattle.std.specs.Str.{bytes_eq}
 use Rattle.olap_base.specs.Graph.{IsDeclared}
 use Rattle.olap_ast.specs.Formula.{Formula}
 use Rattle.olap_ast.specs.Frozen.{AreCandidates, Candidates, text_of_index}
@@ -15,8 +17,9 @@ use Rattle.olap_ast.proofs.Determined.{same_first, same_texts}
 use Rattle.olap_eval.specs.Partial.{value_at}
 use Rattle.olap_graph.specs.Lookups.{edge_between}
 use Rattle.olap_names.specs.Names.{name_at}
+use Rattle.olap_numerals.specs.Comparing.{is_numbered}
 use Rattle.olap_proof.specs.declared.forms.Form.{Form}
-use Rattle.olap_proof.specs.Places.{Naming, Place, decided_name, index_of, knowledge, name_of, truth_of_edge, truth_of_name, truth_of_number, truth_of_reach}
+use Rattle.olap_proof.specs.Places.{Naming, Place, index_of, knowledge, name_of, truth_of_edge, truth_of_name, truth_of_reach}
 use Rattle.olap_proof.specs.Lines.{Closes, IsUnmetAt, Line, Line.Asked, Line.Clash, Line.Cycle, Line.Dead, Line.EdgeOrNot, Line.Loose, Line.NameOf, Line.Shortcut, Line.Unmet, Line.Unreached, Line.WayOrNot, line_text}
 use Rattle.olap_proof.specs.Certificates.{IsFirstWrong, Open, Open.At, Runs, Runs.more, Runs.none, Steps, Steps.begins, Steps.closes, Steps.edges, Steps.names, Steps.roots, Steps.ways, with_name}
 
@@ -43,7 +46,7 @@ alike_back k h a = record { names = λ c i. sym (a.names c i); counts = λ c. sy
 -- ---- what is known
 
 module _ (f : Form) (k h : Candidates) (a : Alike k h) where
-  decided_name_alike : (c : ℕ) (o : Option ℕ) → decided_name k c o ≡ decided_name h c o
+  decided_name_alike : (c : ℕ) (o : Option ℕ) → option_map (name_at k c) o ≡ option_map (name_at h c) o
   decided_name_alike c None = refl
   decided_name_alike c (Some i) = ap (λ (t : List ℕ). Some t) (a.names c i)
 
@@ -56,8 +59,8 @@ module _ (f : Form) (k h : Candidates) (a : Alike k h) where
   known_alike p = λ j. record {
     edge = λ x y. truth_of_edge p.decided (edge_between p.decided.graph x y);
     reaches = truth_of_reach f p;
-    name = λ c text. truth_of_name p c (name_alike p.namings c j) text;
-    number = λ c op n. truth_of_number p c (name_alike p.namings c j) op n;
+    name = λ c text. truth_of_name p c (λ w. bytes_eq w text) (name_alike p.namings c j);
+    number = λ c op n. truth_of_name p c (λ w. is_numbered w op n) (name_alike p.namings c j);
   }
 
   unmet_alike : (p : Place) (cs : List Constraint) (n : ℕ) → IsUnmetAt f cs n k p → IsUnmetAt f cs n h p

@@ -3,7 +3,7 @@
 --     truth_at           a formula that isn't known to be false is true
 --     frozen_there       what was decided is a frozen dimension, if no line on formulas closes either
 use Rattle.std.proofs.Common.{◌≡◌, ℕ, ℤ, zero, suc, ◌<◌, ◌≤◌, List, [], length, map, get_or, Bool, true, false, cond, Option, Some, None, refl, ap, sym, subst, ◌∙◌, inl, inr, arith}
-use Rattle.std.specs.Prelude.{◌&&◌, ◌||◌, ◌≢◌, codes}
+use Rattle.std.specs.Prelude.{◌&&◌, ◌||◌, ◌≢◌, codes, option_map}
 use Rattle.std.specs.List.{range_with_len}
 use Rattle.std.specs.Str.{bytes_eq}
 use Rattle.std.proofs.lemmas.List.{length-map}
@@ -34,7 +34,7 @@ use Rattle.olap_proof.specs.declared.forms.Form.{Form}
 use Rattle.olap_proof.specs.declared.forms.Form.TheVariants.{Long, Short}
 use Rattle.olap_proof.specs.FullPlaces.{IsFull}
 use Rattle.olap_proof.specs.Lines.{IsUnmetAt}
-use Rattle.olap_proof.specs.Places.{Naming, Place, decided_name, index_of, is_known, is_top, knowledge, leading_edges, leading_graph, name_of, possible_graph, truth_of, truth_of_edge, truth_of_name, truth_of_number, truth_of_reach}
+use Rattle.olap_proof.specs.Places.{Naming, Place, index_of, is_known, is_top, knowledge, leading_edges, leading_graph, name_of, possible_graph, truth_of, truth_of_edge, truth_of_name, truth_of_reach}
 use Rattle.olap_proof.proofs.AgreeingLemmas.{walk_present, wider}
 use Rattle.olap_proof.proofs.ToldLemmas.{IsTold, formula_told, truth_told, unmet_listed}
 use Rattle.olap_proof.proofs.ChosenEdgeLemmas as laws
@@ -139,7 +139,7 @@ module _ (s : Schema) (k : Candidates) (hier : IsHierarchy s.graph) (r : ℕ) (d
   name_decided (suc c) h =
       let i = index_at c h in
       let text = text_of_index (k.first (suc c)) (k.texts (suc c)) in
-      (name_at k (suc c) i.0, ap (decided_name k (suc c)) i.1, ap text i.2)
+      (name_at k (suc c) i.0, ap (option_map (name_at k (suc c))) i.1, ap text i.2)
 
   are_names : (q : Formula) → AreCandidates s q k → AreNames s q r es name
   are_names q are = record { all = refl; known = known }
@@ -198,7 +198,7 @@ module _ (s : Schema) (k : Candidates) (hier : IsHierarchy s.graph) (r : ℕ) (d
           (of_bit i e q.0 (bit_at i h ∙ ap bit_of q.1))
 
   name_is : (c : ℕ) (text : List ℕ)
-      → Tells (truth_of_name p c (name_of k ns c) text) (HasNameThere inst present place c text)
+      → Tells (truth_of_name p c (λ w. bytes_eq w text) (name_of k ns c)) (HasNameThere inst present place c text)
   name_is c text = go (name_of k ns c) refl
     where
       same : (w : List ℕ) → name_of k ns c ≡ Some w → present c ≡ true → name c ≡ w
@@ -217,15 +217,16 @@ module _ (s : Schema) (k : Candidates) (hier : IsHierarchy s.graph) (r : ℕ) (d
           let z : true ≡ false = sym v ∙ x in cc
 
       go : (o : Option (List ℕ)) → name_of k ns c ≡ o
-          → Tells (truth_of_name p c o text) (HasNameThere inst present place c text)
+          → Tells (truth_of_name p c (λ w. bytes_eq w text) o) (HasNameThere inst present place c text)
       go None q = tt
       go (Some w) q = of_test w q (bytes_eq w text) refl (is_known p c) refl
 
-  name_told : (c : ℕ) (text : List ℕ) → present c ≡ true → IsTold (truth_of_name p c (name_of k ns c) text)
-  name_told c text h =
+  name_told : (c : ℕ) (passes : List ℕ → Bool) → present c ≡ true
+      → IsTold (truth_of_name p c passes (name_of k ns c))
+  name_told c passes h =
       let n = name_decided c h in
-      subst (λ o. IsTold (truth_of_name p c o text)) (sym n.1)
-      (go (bytes_eq n.0 text) (is_known p c) (present_known c h))
+      subst (λ o. IsTold (truth_of_name p c passes o)) (sym n.1)
+      (go (passes n.0) (is_known p c) (present_known c h))
     where
       go : (a b : Bool) → b ≡ true → IsTold (cond a (cond b Yes Unknown) No)
       go true true y = tt
@@ -233,7 +234,7 @@ module _ (s : Schema) (k : Candidates) (hier : IsHierarchy s.graph) (r : ℕ) (d
       go false b y = tt
 
   number_is : (c : ℕ) (op : Op) (n : ℤ)
-      → Tells (truth_of_number p c (name_of k ns c) op n) (HasNumberThere inst present place c op n)
+      → Tells (truth_of_name p c (λ w. is_numbered w op n) (name_of k ns c)) (HasNumberThere inst present place c op n)
   number_is c op n = go (name_of k ns c) refl
     where
       same : (w : List ℕ) → name_of k ns c ≡ Some w → present c ≡ true → name c ≡ w
@@ -253,20 +254,9 @@ module _ (s : Schema) (k : Candidates) (hier : IsHierarchy s.graph) (r : ℕ) (d
           let z : true ≡ false = sym v ∙ x in cc
 
       go : (o : Option (List ℕ)) → name_of k ns c ≡ o
-          → Tells (truth_of_number p c o op n) (HasNumberThere inst present place c op n)
+          → Tells (truth_of_name p c (λ w. is_numbered w op n) o) (HasNumberThere inst present place c op n)
       go None q = tt
       go (Some w) q = of_test w q (is_numbered w op n) refl (is_known p c) refl
-
-  number_told : (c : ℕ) (op : Op) (n : ℤ) → present c ≡ true → IsTold (truth_of_number p c (name_of k ns c) op n)
-  number_told c op n h =
-      let d = name_decided c h in
-      subst (λ o. IsTold (truth_of_number p c o op n)) (sym d.1)
-      (go (is_numbered d.0 op n) (is_known p c) (present_known c h))
-    where
-      go : (a b : Bool) → b ≡ true → IsTold (cond a (cond b Yes Unknown) No)
-      go true true y = tt
-      go true false y = absurd (cc)
-      go false b y = tt
 
   -- what is known to lead on is so, where each category reaches all
   module _ (m : Form) (tops : (c : ℕ) → present c ≡ true → Steps (Joins es) c 0) where
@@ -333,7 +323,7 @@ module _ (s : Schema) (k : Candidates) (hier : IsHierarchy s.graph) (r : ℕ) (d
         (values_are_truths (knowledge m k p) inst present place (made.chosen_shape s.graph r es ch name) completes c h
         f)
         (formula_told (knowledge m k p) (λ c. present c ≡ true) (λ c d. (edge_is c d).1) reach_told reach_there
-        name_told number_told c h f) n
+        (λ c text. name_told c (λ w. bytes_eq w text)) (λ c op n. name_told c (λ w. is_numbered w op n)) c h f) n
 
     -- ---- the frozen dimension
 

@@ -36,7 +36,7 @@ use Rattle.olap_numerals.specs.Comparing.{Op, is_numbered}
 use Rattle.olap_trail.specs.Decisions.{Decided, Decision, HoldsCycle, HoldsShortcut, present_edges, present_graph, status_of}
 use Rattle.olap_proof.specs.declared.forms.Form.{Form}
 use Rattle.olap_proof.specs.declared.forms.Form.TheVariants.{Long, Short}
-use Rattle.olap_proof.specs.Places.{Naming, Place, Way, edge_of_way, is_known, is_top, knowledge, leading_edges, leading_graph, leads, name_of, possible_graph, truth_of_name, truth_of_number, truth_of_reach, truth_of_way, way_of}
+use Rattle.olap_proof.specs.Places.{Naming, Place, Way, edge_of_way, is_known, is_top, knowledge, leading_edges, leading_graph, leads, name_of, possible_graph, truth_of_name, truth_of_reach, truth_of_way, way_of}
 use Rattle.olap_proof.specs.Lines.{Closes, IsClash, IsDead, IsLoose, IsUnmet, IsUnmetAt, IsUnreached, Line, Line.Asked, Line.Clash, Line.Cycle, Line.Dead, Line.EdgeOrNot, Line.Loose, Line.NameOf, Line.Shortcut, Line.Unmet, Line.Unreached, Line.WayOrNot}
 use Rattle.olap_proof.proofs.AgreeingLemmas as agreeing
 use Rattle.olap_proof.proofs.AgreeingLemmas.{Like, edge_from, edges_in, wider, wider_climb}
@@ -229,7 +229,7 @@ module _ (form : Form) (s : Schema) (q : Formula) (r : ℕ) (k : Candidates) (f 
       go None h = free (leads form p c e) refl (category_reaches (possible_graph t) c e) refl
 
   pub name_is : (c : ℕ) (text : List ℕ)
-      → Tells (truth_of_name p c (name_of k ns c) text) (HasNameThere inst present place c text)
+      → Tells (truth_of_name p c (λ w. bytes_eq w text) (name_of k ns c)) (HasNameThere inst present place c text)
   name_is c text = go (name_of k ns c) refl
     where
       of_test : (w : List ℕ) → name c ≡ w → (a : Bool) → bytes_eq w text ≡ a → (b : Bool) → is_known p c ≡ b
@@ -243,14 +243,14 @@ module _ (form : Form) (s : Schema) (q : Formula) (r : ℕ) (k : Candidates) (f 
           let z : true ≡ false = sym v ∙ x in cc
 
       go : (o : Option (List ℕ)) → name_of k ns c ≡ o
-          → Tells (truth_of_name p c o text) (HasNameThere inst present place c text)
+          → Tells (truth_of_name p c (λ w. bytes_eq w text) o) (HasNameThere inst present place c text)
       go None e = tt
       go (Some w) e =
           of_test w (agreeing.name_told s q r k f hier root one ds ns like.rest c w e) (bytes_eq w text) refl
           (is_known p c) refl
 
   pub number_is : (c : ℕ) (op : Op) (n : ℤ)
-      → Tells (truth_of_number p c (name_of k ns c) op n) (HasNumberThere inst present place c op n)
+      → Tells (truth_of_name p c (λ w. is_numbered w op n) (name_of k ns c)) (HasNumberThere inst present place c op n)
   number_is c op n = go (name_of k ns c) refl
     where
       of_test : (w : List ℕ) → name c ≡ w → (a : Bool) → is_numbered w op n ≡ a → (b : Bool) → is_known p c ≡ b
@@ -266,7 +266,7 @@ module _ (form : Form) (s : Schema) (q : Formula) (r : ℕ) (k : Candidates) (f 
           let z : true ≡ false = sym v ∙ x in cc
 
       go : (o : Option (List ℕ)) → name_of k ns c ≡ o
-          → Tells (truth_of_number p c o op n) (HasNumberThere inst present place c op n)
+          → Tells (truth_of_name p c (λ w. is_numbered w op n) o) (HasNumberThere inst present place c op n)
       go None e = tt
       go (Some w) e = of_test w (agreeing.name_told s q r k f hier root one ds ns like.rest c w e)
           (is_numbered w op n) refl (is_known p c) refl

@@ -3,7 +3,7 @@
 --     line_text    its bytes, without the LF
 --     IsAbout      what it names is in the schema
 --     Closes       no frozen dimension has what is decided: the line says why
-use Rattle.std.specs.Prelude.{◌≡◌, ◌≢◌, ◌<◌, ◌⊎◌, ◌++◌, ℕ, zero, suc, List, [], ◌∷◌, All, true, false, Some, IsTrue, codes, length}
+use Rattle.std.specs.Prelude.{◌≡◌, ◌≢◌, ◌<◌, ◌⊎◌, ◌++◌, ℕ, suc, List, ◌∷◌, All, true, false, MatchOption, Some, IsTrue, codes, length, slice_get}
 use Rattle.std.specs.Fmt.{decimal}
 use Rattle.olap_base.specs.Bytes.{space}
 use Rattle.olap_base.specs.Graph.{CategoryReaches, Graph, IsCategory}
@@ -66,13 +66,11 @@ IsAbout s (EdgeOrNot e) = e < length s.graph.edges
 IsAbout s (NameOf c) = IsCategory s.graph c
 IsAbout s (WayOrNot a b) = IsCategory s.graph a × IsCategory s.graph b
 IsAbout s (Dead c) = IsCategory s.graph c
-IsAbout s Cycle = Unit {0}
-IsAbout s Shortcut = Unit {0}
 IsAbout s (Loose e) = e < length s.graph.edges
 IsAbout s (Unreached c) = IsCategory s.graph c
 IsAbout s (Clash a b) = IsCategory s.graph a × IsCategory s.graph b
 IsAbout s (Unmet n) = n < length s.constraints
-IsAbout s Asked = Unit {0}
+IsAbout s l = Unit {0}
 
 -- ---- the reasons
 
@@ -105,15 +103,10 @@ IsUnmet f k p c = IsTrue (is_known p c.root) × (value_at (knowledge f k p) c.ro
 
 -- the constraint at this place of the list
 abbrev pub IsUnmetAt : Form → List Constraint → ℕ → Candidates → Place → Type 0
-IsUnmetAt f [] n k p = ⊥
-IsUnmetAt f (c ∷ cs) zero k p = IsUnmet f k p c
-IsUnmetAt f (c ∷ cs) (suc n) k p = IsUnmetAt f cs n k p
+IsUnmetAt f cs n k p = MatchOption (slice_get cs n) ⊥ (IsUnmet f k p)
 
 -- no frozen dimension for the question has what is decided, for the reason that the line says
 abbrev pub Closes : Form → Schema → Formula → Candidates → Place → Line → Type 0
-Closes f s q k p (EdgeOrNot e) = ⊥
-Closes f s q k p (NameOf c) = ⊥
-Closes f s q k p (WayOrNot a b) = ⊥
 Closes f s q k p (Dead c) = IsDead s.graph p c
 Closes f s q k p Cycle = HoldsCycle (present_graph p.decided)
 Closes f s q k p Shortcut = HoldsShortcut (present_graph p.decided)
@@ -122,3 +115,4 @@ Closes f s q k p (Unreached c) = (f ≡ Short) × IsUnreached f p c
 Closes f s q k p (Clash a b) = (f ≡ Short) × IsClash f s.graph p a b
 Closes f s q k p (Unmet n) = IsUnmetAt f s.constraints n k p
 Closes f s q k p Asked = value_at (knowledge f k p) p.decided.root q ≡ No
+Closes f s q k p l = ⊥

@@ -6,7 +6,7 @@
 --     truth_of_reach  whether one category's member reaches another's
 --     is_numbered     the text spells a number that compares so
 --     knowledge       what is known of edges, of reaching, of names and of comparisons
-use Rattle.std.specs.Prelude.{◌&&◌, ◌||◌, ◌==◌, ◌++◌, ℕ, zero, suc, ℤ, List, [], ◌∷◌, Bool, true, false, Option, Some, None, codes, filter, length, map, if◌then◌else◌}
+use Rattle.std.specs.Prelude.{◌&&◌, ◌||◌, ◌==◌, ◌++◌, ℕ, zero, suc, List, [], ◌∷◌, Bool, true, false, Option, Some, None, codes, filter, length, map, option_map, unwrap_or, if◌then◌else◌}
 use Rattle.std.specs.List.{range_with_len}
 use Rattle.std.specs.Str.{bytes_eq}
 use Rattle.olap_base.specs.Graph.{Edge, Graph}
@@ -17,7 +17,7 @@ use Rattle.olap_ast.specs.declared.three_values.Truth3.TheVariants.{No, Yes, Unk
 use Rattle.olap_eval.specs.Partial.{Knowledge}
 use Rattle.olap_graph.specs.Lookups.{edge_at, edge_between}
 use Rattle.olap_names.specs.Names.{name_at}
-use Rattle.olap_numerals.specs.Comparing.{Op, is_numbered}
+use Rattle.olap_numerals.specs.Comparing.{is_numbered}
 use Rattle.olap_trail.specs.Decisions.{Decided, present_edges, status_of}
 use Rattle.olap_proof.specs.declared.forms.Form.{Form}
 use Rattle.olap_proof.specs.declared.forms.Form.TheVariants.{Long, Short}
@@ -69,8 +69,7 @@ is_known p c = is_present p.decided.root (leading_edges p) c
 
 -- it wasn't decided that the edge is absent
 abbrev pub is_possible : Option Bool → Bool
-is_possible None = true
-is_possible (Some present) = present
+is_possible present = unwrap_or present true
 
 -- the graph without the edges that were decided absent
 abbrev pub possible_graph : Decided → Graph
@@ -115,25 +114,15 @@ abbrev pub truth_of_edge : Decided → Option ℕ → Truth3
 truth_of_edge d None = No
 truth_of_edge d (Some e) = truth_of (status_of d e)
 
--- the name at this index, if one was decided
-abbrev pub decided_name : Candidates → ℕ → Option ℕ → Option (List ℕ)
-decided_name k c None = None
-decided_name k c (Some i) = Some (name_at k c i)
-
 -- the name that was decided; that of `All` always is
 abbrev pub name_of : Candidates → List Naming → ℕ → Option (List ℕ)
 name_of k ns zero = Some (codes "all")
-name_of k ns (suc c) = decided_name k (suc c) (index_of ns (suc c))
+name_of k ns (suc c) = option_map (name_at k (suc c)) (index_of ns (suc c))
 
--- whether the category has a member with this name, where its name is decided
-abbrev pub truth_of_name : Place → ℕ → Option (List ℕ) → List ℕ → Truth3
-truth_of_name p c None text = Unknown
-truth_of_name p c (Some name) text = if bytes_eq name text then (if is_known p c then Yes else Unknown) else No
-
--- whether the category has a member whose number compares so, where its name is decided
-abbrev pub truth_of_number : Place → ℕ → Option (List ℕ) → Op → ℤ → Truth3
-truth_of_number p c None op n = Unknown
-truth_of_number p c (Some name) op n = if is_numbered name op n then (if is_known p c then Yes else Unknown) else No
+-- whether the category has a member whose name passes the test, where its name is decided
+abbrev pub truth_of_name : Place → ℕ → (List ℕ → Bool) → Option (List ℕ) → Truth3
+truth_of_name p c passes None = Unknown
+truth_of_name p c passes (Some name) = if passes name then (if is_known p c then Yes else Unknown) else No
 
 -- ---- what is known
 
@@ -141,6 +130,6 @@ abbrev pub knowledge : Form → Candidates → Place → Knowledge
 knowledge f k p = record {
   edge = λ a b. truth_of_edge p.decided (edge_between p.decided.graph a b);
   reaches = truth_of_reach f p;
-  name = λ c text. truth_of_name p c (name_of k p.namings c) text;
-  number = λ c op n. truth_of_number p c (name_of k p.namings c) op n;
+  name = λ c text. truth_of_name p c (λ name. bytes_eq name text) (name_of k p.namings c);
+  number = λ c op n. truth_of_name p c (λ name. is_numbered name op n) (name_of k p.namings c);
 }
