@@ -1,5 +1,5 @@
--- The members that a violation names are there.
-use Rattle.std.proofs.Common.{◌≡◌, ℕ, ◌<◌, length, subst, sym}
+-- The members that a violation names are there, and its words.
+use Rattle.std.proofs.Common.{◌≡◌, ℕ, ◌<◌, length, ap, refl, subst, sym, ◌∙◌}
 use Rattle.std.specs.Prelude.{slice_index}
 use Rattle.std.proofs.lemmas.List.Elements.{Contains-get_or}
 use Rattle.olap_base.specs.Graph.{IsCategory}
@@ -16,7 +16,8 @@ use Rattle.olap_base.specs.declared.refusals.Refusal.TheVariants as refusal
 use Rattle.olap_check.specs.declared.violations.Illegal.{Illegal}
 use Rattle.olap_reading.specs.Broken.{IsBrokenBy}
 use Rattle.olap_instance.specs.Made.{IsMadeFor}
-use Rattle.olap_reading.specs.Violations.{IsTellable}
+use Rattle.olap_reading.specs.Telling.{IsTellable, told_text}
+use Rattle.olap_reading.specs.Violations.{violation_text}
 
 -- the k-th parent is a parent
 parent_below : (i : Instance) (x k : ℕ) → k < length (parents_of i x) → IsBelow i x (slice_index (parents_of i x) k)
@@ -54,6 +55,15 @@ tellable s i v m (Shortcut x k) w =
     let b = parent_below i x k w.1 in (below_is_member i x _ b, v.parents_are_members x _ b)
 tellable s i v m (Unmet k x) w = w.2.0
 
+-- the program's words for a violation are those of the violation
+words_are : (s : Schema) (i : Instance) (w : Violation) → told_text s.graph i (told i w) ≡ violation_text s.graph i w
+words_are s i (NoEdge x k) = refl
+words_are s i (NoParent x) = refl
+words_are s i (SameCategory x) = refl
+words_are s i (TwoAncestors x c) = refl
+words_are s i (Shortcut x k) = refl
+words_are s i (Unmet k x) = refl
+
 -- what a check answers is whether there is a violation, and the first one
 pub judged_is : (s : Schema) (i : Instance) → IsInstance i → IsMadeFor s.graph i → (r : Result Instance (Refusal Illegal))
     → IfOk r (λ l. IsLegal s i)
@@ -64,7 +74,7 @@ judged_is s i v m (Err (refusal.Kind back)) ok err = (
   record {
     violation = err.1.violation;
     first = first_violation_some s i v err.1.violation err.1.is_first;
-    is_told = err.1.is_told;
+    words = ap (told_text s.graph i) err.1.is_told ∙ words_are s i err.1.violation;
     tellable = subst (λ u. IsTellable s.graph i u) (sym err.1.is_told)
         (tellable s i v m err.1.violation err.1.is_first.is_one);
   },

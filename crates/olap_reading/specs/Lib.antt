@@ -2,6 +2,7 @@
 pub mod Violations
 pub mod Steps
 pub mod OfFacts
--- The inside: what a refused check says, and what an opened file comes to.
+-- The inside: how the program tells a violation, what a refused check says, and what an opened file comes to.
+pub mod Telling
 pub mod Broken
 pub mod Rest

@@ -16,7 +16,6 @@ use Rattle.olap_facts.specs.Kinds.{name_of_kind as fact_kind}
 use Rattle.olap_view.specs.StoreText.{store_read}
 use Rattle.olap_view.specs.Kinds.{name_of_kind as store_kind}
 use Rattle.olap_check.specs.FirstViolation.{first_violation}
-use Rattle.olap_check.specs.Reports.{told}
 use Rattle.olap_order.specs.Order.{Order, Done, Read, and_then, refused}
 use Rattle.olap_order.specs.Steps.{meaning_or_fault, text_file}
 use Rattle.olap_reading.specs.Violations.{violation_text}
@@ -24,8 +23,7 @@ use Rattle.olap_reading.specs.Violations.{violation_text}
 -- an instance without a violation, or its first violation
 abbrev pub legal_or_violation : List ℕ → Schema → Instance → Option Violation → Order Instance
 legal_or_violation label s i None = Done i
-legal_or_violation label s i (Some v) =
-    refused (label ++ (codes " " ++ violation_text s.graph i (told i v)))
+legal_or_violation label s i (Some v) = refused (label ++ (codes " " ++ violation_text s.graph i v))
 
 -- the legal instance of a schema in a file
 abbrev pub legal_file : Schema → List ℕ → List ℕ → Order Instance

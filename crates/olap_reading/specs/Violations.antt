@@ -1,52 +1,27 @@
 -- The words in which a violation is told.
---     law_text         which law is broken, or that it is a constraint
---     named_text       what a violation names
---     violation_text   the one, and the other
---     IsTellable       the members and the category of a violation are there
-use Rattle.std.specs.Prelude.{ℕ, List, ◌++◌, codes}
+--     violation_text   which law is broken, or that it is a constraint, and what breaks it
+use Rattle.std.specs.Prelude.{ℕ, suc, List, ◌++◌, codes, slice_index}
 use Rattle.std.specs.Fmt.{decimal}
-use Rattle.olap_base.specs.Graph.{Graph, IsCategory}
-use Rattle.olap_base.specs.Instance.{Instance, IsMember, member_at}
+use Rattle.olap_base.specs.Graph.{Graph}
+use Rattle.olap_base.specs.Instance.{Instance, member_at, parents_of}
 use Rattle.olap_graph.specs.Lookups.{name_of_category}
 use Rattle.olap_grammar.specs.Quoting.{quoted}
-use Rattle.olap_check.specs.declared.violations.Violation.{Violation}
-use Rattle.olap_check.specs.declared.violations.Violation.TheVariants as law
+use Rattle.olap_ast.specs.Violation.{Violation, Violation.NoEdge, Violation.NoParent, Violation.SameCategory, Violation.TwoAncestors, Violation.Shortcut, Violation.Unmet}
 
 -- a member's id as a string
 abbrev pub id_text : Instance → ℕ → List ℕ
 id_text i x = quoted (member_at i x).id
 
--- two members
-abbrev pub pair_text : Instance → ℕ → ℕ → List ℕ
-pair_text i x y = id_text i x ++ (codes " " ++ id_text i y)
+-- a member, and its parent at a place
+abbrev pub parent_text : Instance → ℕ → ℕ → List ℕ
+parent_text i x k = id_text i x ++ (codes " " ++ id_text i (slice_index (parents_of i x) k))
 
--- which law is broken, or that it is a constraint
-abbrev pub law_text : Violation → List ℕ
-law_text (law.Connectivity x y) = codes "Connectivity "
-law_text (law.NoParent x) = codes "NoParent "
-law_text (law.Stratification x) = codes "Stratification "
-law_text (law.Partitioning x c) = codes "Partitioning "
-law_text (law.Shortcut x y) = codes "Shortcut "
-law_text (law.Constraint n x) = codes "Constraint "
-
--- what a violation names: its members, and a category or the constraint's number
-abbrev pub named_text : Graph → Instance → Violation → List ℕ
-named_text g i (law.Connectivity x y) = pair_text i x.0 y.0
-named_text g i (law.NoParent x) = id_text i x.0
-named_text g i (law.Stratification x) = id_text i x.0
-named_text g i (law.Partitioning x c) = id_text i x.0 ++ (codes " " ++ name_of_category g c.0)
-named_text g i (law.Shortcut x y) = pair_text i x.0 y.0
-named_text g i (law.Constraint n x) = decimal n ++ (codes " " ++ id_text i x.0)
-
--- which law or constraint is broken, and by which members
+-- which law is broken, and by which members; a constraint is counted from 1
 abbrev pub violation_text : Graph → Instance → Violation → List ℕ
-violation_text g i v = law_text v ++ named_text g i v
-
--- the members that a violation names are of the instance, and its category is one of the graph
-abbrev pub IsTellable : Graph → Instance → Violation → Type 0
-IsTellable g i (law.Connectivity x y) = IsMember i x.0 × IsMember i y.0
-IsTellable g i (law.NoParent x) = IsMember i x.0
-IsTellable g i (law.Stratification x) = IsMember i x.0
-IsTellable g i (law.Partitioning x c) = IsMember i x.0 × IsCategory g c.0
-IsTellable g i (law.Shortcut x y) = IsMember i x.0 × IsMember i y.0
-IsTellable g i (law.Constraint n x) = IsMember i x.0
+violation_text g i (NoEdge x k) = codes "Connectivity " ++ parent_text i x k
+violation_text g i (NoParent x) = codes "NoParent " ++ id_text i x
+violation_text g i (SameCategory x) = codes "Stratification " ++ id_text i x
+violation_text g i (TwoAncestors x c) =
+    codes "Partitioning " ++ (id_text i x ++ (codes " " ++ name_of_category g c))
+violation_text g i (Shortcut x k) = codes "Shortcut " ++ parent_text i x k
+violation_text g i (Unmet k x) = codes "Constraint " ++ (decimal (suc k) ++ (codes " " ++ id_text i x))

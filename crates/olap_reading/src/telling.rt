@@ -9,7 +9,8 @@ ghost use Rattle.olap_schema.specs.Schemas.{schema_of};
 ghost use Rattle.olap_reading.specs.Broken.{IsBrokenBy};
 ghost use Rattle.olap_order.specs.Outputs.{refusal};
 ghost use Rattle.olap_order.specs.Refusals.{IsRefusal};
-ghost use Rattle.olap_reading.specs.Violations.{IsTellable, id_text, law_text, pair_text, violation_text};
+ghost use Rattle.olap_reading.specs.Telling.{IsTellable, law_text, pair_text, told_text};
+ghost use Rattle.olap_reading.specs.Violations.{id_text};
 
 use olap_base::{MemberId, Refusal};
 use olap_check::{Illegal, Violation, check};
@@ -103,7 +104,7 @@ fn push_violation(
 ) -> Result<(), AllocError>
     requires { IsTellable graph.now instance.now violation }
     ensures { OnOk result (out.new.items
-        ≡ out.old.items ++ violation_text graph.now instance.now violation) }
+        ≡ out.old.items ++ told_text graph.now instance.now violation) }
 {
     out.extend_from_slice(law(violation))?;
     match violation {
@@ -128,7 +129,7 @@ fn violation_line(
 ) -> Result<Vec<u8>, AllocError>
     requires { IsTellable graph.now instance.now violation }
     ensures { IfOk result (λ line. line.items ≡ refusal
-        (label.now ++ (codes " " ++ violation_text graph.now instance.now violation))) }
+        (label.now ++ (codes " " ++ told_text graph.now instance.now violation))) }
 {
     let mut line = Vec::from_slice(alloc, b"refused ")?;
     line.extend_from_slice(label.as_bytes())?;
@@ -148,7 +149,7 @@ pub(crate) fn refuse_violation(
 ) -> Stop
     requires { IsTellable graph.now instance.now violation }
     ensures refused { IsRefusal
-        (label.now ++ (codes " " ++ violation_text graph.now instance.now violation)) result }
+        (label.now ++ (codes " " ++ told_text graph.now instance.now violation)) result }
 {
     match violation_line(alloc, label, graph, instance, violation) {
         Ok(line) => Stop::Refused(line),
