@@ -29,13 +29,15 @@ def commands():
     """The names of the commands, in the order in which they are told apart, with their families and orders."""
     for family in families.FAMILIES:
         body = "\n".join(modules()[family, "Commands"].declarations["order_named"].body)
-        for name, order in re.findall(r'codes "([\w-]+)"\) then (?:by_\w+ )?\(?(\w+)', body):
+        for name, order in re.findall(r'codes "([\w-]+)"\) then (?:by_\w+ )?\(?(\w[^\n]*?)\)? words', body):
             yield name, (family, order)
 
 
 def question_of(family, order):
-    """The question that an order of commands ends in; none if it ends in what is told."""
-    left, seen = [order], set()
+    """The question that an order of commands is given or ends in; none if it ends in what is told."""
+    if asked := re.search(r"\bBy[A-Z]\w+", order):
+        return asked.group()
+    left, seen = order.split()[:1], set()
     while left:
         name = left.pop()
         seen.add(name)

@@ -105,7 +105,7 @@ no_listing s c ys m l =
 one_shaping : (s : Schema) (c : ℕ) (xs ys : List ℕ) → ListsShapes s c xs → ListsShapes s c ys → xs ≡ ys
 one_shaping s c xs ys a b =
     let k = a.candidates in let h = b.candidates in
-    let p : a.shapes ≡ b.shapes = shapes_are_one s Truth c k h a.shapes b.shapes a.all b.all in
+    let p : a.frozen ≡ b.frozen = shapes_are_one s Truth c k h a.frozen b.frozen a.all b.all in
     let m : (f : Frozen) → frozen_text s.graph k c f ≡ frozen_text s.graph h c f = λ f.
     same_line s.graph k h c c f f refl refl (λ d. same_name s Truth k h a.all.candidates b.all.candidates f d) in
     a.text ∙ (λ i. flat_map (λ f. m f i) (p i) ++ line (codes "count " ++ decimal (length (p i)))) ∙ sym b.text

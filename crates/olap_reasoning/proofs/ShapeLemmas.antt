@@ -30,7 +30,7 @@ pub shapes_listed : (s : Schema) (c : ℕ) (k : Candidates) (shapes : List Froze
     → Replies IsAnswer (Done (ByShapes s c)) (Ok reply)
 shapes_listed s c k shapes are few reply status text = done (ByShapes s c) reply status (inl (
   status,
-  record { candidates = k; shapes = shapes; all = are; few = few; text = text },
+  record { candidates = k; frozen = shapes; all = are; few = few; text = text },
 ))
 
 -- ---- one list
@@ -125,5 +125,5 @@ no_more s q r k h xs some others a other sound =
 pub too_many_shapes_are_not_listed : TooManyShapesAreNotListed
 too_many_shapes_are_not_listed s c bytes m l =
     let t = m.1 in
-    let r = no_more s Truth c l.candidates m.0 l.shapes t.some t.candidates l.all t.differ t.sound in
+    let r = no_more s Truth c l.candidates m.0 l.frozen t.some t.candidates l.all t.differ t.sound in
     let many = t.many in let few = l.few in omega (arith, r, many, few)

@@ -196,7 +196,7 @@ shapes_exist lists candidates s c v =
       | inl l ↦ (
         Yes,
         flat_map (frozen_text s.graph k c) t.0 ++ line (codes "count " ++ decimal (length t.0)),
-        inl (refl, record { candidates = k; shapes = t.0; all = t.1; few = l; text = refl }),
+        inl (refl, record { candidates = k; frozen = t.0; all = t.1; few = l; text = refl }),
       )
       | inr m ↦ (
         Refused,

@@ -1,6 +1,6 @@
 -- The order in which each command about a schema judges its file and words.
---     sources_order    of a question about a target and its sources
---     order_named      of the command of that name, by the words after it
+--     category_order, sources_order    of a question about a category; about a target and its sources
+--     order_named                      of the command of that name, by the words after it
 use Rattle.std.specs.Prelude.{ℕ, List, [], codes, if◌then◌else◌, Option, None}
 use Rattle.std.specs.Str.{bytes_eq}
 use Rattle.olap_ast.specs.Schema.{Schema}
@@ -9,7 +9,6 @@ use Rattle.olap_order.specs.Arguments.{by_one, by_three, by_two, by_two_or_more}
 use Rattle.olap_order.specs.Order.{Order, Done, Told, and_then}
 use Rattle.olap_order.specs.Steps.{category_word, different_words, formula_word, root_word, schema_file}
 use Rattle.olap_order.specs.declared.status.Status.TheVariants.{Yes}
-use Rattle.olap_proof.specs.declared.forms.Form.{Form}
 use Rattle.olap_proof.specs.declared.forms.Form.TheVariants.{Long, Short}
 use Rattle.olap_reasoning.specs.Questions.{Question, BySatisfiable, ByImplied, BySummarizable, ByProof, ByNeeds, ByFrozen, ByShapes, ByAudit}
 
@@ -18,11 +17,11 @@ abbrev pub format_order : (schema : List ℕ) → Order Question
 format_order schema = and_then (schema_file (codes "schema") schema) (λ s. Told Yes (schema_text s))
 
 -- the schema, and the category
-abbrev pub satisfiable_order : (schema category : List ℕ) → Order Question
-satisfiable_order schema category =
+abbrev pub category_order : (Schema → ℕ → Question) → (schema category : List ℕ) → Order Question
+category_order asked schema category =
     and_then (schema_file (codes "schema") schema) (λ s.
     and_then (category_word s.graph 3 category) (λ c.
-    Done (BySatisfiable s c)))
+    Done (asked s c)))
 
 -- the schema, the root, and the formula
 abbrev pub implies_order : (schema root formula : List ℕ) → Order Question
@@ -41,32 +40,6 @@ sources_order asked schema target sources =
     and_then (different_words (codes "DuplicateSource") s.graph 4 [] sources) (λ cs.
     Done (asked s c cs))))
 
--- is the target's view always that from the sources' views?
-abbrev pub summarizable_order : (schema target : List ℕ) (sources : List (List ℕ)) → Order Question
-summarizable_order = sources_order BySummarizable
-
--- and why? a certificate of that form says it
-abbrev pub prove_order : Form → (schema target : List ℕ) (sources : List (List ℕ)) → Order Question
-prove_order form = sources_order (ByProof form)
-
--- what must be added so that it is?
-abbrev pub needs_order : (schema target : List ℕ) (sources : List (List ℕ)) → Order Question
-needs_order = sources_order ByNeeds
-
--- the schema, and the category
-abbrev pub frozen_order : (schema category : List ℕ) → Order Question
-frozen_order schema category =
-    and_then (schema_file (codes "schema") schema) (λ s.
-    and_then (category_word s.graph 3 category) (λ c.
-    Done (ByFrozen s c)))
-
--- the schema, and the category
-abbrev pub shapes_order : (schema category : List ℕ) → Order Question
-shapes_order schema category =
-    and_then (schema_file (codes "schema") schema) (λ s.
-    and_then (category_word s.graph 3 category) (λ c.
-    Done (ByShapes s c)))
-
 -- the schema alone
 abbrev pub audit_order : (schema : List ℕ) → Order Question
 audit_order schema = and_then (schema_file (codes "schema") schema) (λ s. Done (ByAudit s))
@@ -75,13 +48,13 @@ audit_order schema = and_then (schema_file (codes "schema") schema) (λ s. Done 
 abbrev pub order_named : List ℕ → List (List ℕ) → Option (Order Question)
 order_named name words =
     if bytes_eq name (codes "format") then by_one format_order words
-    else if bytes_eq name (codes "satisfiable") then by_two satisfiable_order words
+    else if bytes_eq name (codes "satisfiable") then by_two (category_order BySatisfiable) words
     else if bytes_eq name (codes "implies") then by_three implies_order words
-    else if bytes_eq name (codes "summarizable") then by_two_or_more summarizable_order words
-    else if bytes_eq name (codes "prove") then by_two_or_more (prove_order Long) words
-    else if bytes_eq name (codes "prove-short") then by_two_or_more (prove_order Short) words
-    else if bytes_eq name (codes "needs") then by_two_or_more needs_order words
-    else if bytes_eq name (codes "frozen") then by_two frozen_order words
-    else if bytes_eq name (codes "shapes") then by_two shapes_order words
+    else if bytes_eq name (codes "summarizable") then by_two_or_more (sources_order BySummarizable) words
+    else if bytes_eq name (codes "prove") then by_two_or_more (sources_order (ByProof Long)) words
+    else if bytes_eq name (codes "prove-short") then by_two_or_more (sources_order (ByProof Short)) words
+    else if bytes_eq name (codes "needs") then by_two_or_more (sources_order ByNeeds) words
+    else if bytes_eq name (codes "frozen") then by_two (category_order ByFrozen) words
+    else if bytes_eq name (codes "shapes") then by_two (category_order ByShapes) words
     else if bytes_eq name (codes "audit") then by_one audit_order words
     else None

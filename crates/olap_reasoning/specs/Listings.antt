@@ -1,5 +1,6 @@
 -- What is listed: all frozen dimensions, and what an audit finds.
---     ListsFrozen     the lines of all frozen dimensions with a root
+--     Lists           the lines of some frozen dimensions with a root
+--     ListsFrozen     of all
 --     HasTooMany      there are more than may be listed
 --     ListsFindings   the lines of all findings
 use Rattle.std.specs.Prelude.{◌≡◌, ℕ, ◌≤◌, List, ◌∷◌, ◌++◌, codes, flat_map, length}
@@ -16,14 +17,18 @@ use Rattle.olap_dimsat.specs.Listed.{AreAllFrozen, AreMoreThan}
 use Rattle.olap_graph.specs.Lookups.{edge_at, name_of_category}
 use Rattle.olap_order.specs.Outputs.{line}
 
--- the line of each frozen dimension with root c, by their codes, and how many they are
-pub record ListsFrozen (s : Schema) (c : ℕ) (bytes : List ℕ) : Type 0 where
+-- the lines of these frozen dimensions with root c, and how many they are
+pub record Lists (Are : Candidates → List Frozen → Type 0) (s : Schema) (c : ℕ) (bytes : List ℕ) : Type 0 where
   pub candidates : Candidates
   pub frozen : List Frozen
-  pub all : AreAllFrozen s Truth c candidates frozen
+  pub all : Are candidates frozen
   pub few : length frozen ≤ most_frozen
   pub text : bytes ≡ flat_map (frozen_text s.graph candidates c) frozen
       ++ line (codes "count " ++ decimal (length frozen))
+
+-- of all frozen dimensions with root c, by their codes
+abbrev pub ListsFrozen : Schema → ℕ → List ℕ → Type 0
+ListsFrozen s c = Lists (AreAllFrozen s Truth c) s c
 
 -- there are more frozen dimensions with root c than may be listed
 abbrev pub HasTooMany : Schema → ℕ → Type 0

@@ -9,8 +9,8 @@ use Rattle.olap_order.specs.Order.{Order, Done, Told, and_then}
 use Rattle.olap_order.specs.Steps.{schema_file}
 use Rattle.olap_order.specs.Words.{texts}
 use Rattle.olap_order.specs.declared.status.Status.TheVariants.{Yes}
-use Rattle.olap_reasoning.specs.Under.{frozen_under, implies_under, satisfiable_under, shapes_under, sources_under}
-use Rattle.olap_reasoning.specs.Questions.{Question, ByAudit, ByNeeds, BySummarizable, ByProof}
+use Rattle.olap_reasoning.specs.Under.{category_under, implies_under, sources_under}
+use Rattle.olap_reasoning.specs.Questions.{Question, ByAudit, ByFrozen, ByNeeds, BySatisfiable, ByShapes, BySummarizable, ByProof}
 use Rattle.olap_reasoning.specs.declared.words.Asked.{Asked}
 use Rattle.olap_reasoning.specs.declared.words.Asked.TheVariants as code
 use Rattle.olap_reasoning.specs.declared.words.Command.{Command}
@@ -25,13 +25,13 @@ question_of (wanted.Certificate form) = ByProof form
 -- the order of what is asked of a schema
 abbrev pub seen_under : Schema → Asked → Order Question
 seen_under s code.Format = Told Yes (schema_text s)
-seen_under s (code.Satisfiable category) = satisfiable_under s category.now
+seen_under s (code.Satisfiable category) = category_under BySatisfiable s category.now
 seen_under s (code.Implies root formula) = implies_under s root.now formula.now
 seen_under s (code.Summarizable what target sources) =
     sources_under (question_of what) s target.now (texts sources.now)
 seen_under s (code.Needs target sources) = sources_under ByNeeds s target.now (texts sources.now)
-seen_under s (code.Frozen category) = frozen_under s category.now
-seen_under s (code.Shapes category) = shapes_under s category.now
+seen_under s (code.Frozen category) = category_under ByFrozen s category.now
+seen_under s (code.Shapes category) = category_under ByShapes s category.now
 seen_under s code.Audit = Done (ByAudit s)
 
 -- the order of a command

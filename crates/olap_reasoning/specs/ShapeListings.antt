@@ -1,24 +1,17 @@
 -- What is listed of shapes, the sets of edges that frozen dimensions have.
 --     ListsShapes        the line of the least frozen dimension of each shape
 --     HasTooManyShapes   there are more than may be listed
-use Rattle.std.specs.Prelude.{◌≡◌, ℕ, ◌≤◌, List, ◌++◌, codes, flat_map, length}
-use Rattle.std.specs.Fmt.{decimal}
+use Rattle.std.specs.Prelude.{ℕ, List}
 use Rattle.olap_ast.specs.Formula.{Formula.Truth}
-use Rattle.olap_ast.specs.Frozen.{Candidates, Frozen}
+use Rattle.olap_ast.specs.Frozen.{Candidates}
 use Rattle.olap_ast.specs.Schema.{Schema}
 use Rattle.olap_base.specs.Limits.{most_frozen}
-use Rattle.olap_cex.specs.FrozenText.{frozen_text}
 use Rattle.olap_dimsat.specs.Shapes.{AreMoreShapes, AreShapes}
-use Rattle.olap_order.specs.Outputs.{line}
+use Rattle.olap_reasoning.specs.Listings.{Lists}
 
 -- for each shape of c the line of the least frozen dimension with it, by their codes, and how many they are
-pub record ListsShapes (s : Schema) (c : ℕ) (bytes : List ℕ) : Type 0 where
-  pub candidates : Candidates
-  pub shapes : List Frozen
-  pub all : AreShapes s Truth c candidates shapes
-  pub few : length shapes ≤ most_frozen
-  pub text : bytes ≡ flat_map (frozen_text s.graph candidates c) shapes
-      ++ line (codes "count " ++ decimal (length shapes))
+abbrev pub ListsShapes : Schema → ℕ → List ℕ → Type 0
+ListsShapes s c = Lists (AreShapes s Truth c) s c
 
 -- c has more shapes than may be listed
 abbrev pub HasTooManyShapes : Schema → ℕ → Type 0

@@ -3,11 +3,11 @@ use Rattle.std.specs.Prelude.{ℕ, List, [], codes}
 use Rattle.olap_ast.specs.Schema.{Schema}
 use Rattle.olap_order.specs.Order.{Order, Done, and_then}
 use Rattle.olap_order.specs.Steps.{category_word, different_words, formula_word, root_word}
-use Rattle.olap_reasoning.specs.Questions.{Question, BySatisfiable, ByImplied, ByFrozen, ByShapes}
+use Rattle.olap_reasoning.specs.Questions.{Question, ByImplied}
 
 -- the category
-abbrev pub satisfiable_under : Schema → (category : List ℕ) → Order Question
-satisfiable_under s category = and_then (category_word s.graph 3 category) (λ c. Done (BySatisfiable s c))
+abbrev pub category_under : (Schema → ℕ → Question) → Schema → (category : List ℕ) → Order Question
+category_under asked s category = and_then (category_word s.graph 3 category) (λ c. Done (asked s c))
 
 -- the root, and the formula
 abbrev pub implies_under : Schema → (root formula : List ℕ) → Order Question
@@ -23,11 +23,3 @@ sources_under asked s target sources =
     and_then (category_word s.graph 3 target) (λ c.
     and_then (different_words (codes "DuplicateSource") s.graph 4 [] sources) (λ cs.
     Done (asked s c cs)))
-
--- the category
-abbrev pub frozen_under : Schema → (category : List ℕ) → Order Question
-frozen_under s category = and_then (category_word s.graph 3 category) (λ c. Done (ByFrozen s c))
-
--- the category
-abbrev pub shapes_under : Schema → (category : List ℕ) → Order Question
-shapes_under s category = and_then (category_word s.graph 3 category) (λ c. Done (ByShapes s c))

@@ -10,7 +10,7 @@ ghost use Rattle.olap_frozen.specs.LeastFound.{frozen_of};
 ghost use Rattle.olap_frozen.specs.Leaves.{IsSized};
 ghost use Rattle.olap_names.specs.Names.{candidates_of};
 ghost use Rattle.olap_schema.specs.Schemas.{schema_of};
-ghost use Rattle.olap_reasoning.specs.Under.{frozen_under};
+ghost use Rattle.olap_reasoning.specs.Under.{category_under};
 ghost use Rattle.olap_order.specs.Judged.{Replies};
 ghost use Rattle.olap_order.specs.Order.{Done};
 ghost use Rattle.olap_order.specs.Outputs.{line};
@@ -112,7 +112,7 @@ fn answered(alloc: Global, schema: &Schema, root: CatId) -> Result<Reply, Stop>
 
 /// All frozen dimensions with a root, of a schema.
 pub(crate) fn frozen(alloc: Global, schema: &Schema, category: &str) -> Result<Reply, Stop>
-    ensures replies { Replies IsAnswer (frozen_under (schema_of schema.now) category.now) result }
+    ensures replies { Replies IsAnswer (category_under ByFrozen (schema_of schema.now) category.now) result }
 {
     let category = category_at(alloc, 3, schema, category)?;
     answered(alloc, schema, category)

@@ -6,7 +6,7 @@ ghost use Rattle.olap_frozen.specs.LeastFound.{frozen_of};
 ghost use Rattle.olap_frozen.specs.Leaves.{IsSized};
 ghost use Rattle.olap_names.specs.Names.{candidates_of};
 ghost use Rattle.olap_schema.specs.Schemas.{schema_of};
-ghost use Rattle.olap_reasoning.specs.Under.{satisfiable_under};
+ghost use Rattle.olap_reasoning.specs.Under.{category_under};
 ghost use Rattle.olap_order.specs.Judged.{Replies};
 ghost use Rattle.olap_order.specs.Order.{Done};
 ghost use Rattle.olap_order.specs.Outputs.{line};
@@ -51,7 +51,7 @@ fn answered(alloc: Global, schema: &Schema, category: CatId) -> Result<Reply, St
 /// Whether a category can have a member in an instance that is legal for a schema.
 pub(crate) fn satisfiable(alloc: Global, schema: &Schema, category: &str) -> Result<Reply, Stop>
     ensures replies { Replies IsAnswer
-        (satisfiable_under (schema_of schema.now) category.now) result }
+        (category_under BySatisfiable (schema_of schema.now) category.now) result }
 {
     let category = category_at(alloc, 3, schema, category)?;
     answered(alloc, schema, category)

@@ -9,7 +9,7 @@ ghost use Rattle.olap_frozen.specs.LeastFound.{frozen_of};
 ghost use Rattle.olap_frozen.specs.Leaves.{IsSized};
 ghost use Rattle.olap_names.specs.Names.{candidates_of};
 ghost use Rattle.olap_schema.specs.Schemas.{schema_of};
-ghost use Rattle.olap_reasoning.specs.Under.{shapes_under};
+ghost use Rattle.olap_reasoning.specs.Under.{category_under};
 ghost use Rattle.olap_order.specs.Judged.{Replies};
 ghost use Rattle.olap_order.specs.Order.{Done};
 ghost use Rattle.olap_reasoning.specs.Questions.{ByShapes, IsAnswer};
@@ -67,7 +67,7 @@ fn answered(alloc: Global, schema: &Schema, root: CatId) -> Result<Reply, Stop>
 
 /// For each set of edges that a frozen dimension with a root has the least one with it, of a schema.
 pub(crate) fn shapes(alloc: Global, schema: &Schema, category: &str) -> Result<Reply, Stop>
-    ensures replies { Replies IsAnswer (shapes_under (schema_of schema.now) category.now) result }
+    ensures replies { Replies IsAnswer (category_under ByShapes (schema_of schema.now) category.now) result }
 {
     let category = category_at(alloc, 3, schema, category)?;
     answered(alloc, schema, category)

@@ -2,7 +2,8 @@
 ghost use Rattle.std.specs.Prelude.{◌≡◌, option_map};
 ghost use Rattle.olap_order.specs.Arguments.{by_one, by_three, by_two, by_two_or_more};
 ghost use Rattle.olap_order.specs.Words.{texts};
-ghost use Rattle.olap_reasoning.specs.Commands.{audit_order, format_order, frozen_order, implies_order, needs_order, order_named, satisfiable_order, shapes_order, sources_order};
+ghost use Rattle.olap_reasoning.specs.Commands.{audit_order, category_order, format_order, implies_order, order_named, sources_order};
+ghost use Rattle.olap_reasoning.specs.Questions.{ByFrozen, ByNeeds, BySatisfiable, ByShapes};
 ghost use Rattle.olap_reasoning.specs.Seen.{question_of, seen};
 
 use olap_proof::Form;
@@ -75,7 +76,7 @@ fn format(words: &[String]) -> Option<Command<'_>>
 
 /// The words after `satisfiable`.
 fn satisfiable(words: &[String]) -> Option<Command<'_>>
-    ensures { option_map seen result ≡ by_two satisfiable_order (texts words.now) }
+    ensures { option_map seen result ≡ by_two (category_order BySatisfiable) (texts words.now) }
 {
     match words {
         [schema, category] => Some(Command {
@@ -124,7 +125,7 @@ fn summarizable(wanted: Wanted, words: &[String]) -> Option<Command<'_>>
 
 /// The words after `needs`.
 fn needs(words: &[String]) -> Option<Command<'_>>
-    ensures { option_map seen result ≡ by_two_or_more needs_order (texts words.now) }
+    ensures { option_map seen result ≡ by_two_or_more (sources_order ByNeeds) (texts words.now) }
 {
     match words {
         [schema, target, sources @ ..] => Some(Command {
@@ -140,7 +141,7 @@ fn needs(words: &[String]) -> Option<Command<'_>>
 
 /// The words after `frozen`.
 fn frozen(words: &[String]) -> Option<Command<'_>>
-    ensures { option_map seen result ≡ by_two frozen_order (texts words.now) }
+    ensures { option_map seen result ≡ by_two (category_order ByFrozen) (texts words.now) }
 {
     match words {
         [schema, category] => Some(Command {
@@ -155,7 +156,7 @@ fn frozen(words: &[String]) -> Option<Command<'_>>
 
 /// The words after `shapes`.
 fn shapes(words: &[String]) -> Option<Command<'_>>
-    ensures { option_map seen result ≡ by_two shapes_order (texts words.now) }
+    ensures { option_map seen result ≡ by_two (category_order ByShapes) (texts words.now) }
 {
     match words {
         [schema, category] => Some(Command {
