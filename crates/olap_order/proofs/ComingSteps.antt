@@ -20,9 +20,7 @@ use Rattle.olap_order.specs.declared.status.Status.TheVariants.{Refused}
 use Rattle.olap_order.proofs.Coming.{Comes, anything, asked, meant, then_comes, there, told}
 use Rattle.olap_schema.specs.Readable.{IsReadable}
 use Rattle.olap_schema_text.specs.Judging.{question_read, schema_read}
-use Rattle.olap_schema_text.specs.Kinds.{name_of_kind as schema_kind}
 use Rattle.olap_schema_text.specs.Laws.{ReadQuestionsAreValid, ReadSchemasAreReadable}
-use Rattle.olap_schema_text.specs.declared.kinds.SchemaKind.{SchemaKind}
 
 -- the category of a name is one of the graph
 named_category : (g : Graph) (name : List ℕ) (c : ℕ) → category_named g name ≡ Some c → IsCategory g c
@@ -46,9 +44,9 @@ module _ (readable : ReadSchemasAreReadable) where
   pub schema_comes : (label file : List ℕ) → Comes IsReadable (schema_file label file)
   schema_comes label file =
       then_comes (λ x. Unit {0}) IsReadable (text_file label most_schema_bytes file)
-      (λ text. meaning_or_fault label (codes "line") schema_kind (schema_read text))
+      (λ text. meaning_or_fault label (codes "line") (λ name. name) (schema_read text))
       (anything (text_file label most_schema_bytes file))
-      (λ text u. meant IsReadable label (codes "line") schema_kind (schema_read text) (λ s e. readable text s e))
+      (λ text u. meant IsReadable label (codes "line") (λ name. name) (schema_read text) (λ s e. readable text s e))
 
   -- so what is left after it may take it for one
   pub under_schema : {Q : Type 0} (P : Q → Type 0) (label file : List ℕ) (next : Schema → Order Q)
@@ -60,7 +58,7 @@ pub formula_comes : ReadQuestionsAreValid → (s : Schema) (r at : ℕ) (text : 
     → IsDeclared s.graph r → Comes (λ q. IsQuestion s r q) (formula_word s r at text)
 formula_comes questions s r at text v d = go (question_read s r text) refl
   where
-    go : (o : Result Formula SchemaKind) → question_read s r text ≡ o
+    go : (o : Result Formula (List ℕ)) → question_read s r text ≡ o
         → Comes (λ q. IsQuestion s r q) (formula_or_fault at o)
     go (Ok f) e = asked (λ q. IsQuestion s r q) f (questions s r text f v d e).0
-    go (Err kind) e = told (λ q. IsQuestion s r q) Refused (refusal (fault_text (codes "word") at (schema_kind kind)))
+    go (Err name) e = told (λ q. IsQuestion s r q) Refused (refusal (fault_text (codes "word") at name))

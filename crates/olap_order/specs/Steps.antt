@@ -14,8 +14,6 @@ use Rattle.olap_ast.specs.Formula.{Formula}
 use Rattle.olap_ast.specs.Schema.{Schema}
 use Rattle.olap_graph.specs.Lookups.{category_named}
 use Rattle.olap_schema_text.specs.Judging.{question_read, schema_read}
-use Rattle.olap_schema_text.specs.declared.kinds.SchemaKind.{SchemaKind}
-use Rattle.olap_schema_text.specs.Kinds.{name_of_kind as schema_kind}
 use Rattle.olap_order.specs.Order.{Order, Done, Read, and_then, ok_or, refused}
 
 -- what has that number, and the name of its fault
@@ -42,9 +40,9 @@ abbrev pub number_word : ℕ → Option ℕ → Order ℕ
 number_word at number = ok_or number (fault_text (codes "word") at (codes "BadNumber"))
 
 -- a formula, or its first fault
-abbrev pub formula_or_fault : ℕ → Result Formula SchemaKind → Order Formula
+abbrev pub formula_or_fault : ℕ → Result Formula (List ℕ) → Order Formula
 formula_or_fault at (Ok f) = Done f
-formula_or_fault at (Err kind) = refused (fault_text (codes "word") at (schema_kind kind))
+formula_or_fault at (Err name) = refused (fault_text (codes "word") at name)
 
 -- the formula of a question, at its root
 abbrev pub formula_word : Schema → ℕ → ℕ → List ℕ → Order Formula
@@ -80,4 +78,4 @@ meaning_or_fault label part name (Err fault) = refused (part_text label part fau
 -- the schema in a file
 abbrev pub schema_file : List ℕ → List ℕ → Order Schema
 schema_file label file = and_then (text_file label most_schema_bytes file) (λ text.
-    meaning_or_fault label (codes "line") schema_kind (schema_read text))
+    meaning_or_fault label (codes "line") (λ name. name) (schema_read text))

@@ -1,13 +1,12 @@
 -- One part more of a list of parts.
 --     parts_before-push    in front of the others
 --     part_on              behind those that are resolved
-use Rattle.std.proofs.Common.{◌≡◌, List, [], ◌∷◌, ◌++◌, Result, Ok, Err, map, refl, ap, sym}
+use Rattle.std.proofs.Common.{◌≡◌, ℕ, List, [], ◌∷◌, ◌++◌, Result, Ok, Err, map, refl, ap, sym}
 use Rattle.olap_ast.specs.Formula as Meaning
 use Rattle.olap_ast.specs.Listing.{parts_before}
 use Rattle.olap_ast.specs.Trees.{formula_of}
 use Rattle.olap_ast.specs.declared.formulas.Formula.{Formula}
 use Rattle.olap_schema_text.specs.Resolving.{goes_on}
-use Rattle.olap_schema_text.specs.declared.kinds.SchemaKind.{SchemaKind}
 
 -- the last of the parts comes first
 pub parts_before-push : (fs : List Formula) (f : Formula) (terms : Meaning.Terms)
@@ -17,17 +16,17 @@ parts_before-push [] f terms = refl
 parts_before-push (g ∷ fs) f terms = ap (Meaning.Terms.More (formula_of g)) (parts_before-push fs f terms)
 
 -- a list with these parts in front, or its fault
-abbrev with_parts : List Formula → Result Meaning.Terms SchemaKind → Result Meaning.Terms SchemaKind
+abbrev with_parts : List Formula → Result Meaning.Terms (List ℕ) → Result Meaning.Terms (List ℕ)
 with_parts fs read = goes_on read (λ terms. Ok (parts_before (map formula_of fs) terms))
 
 -- a part that is resolved comes behind those that are
-pub part_on : (whole left next rest : Result Meaning.Terms SchemaKind) (first : Result Meaning.Formula SchemaKind)
+pub part_on : (whole left next rest : Result Meaning.Terms (List ℕ)) (first : Result Meaning.Formula (List ℕ))
     (parts more : List Formula) (f : Formula) → whole ≡ with_parts parts left
     → left ≡ goes_on first (λ x. goes_on rest (λ xs. Ok (Meaning.Terms.More x xs))) → first ≡ Ok (formula_of f)
     → next ≡ rest → more ≡ parts ++ f ∷ [] → whole ≡ with_parts more next
 part_on whole left next rest first parts more f a b c d e = rw (a, b, c, d, e) (go rest)
   where
-    go : (r : Result Meaning.Terms SchemaKind)
+    go : (r : Result Meaning.Terms (List ℕ))
         → with_parts parts (goes_on r (λ xs. Ok (Meaning.Terms.More (formula_of f) xs)))
         ≡ with_parts (parts ++ f ∷ []) r
     go (Ok xs) = ap (λ terms. Ok terms) (sym (parts_before-push parts f xs))

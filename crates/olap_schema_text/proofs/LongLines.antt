@@ -4,7 +4,7 @@
 --     no_question    the fault of the question
 use Rattle.std.proofs.Common.{◌≡◌, ◌≤◌, ◌<◌, ◌+◌, ◌++◌, ◌∷◌, ◌∙◌, true, false, ℕ, suc, List, length, nat_lt, Option, None, Some, Err, refl, sym, ap, subst, arith}
 use Rattle.std.specs.Borrow.{Bor}
-use Rattle.std.specs.Prelude.{is_some, unwrap_or}
+use Rattle.std.specs.Prelude.{is_some, unwrap_or, codes}
 use Rattle.std.proofs.lemmas.Bool.{le-ltb, lt-ltb}
 use Rattle.std.proofs.lemmas.List.{length-append}
 use Rattle.olap_ast.specs.Schema.{Schema}
@@ -27,8 +27,6 @@ use Rattle.olap_schema_text.specs.Judging.{Above, form_read, question_cut, state
 use Rattle.olap_schema_text.specs.Reading.{IsTallyBehind, said}
 use Rattle.olap_schema_text.specs.Statements as says
 use Rattle.olap_schema_text.specs.Statements.{Statement, statement_of}
-use Rattle.olap_schema_text.specs.declared.kinds.SchemaKind.{SchemaKind}
-use Rattle.olap_schema_text.specs.declared.kinds.SchemaKind.TheVariants as kind
 use Rattle.olap_schema_text.specs.declared.statements.Statement.{Statement as Said}
 use Rattle.olap_schema_text.specs.declared.statements.Statement.TheVariants as statement
 use Rattle.olap_schema_text.proofs.StatementLemmas.{IsSaid, is_said, long_says, longer}
@@ -69,7 +67,7 @@ module _ (v : Version) (before front : ℕ) (y : Tally) (ts : List Token)
     nodes_too_many : front ≤ 3 → most_nodes + front < before + y.nodes → most_nodes < before + nodes_of v ts
     nodes_too_many f l = let few = behind.few in omega (arith, f, l, few)
 
-    pub many_nodes : front ≤ 3 → most_nodes + front < before + y.nodes → form_read v before ts ≡ Err kind.TooManyNodes
+    pub many_nodes : front ≤ 3 → most_nodes + front < before + y.nodes → form_read v before ts ≡ Err (codes "TooManyNodes")
     unfolding form_read
     many_nodes f l =
         let t : nat_lt most_nodes (before + nodes_of v ts) ≡ true =
@@ -84,7 +82,7 @@ module _ (v : Version) (before front : ℕ) (y : Tally) (ts : List Token)
     few_test f l = le-ltb most_nodes (before + nodes_of v ts) (few_nodes f l)
 
     pub too_deep : front ≤ 3 → before + y.nodes ≤ most_nodes + front → y.too_deep ≡ true
-        → form_read v before ts ≡ Err kind.TooDeep
+        → form_read v before ts ≡ Err (codes "TooDeep")
     unfolding form_read
     too_deep f l d = rw (few_test f l, sym behind.too_deep ∙ d) refl
 
@@ -99,7 +97,7 @@ module _ (v : Version) (before front : ℕ) (y : Tally) (ts : List Token)
             absurd (omega (arith, l, few, long))
 
     pub bad_form : front ≤ 3 → before + y.nodes ≤ most_nodes + front → y.too_deep ≡ false
-        → most_tokens most_nodes < length ts → form_read v before ts ≡ Err kind.BadForm
+        → most_tokens most_nodes < length ts → form_read v before ts ≡ Err (codes "BadForm")
     unfolding form_read
     bad_form f l d long =
         let shallow : opens_over 0 0 ts ≡ false = sym behind.too_deep ∙ d in
@@ -134,11 +132,11 @@ module _ (a : Above) (n : ℕ) (k : Kept) (o : Option (List Token)) (found : Beg
     says_as_kept : statement_of ts ≡ longer (statement_of k.first) begins.rest
     says_as_kept = ap statement_of begins.parts ∙ long_says k.first begins.rest kept
 
-    pub unversioned : is_some a.version ≡ false → tokens_read a n o ≡ Err kind.BadForm
+    pub unversioned : is_some a.version ≡ false → tokens_read a n o ≡ Err (codes "BadForm")
     unversioned e = rw (found.1, says_as_kept) (go a.version (statement_of k.first) e)
       where
         go : (v : Option Version) (s : Statement) → is_some v ≡ false
-            → statement_read a n v (longer s begins.rest) ≡ Err kind.BadForm
+            → statement_read a n v (longer s begins.rest) ≡ Err (codes "BadForm")
         go (Some v) s p = absurd (cc)
         go None (says.Statement.Version u) p = refl
         go None (says.Statement.Category name number) p = refl
@@ -149,12 +147,12 @@ module _ (a : Above) (n : ℕ) (k : Kept) (o : Option (List Token)) (found : Beg
     -- the tokens that are kept say anything but a constraint
     pub no_constraint : (s : Said) → said s ≡ statement_of k.first
         → ((root : Bor (List ℕ)) (us : Bor (List Token)) → s ≡ statement.Constraint root us → ⊥)
-        → tokens_read a n o ≡ Err kind.BadForm
+        → tokens_read a n o ≡ Err (codes "BadForm")
     no_constraint s e f = rw (found.1, says_as_kept, ← e) (go s a.version f)
       where
         go : (t : Said) (v : Option Version)
             → ((root : Bor (List ℕ)) (us : Bor (List Token)) → t ≡ statement.Constraint root us → ⊥)
-            → statement_read a n v (longer (said t) begins.rest) ≡ Err kind.BadForm
+            → statement_read a n v (longer (said t) begins.rest) ≡ Err (codes "BadForm")
         go (statement.Version u) None p = refl
         go (statement.Version u) (Some v) p = refl
         go (statement.Category name number) None p = refl
@@ -166,7 +164,7 @@ module _ (a : Above) (n : ℕ) (k : Kept) (o : Option (List Token)) (found : Beg
         go statement.Other (Some v) p = refl
 
     -- the fault of the formula is the line's
-    pub no_formula : (e : SchemaKind) (root : List ℕ) (us : List Token) → is_some a.version ≡ true
+    pub no_formula : (e : List ℕ) (root : List ℕ) (us : List Token) → is_some a.version ≡ true
         → says.Statement.Constraint root us ≡ statement_of k.first
         → ((vs : List Token) → IsTallyBehind (version_at a) 2 k.tally vs → most_tokens most_nodes < length vs
         → form_read (version_at a) a.nodes vs ≡ Err e) → tokens_read a n o ≡ Err e
@@ -195,7 +193,7 @@ nothing_in_front v y ts h =
     record { few = omega (arith, few); nodes = λ l. let e = h.nodes l in omega (arith, e); too_deep = h.too_deep }
 
 -- the fault of the formula is the question's
-pub no_question : (s : Schema) (root : ℕ) (k : Kept) (o : Option (List Token)) (e : SchemaKind)
+pub no_question : (s : Schema) (root : ℕ) (k : Kept) (o : Option (List Token)) (e : List ℕ)
     → BeginsFound version.Two k o
     → k.more ≡ true → most_tokens most_nodes ≤ k.most
     → ((ts : List Token) → IsTallyBehind version.Two 0 k.tally ts → most_tokens most_nodes < length ts

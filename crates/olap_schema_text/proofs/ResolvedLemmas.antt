@@ -2,7 +2,7 @@
 --     IsSound             one of the graph, with as many nodes and levels, whose constants can stand in a line
 --     resolved_is_sound   so it is
 use Rattle.std.proofs.Common.{◌≡◌, ◌≢◌, ◌+◌, ◌∙◌, ℕ, Bool, true, false, cond, List, [], ◌∷◌, Option, Some, None, length, refl, sym, ap, subst, arith}
-use Rattle.std.specs.Prelude.{◌==◌, Result, Ok, Err, option_and_then}
+use Rattle.std.specs.Prelude.{◌==◌, Result, Ok, Err, option_and_then, codes}
 use Rattle.std.specs.Option.{option_map}
 use Rattle.olap_ast.specs.Formula as Meaning
 use Rattle.olap_ast.specs.Formula.{Formula, Terms, equalities, equalities_of_terms}
@@ -17,8 +17,6 @@ use Rattle.olap_grammar.specs.declared.tokens.Joint.{Joint}
 use Rattle.olap_grammar.specs.declared.tokens.Joint.TheVariants as joint
 use Rattle.olap_schema.specs.Readable.{AreTexts}
 use Rattle.olap_schema_text.specs.Resolving.{all_resolved, atom_read, categories_of, ends_read, given, is_repeated, join, lacks_edge, path_read, resolved}
-use Rattle.olap_schema_text.specs.declared.kinds.SchemaKind.{SchemaKind}
-use Rattle.olap_schema_text.specs.declared.kinds.SchemaKind.TheVariants as kind
 use Rattle.olap_schema_text.proofs.FoundWords.{AllAreSpelt, AreSpelt, IsSpelt}
 use Rattle.olap_schema_text.proofs.StepLemmas.{given_ok, goes_on_ok, ok_is, passed_on}
 use Rattle.olap_schema_text.proofs.ValidNames.{differ, follows, name_at}
@@ -75,7 +73,7 @@ module _ (g : Graph) (root : ℕ) where
     levels : depth_of f ≡ 1
 
   -- the category of an atom's last name
-  last_ok : (first last : List ℕ) (next : ℕ → Result Formula SchemaKind) (f : Formula)
+  last_ok : (first last : List ℕ) (next : ℕ → Result Formula (List ℕ)) (f : Formula)
       → ends_read g root first last next ≡ Ok f → (d : ℕ) × IsCategory g d × (next d ≡ Ok f)
   last_ok first last next f h =
       let t = given_ok (category_named g first) _ _ f h in
@@ -96,7 +94,7 @@ module _ (g : Graph) (root : ℕ) where
 
   -- a comparison with a number
   compare_is : (d : ℕ) (op : Op) (digits : List ℕ) (f : Formula) → IsCategory g d → is_number g d ≡ true
-      → given (number_of digits) kind.BadNumber (λ n. Ok (Meaning.Formula.Compare d op n)) ≡ Ok f → IsLeaf f
+      → given (number_of digits) (codes "BadNumber") (λ n. Ok (Meaning.Formula.Compare d op n)) ≡ Ok f → IsLeaf f
   compare_is d op digits f l n h =
       let t = given_ok (number_of digits) _ _ f h in
       subst IsLeaf (sym (ok_is _ _ t.2)) (record {

@@ -26,7 +26,6 @@ use Rattle.olap_schema.specs.Readable.{is_bad}
 use Rattle.olap_schema_text.specs.Lines.{chomped, is_quiet}
 use Rattle.olap_schema_text.specs.Statements.{Statement, Statement.Version, Statement.Category, Statement.Edge, Statement.Constraint, Statement.Other, statement_of}
 use Rattle.olap_schema_text.specs.Tokens.{is_bad_number, is_long, is_long_name}
-use Rattle.olap_schema_text.specs.declared.kinds.SchemaKind.{SchemaKind}
 use Rattle.olap_grammar.specs.declared.tokens.Version.{Version as TextVersion}
 use Rattle.olap_schema_text.proofs.StatementLemmas.{IsSaid, is_said}
 use Rattle.olap_schema_text.proofs.ValidTexts.{AreFine, drop_fine, line_is_fine}
@@ -230,7 +229,7 @@ all_steps P keeps a b n (line ∷ lines) h p =
     go (line_read a (n + 1) (chomped line)) refl h
     (λ c e k. all_steps P keeps c b (n + 1) lines k (keeps a c (stepped a c _ _ e) p))
   where
-    go : (r : Result Above SchemaKind) → line_read a (n + 1) (chomped line) ≡ r → lines_on r (n + 1) lines ≡ Ok b
+    go : (r : Result Above (List ℕ)) → line_read a (n + 1) (chomped line) ≡ r → lines_on r (n + 1) lines ≡ Ok b
         → ((c : Above) → line_read a (n + 1) (chomped line) ≡ Ok c → lines_on (Ok c) (n + 1) lines ≡ Ok b → P b) → P b
     go (Err k) e q rest = absurd (cc)
     go (Ok c) e q rest = rest c e q

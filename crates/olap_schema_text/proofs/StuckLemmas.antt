@@ -1,13 +1,12 @@
 -- The first category that doesn't reach `All`.
 use Rattle.std.proofs.Common.{◌≡◌, ◌+◌, ◌≤◌, ◌<◌, ℕ, suc, zero, Bool, true, false, not, cond, List, Some, None, refl, arith, length, ap, sym, ◌∙◌}
-use Rattle.std.specs.Prelude.{◌-◌, find, slice_index, Ok, Err}
+use Rattle.std.specs.Prelude.{◌-◌, find, slice_index, Ok, Err, codes}
 use Rattle.std.specs.List.{range_with_len}
 use Rattle.olap_base.specs.Reaching.{category_reaches, category_reaches_is}
 use Rattle.olap_base.specs.Graph.{CategoryReaches, Graph, IsCategory}
 use Rattle.olap_graph.specs.Building.{IsFirstWithoutWay}
 use Rattle.olap_schema_text.specs.Judging.{Above, first_stuck, whole}
 use Rattle.olap_ast.specs.Schema.{Constraint}
-use Rattle.olap_schema_text.specs.declared.kinds.SchemaKind.TheVariants as kind
 
 -- the first number of a range that passes is found
 find_first : (p : ℕ → Bool) (a n c : ℕ) → a ≤ c → c < a + n → p c ≡ true → ((d : ℕ) → a ≤ d → d < c → p d ≡ false)
@@ -67,5 +66,5 @@ whole_is a g cs e w k =
 
 -- and else the first without a way is named
 pub whole_not : (a : Above) (c n : ℕ) → IsFirstWithoutWay a.graph c → n ≡ slice_index a.category_lines (c - 1) →
-    whole a (first_stuck a.graph) ≡ Err (record { at = n; kind = kind.NoWayToAll })
+    whole a (first_stuck a.graph) ≡ Err (record { at = n; kind = codes "NoWayToAll" })
 whole_not a c n w e = let some : first_stuck a.graph ≡ Some c = stuck_is a.graph c w in rw (some, e) refl

@@ -2,7 +2,7 @@
 --     sound_kept          a line without a fault keeps what holds of those above it
 --     read_is_readable    what all lines say is so, if each category reaches `All`
 use Rattle.std.proofs.Common.{◌≡◌, ℕ, zero, suc, Bool, true, false, not, cond, List, [], ◌∷◌, Option, Some, None, Ok, Err, length, refl, sym, arith, subst, inl, inr}
-use Rattle.std.specs.Prelude.{Contains, find, flat_map, is_some}
+use Rattle.std.specs.Prelude.{Contains, find, flat_map, is_some, codes}
 use Rattle.std.specs.List.{range_with_len}
 use Rattle.olap_ast.specs.Formula.{equalities}
 use Rattle.olap_ast.specs.Valid.{IsValidSchema}
@@ -14,7 +14,6 @@ use Rattle.olap_schema_text.specs.Judging.{Above, Read, first_stuck, lines_on, n
 use Rattle.olap_schema_text.specs.Laws.{GivesReadable, ReadSchemasAreReadable, ReadSchemasAreValid}
 use Rattle.olap_schema.specs.Readable.{AreTexts, IsReadable}
 use Rattle.olap_schema_text.specs.Lines.{lines_of}
-use Rattle.olap_schema_text.specs.declared.kinds.SchemaKind.TheVariants as kind
 use Rattle.olap_schema_text.proofs.StepLemmas.{Step, Step.quiet, Step.version, Step.category, Step.edge, Step.constraint, all_steps, ok_is}
 use Rattle.olap_schema_text.proofs.ValidTexts.{all_texts}
 use Rattle.olap_schema_text.proofs.ValidNames.{not_false}
@@ -111,7 +110,7 @@ ended_is_readable : (r : Read) → ((a : Above) → r ≡ Ok a → IsSoundSoFar 
 ended_is_readable (Err e) p s h = absurd (cc)
 ended_is_readable (Ok a) p s h = go (is_some a.version) h
   where
-    go : (b : Bool) → cond b (whole a (first_stuck a.graph)) (Err (record { at = 1; kind = kind.BadForm })) ≡ Ok s
+    go : (b : Bool) → cond b (whole a (first_stuck a.graph)) (Err (record { at = 1; kind = codes "BadForm" })) ≡ Ok s
         → IsReadable s
     go true q = whole_is_readable a (p a refl) s q
     go false q = absurd (cc)
@@ -137,7 +136,7 @@ rest_is_readable r a e v p =
     go (is_some a.version) v known
   where
     go : (b : Bool) → b ≡ true
-        → GivesReadable (cond b (whole a (first_stuck a.graph)) (Err (record { at = 1; kind = kind.BadForm })))
+        → GivesReadable (cond b (whole a (first_stuck a.graph)) (Err (record { at = 1; kind = codes "BadForm" })))
         → GivesReadable (whole a (first_stuck a.graph))
     go true q k = k
     go false q k = absurd (cc)

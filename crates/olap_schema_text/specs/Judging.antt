@@ -5,7 +5,7 @@
 --     question_read    the text of a question's formula, given a schema and a root
 -- Two functions that are cited are machines: `tokens_of` and `the_formula`. The laws `FoundAsCut` and `FoundAsFormula`
 -- of `olap_grammar` say that they are the relations `IsCut` and `IsFormula`.
-use Rattle.std.specs.Prelude.{◌==◌, ◌||◌, ◌&&◌, ◌+◌, ◌-◌, ℕ, Bool, not, List, [], ◌∷◌, ◌++◌, Option, Some, None, Result, Ok, Err, length, find, fold, is_some, unwrap_or, nat_lt, nat_le, slice_index, if◌then◌else◌}
+use Rattle.std.specs.Prelude.{◌==◌, ◌||◌, ◌&&◌, ◌+◌, ◌-◌, ℕ, Bool, not, List, [], ◌∷◌, ◌++◌, Option, Some, None, Result, Ok, Err, length, find, fold, is_some, unwrap_or, nat_lt, nat_le, slice_index, if◌then◌else◌, codes}
 use Rattle.std.specs.List.{list_any, range_with_len}
 use Rattle.olap_base.specs.Reaching.{category_reaches}
 use Rattle.olap_base.specs.Graph.{Graph}
@@ -35,8 +35,6 @@ use Rattle.olap_schema_text.specs.Lines.{chomped, is_quiet, lines_of}
 use Rattle.olap_schema_text.specs.Statements as says
 use Rattle.olap_schema_text.specs.Statements.{Statement, statement_of}
 use Rattle.olap_schema_text.specs.Tokens.{is_bad_number, is_long, is_long_name}
-use Rattle.olap_schema_text.specs.declared.kinds.SchemaKind.{SchemaKind}
-use Rattle.olap_schema_text.specs.declared.kinds.SchemaKind.TheVariants as kind
 use Rattle.olap_grammar.specs.declared.tokens.Version.{Version}
 use Rattle.olap_grammar.specs.declared.tokens.Version.TheVariants as version
 
@@ -58,67 +56,67 @@ version_at a = unwrap_or a.version version.One
 -- ---- categories and edges
 
 -- the fault that a refused category is
-abbrev pub category_kind : CategoryFault → SchemaKind
-category_kind of_category.DuplicateCategory = kind.DuplicateCategory
-category_kind of_category.TooManyCategories = kind.TooManyCategories
+abbrev pub category_kind : CategoryFault → List ℕ
+category_kind of_category.DuplicateCategory = codes "DuplicateCategory"
+category_kind of_category.TooManyCategories = codes "TooManyCategories"
 
 -- the category is added, on the n-th line, with texts or numbers as its names, or refused
-abbrev pub category_added : Above → ℕ → List ℕ → Bool → Option CategoryFault → Result Above SchemaKind
+abbrev pub category_added : Above → ℕ → List ℕ → Bool → Option CategoryFault → Result Above (List ℕ)
 category_added a n name number (Some e) = Err (category_kind e)
 category_added a n name number None =
     Ok (record a { graph = with_kind number a.graph name; category_lines = a.category_lines ++ n ∷ [] })
 
 -- a category's line
-abbrev pub category_read : Above → ℕ → Version → List ℕ → Bool → Result Above SchemaKind
+abbrev pub category_read : Above → ℕ → Version → List ℕ → Bool → Result Above (List ℕ)
 category_read a n v name number =
-    if number && not (has_numbers v) then Err kind.BadForm
-    else if nat_lt most_text_bytes (length name) then Err kind.TextTooLong
+    if number && not (has_numbers v) then Err (codes "BadForm")
+    else if nat_lt most_text_bytes (length name) then Err (codes "TextTooLong")
     else category_added a n name number (category_refusal a.graph name)
 
 -- the fault that a refused edge is
-abbrev pub edge_kind : EdgeFault → SchemaKind
-edge_kind of_edge.SelfEdge = kind.SelfEdge
-edge_kind of_edge.EdgeFromAll = kind.EdgeFromAll
-edge_kind of_edge.DuplicateEdge = kind.DuplicateEdge
-edge_kind of_edge.TooManyEdges = kind.TooManyEdges
+abbrev pub edge_kind : EdgeFault → List ℕ
+edge_kind of_edge.SelfEdge = codes "SelfEdge"
+edge_kind of_edge.EdgeFromAll = codes "EdgeFromAll"
+edge_kind of_edge.DuplicateEdge = codes "DuplicateEdge"
+edge_kind of_edge.TooManyEdges = codes "TooManyEdges"
 
 -- the edge is added, or refused
-abbrev pub edge_added : Above → ℕ → ℕ → Option EdgeFault → Result Above SchemaKind
+abbrev pub edge_added : Above → ℕ → ℕ → Option EdgeFault → Result Above (List ℕ)
 edge_added a c d (Some e) = Err (edge_kind e)
 edge_added a c d None = Ok (record a { graph = with_edge a.graph c d })
 
 -- an edge's line
-abbrev pub edge_read : Above → List ℕ → List ℕ → Result Above SchemaKind
+abbrev pub edge_read : Above → List ℕ → List ℕ → Result Above (List ℕ)
 edge_read a child parent =
-    if nat_lt most_text_bytes (length child) || nat_lt most_text_bytes (length parent) then Err kind.TextTooLong
+    if nat_lt most_text_bytes (length child) || nat_lt most_text_bytes (length parent) then Err (codes "TextTooLong")
     else known a.graph child (λ c. known a.graph parent (λ d. edge_added a c d (edge_refusal a.graph c d)))
 
 -- ---- formulas
 
 -- the formula over words of the tokens by the version, with so many nodes on the lines above
-unfoldable pub form_read : Version → ℕ → List Token → Result Form SchemaKind
+unfoldable pub form_read : Version → ℕ → List Token → Result Form (List ℕ)
 form_read v before ts =
-    if nat_lt most_nodes (before + nodes_of v ts) then Err kind.TooManyNodes
-    else if opens_over 0 0 ts then Err kind.TooDeep
-    else given (the_formula (atoms_of v) ts) kind.BadForm
-    (λ f. if nat_lt most_depth (depth_of f) then Err kind.TooDeep else Ok f)
+    if nat_lt most_nodes (before + nodes_of v ts) then Err (codes "TooManyNodes")
+    else if opens_over 0 0 ts then Err (codes "TooDeep")
+    else given (the_formula (atoms_of v) ts) (codes "BadForm")
+    (λ f. if nat_lt most_depth (depth_of f) then Err (codes "TooDeep") else Ok f)
 
 -- the same with short names and good numbers, where a root of this name stands in front
-abbrev pub formula_read : Version → ℕ → List ℕ → List Token → Result Form SchemaKind
+abbrev pub formula_read : Version → ℕ → List ℕ → List Token → Result Form (List ℕ)
 formula_read v before name ts =
     goes_on (form_read v before ts) (λ f.
-    if is_long_name name || list_any is_long ts then Err kind.TextTooLong
-    else if list_any is_bad_number ts then Err kind.BadNumber
+    if is_long_name name || list_any is_long ts then Err (codes "TextTooLong")
+    else if list_any is_bad_number ts then Err (codes "BadNumber")
     else Ok f)
 
 -- ---- constraints
 
 -- the constraint is added, if there are then not too many pairs
-abbrev pub constraint_added : Above → Version → ℕ → List Token → Formula → Result Above SchemaKind
+abbrev pub constraint_added : Above → Version → ℕ → List Token → Formula → Result Above (List ℕ)
 constraint_added a v root ts f =
     let pairs = fold with_pair a.pairs (equalities f) in
     let numbers = fold with_number a.numbers (comparisons f) in
-    if nat_lt most_constants (length pairs + length numbers) then Err kind.TooManyConstants
+    if nat_lt most_constants (length pairs + length numbers) then Err (codes "TooManyConstants")
     else Ok (record a {
       constraints = a.constraints ++ record { root = root; formula = f } ∷ [];
       nodes = a.nodes + nodes_of v ts;
@@ -127,15 +125,15 @@ constraint_added a v root ts f =
     })
 
 -- what comes of the root of one constraint more
-abbrev pub root_read : Above → List ℕ → (ℕ → Result Above SchemaKind) → Result Above SchemaKind
+abbrev pub root_read : Above → List ℕ → (ℕ → Result Above (List ℕ)) → Result Above (List ℕ)
 root_read a name next =
     known a.graph name (λ root.
-    if root == 0 then Err kind.RootIsAll
-    else if nat_le most_constraints (length a.constraints) then Err kind.TooManyConstraints
+    if root == 0 then Err (codes "RootIsAll")
+    else if nat_le most_constraints (length a.constraints) then Err (codes "TooManyConstraints")
     else next root)
 
 -- a constraint's line
-abbrev pub constraint_read : Above → Version → List ℕ → List Token → Result Above SchemaKind
+abbrev pub constraint_read : Above → Version → List ℕ → List Token → Result Above (List ℕ)
 constraint_read a v name ts =
     goes_on (formula_read v a.nodes name ts) (λ form.
     root_read a name (λ root. goes_on (resolved a.graph root form) (λ f. constraint_added a v root ts f)))
@@ -143,22 +141,21 @@ constraint_read a v name ts =
 -- ---- a line
 
 -- a line that says this, by the version of the text: before it is known, a line must say which it is
-abbrev pub statement_read : Above → ℕ → Option Version → Statement → Result Above SchemaKind
+abbrev pub statement_read : Above → ℕ → Option Version → Statement → Result Above (List ℕ)
 statement_read a n None (says.Statement.Version v) = Ok (record a { version = Some v })
 statement_read a n (Some v) (says.Statement.Category name number) = category_read a n v name number
 statement_read a n (Some v) (says.Statement.Edge child parent) = edge_read a child parent
 statement_read a n (Some v) (says.Statement.Constraint root ts) = constraint_read a v root ts
-statement_read a n v s = Err kind.BadForm
+statement_read a n v s = Err (codes "BadForm")
 
 -- a line that says something
-abbrev pub tokens_read : Above → ℕ → Option (List Token) → Result Above SchemaKind
-tokens_read a n None = Err kind.BadForm
-tokens_read a n (Some ts) = statement_read a n a.version (statement_of ts)
+abbrev pub tokens_read : Above → ℕ → Option (List Token) → Result Above (List ℕ)
+tokens_read a n ts = given ts (codes "BadForm") (λ ts. statement_read a n a.version (statement_of ts))
 
 -- the n-th line, without its CR
-unfoldable pub line_read : Above → ℕ → List ℕ → Result Above SchemaKind
+unfoldable pub line_read : Above → ℕ → List ℕ → Result Above (List ℕ)
 line_read a n line =
-    if is_bad line then Err kind.BadByte
+    if is_bad line then Err (codes "BadByte")
     else if is_quiet line then Ok a
     else tokens_read a n (tokens_of (version_at a) line)
 
@@ -166,10 +163,10 @@ line_read a n line =
 
 -- the first line with a fault, or what all lines say
 abbrev pub Read : Type 0
-Read = Result Above (Fault SchemaKind)
+Read = Result Above (Fault (List ℕ))
 
 -- the lines after the n-th, where those up to it give this
-abbrev pub lines_on : Result Above SchemaKind → ℕ → List (List ℕ) → Read
+abbrev pub lines_on : Result Above (List ℕ) → ℕ → List (List ℕ) → Read
 lines_on (Err k) n lines = Err (record { at = n; kind = k })
 lines_on (Ok a) n [] = Ok a
 lines_on (Ok a) n (line ∷ lines) = lines_on (line_read a (n + 1) (chomped line)) (n + 1) lines
@@ -191,31 +188,30 @@ abbrev pub first_stuck : Graph → Option ℕ
 first_stuck g = find (λ c. not (category_reaches g c 0)) (range_with_len 1 (length g.names))
 
 -- the schema of all lines, where each category reaches `All`
-abbrev pub whole : Above → Option ℕ → Result Schema (Fault SchemaKind)
-whole a (Some c) = Err (record { at = slice_index a.category_lines (c - 1); kind = kind.NoWayToAll })
+abbrev pub whole : Above → Option ℕ → Result Schema (Fault (List ℕ))
+whole a (Some c) = Err (record { at = slice_index a.category_lines (c - 1); kind = codes "NoWayToAll" })
 whole a None = Ok (record { graph = a.graph; constraints = a.constraints })
 
 -- the schema of a text, where some line is the version
-abbrev pub text_ended : Read → Result Schema (Fault SchemaKind)
-text_ended (Err fault) = Err fault
-text_ended (Ok a) =
-    if is_some a.version then whole a (first_stuck a.graph) else Err (record { at = 1; kind = kind.BadForm })
+abbrev pub text_ended : Read → Result Schema (Fault (List ℕ))
+text_ended read = goes_on read (λ a.
+    if is_some a.version then whole a (first_stuck a.graph) else Err (record { at = 1; kind = codes "BadForm" }))
 
 -- the schema that the text stands for, or its first fault
-unfoldable pub schema_read : List ℕ → Result Schema (Fault SchemaKind)
+unfoldable pub schema_read : List ℕ → Result Schema (Fault (List ℕ))
 schema_read text = text_ended (lines_on (Ok nothing_above) 0 (lines_of text))
 
 -- ---- a question's formula
 
 -- a question that has no bad byte, by the second version, whatever the schema's was
-abbrev pub question_cut : Schema → ℕ → Option (List Token) → Result Formula SchemaKind
-question_cut s root None = Err kind.BadForm
-question_cut s root (Some ts) =
+abbrev pub question_cut : Schema → ℕ → Option (List Token) → Result Formula (List ℕ)
+question_cut s root ts =
+    given ts (codes "BadForm") (λ ts.
     goes_on (formula_read version.Two 0 (name_of_category s.graph root) ts) (λ form.
     goes_on (resolved s.graph root form) (λ f.
-    if nat_lt most_constants (pair_count (all_equalities s f) (all_comparisons s f)) then Err kind.TooManyConstants
-    else Ok f))
+    if nat_lt most_constants (pair_count (all_equalities s f) (all_comparisons s f)) then Err (codes "TooManyConstants")
+    else Ok f)))
 
 -- the formula that the text is, at the root, or its first fault
-unfoldable pub question_read : Schema → ℕ → List ℕ → Result Formula SchemaKind
-question_read s root text = if is_bad text then Err kind.BadByte else question_cut s root (tokens_of version.Two text)
+unfoldable pub question_read : Schema → ℕ → List ℕ → Result Formula (List ℕ)
+question_read s root text = if is_bad text then Err (codes "BadByte") else question_cut s root (tokens_of version.Two text)

@@ -1,5 +1,11 @@
--- The names of the faults.
-use Rattle.std.specs.Prelude.{ℕ, List, codes}
+-- The names of the faults, as the program has them.
+--     name_of_kind    what a fault is called
+--     IsRefusedAs     a refusal tells the fault of this name
+--     IsFaultOf       the same of a fault at its place in a text
+use Rattle.std.specs.Prelude.{◌≡◌, ℕ, List, Err, Result, codes}
+use Rattle.olap_base.specs.Refusing.{IsFor}
+use Rattle.olap_base.specs.declared.refusals.Fault.{Fault}
+use Rattle.olap_base.specs.declared.refusals.Refusal.{Refusal}
 use Rattle.olap_schema_text.specs.declared.kinds.SchemaKind.{SchemaKind}
 use Rattle.olap_schema_text.specs.declared.kinds.SchemaKind.TheVariants as kind
 
@@ -26,3 +32,11 @@ name_of_kind kind.TextTooLong = codes "TextTooLong"
 name_of_kind kind.NoWayToAll = codes "NoWayToAll"
 name_of_kind kind.WrongNames = codes "WrongNames"
 name_of_kind kind.BadNumber = codes "BadNumber"
+
+-- the refusal tells the fault that a text has by its definition, or is out of memory
+abbrev pub IsRefusedAs : {T : Type 0} → Refusal SchemaKind → Result T (List ℕ) → Type 0
+IsRefusedAs e read = IsFor (λ k. read ≡ Err (name_of_kind k)) e
+
+-- the same of a fault at its place
+abbrev pub IsFaultOf : {T : Type 0} → Refusal (Fault SchemaKind) → Result T (Fault (List ℕ)) → Type 0
+IsFaultOf e read = IsFor (λ f. read ≡ Err (record { at = f.at; kind = name_of_kind f.kind })) e

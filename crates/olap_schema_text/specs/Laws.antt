@@ -14,10 +14,9 @@ use Rattle.olap_schema_text.specs.Judging.{question_read, schema_read}
 use Rattle.olap_grammar.specs.Brackets.{is_close, is_open, opens_over}
 use Rattle.olap_grammar.specs.declared.tokens.Token.{Token}
 use Rattle.olap_schema.specs.Readable.{AreTexts, IsReadable}
-use Rattle.olap_schema_text.specs.declared.kinds.SchemaKind.{SchemaKind}
 
 -- if a schema was read, it is valid, and its constants can stand in a line
-abbrev pub GivesReadable : Result Schema (Fault SchemaKind) → Type 0
+abbrev pub GivesReadable : Result Schema (Fault (List ℕ)) → Type 0
 GivesReadable read = (s : Schema) → read ≡ Ok s → IsReadable s
 
 -- each schema that is read is valid, and its constants can stand in a line

@@ -8,9 +8,9 @@
 --     said                          what the tokens of a line say
 --     HasName                       a new category has a category name
 --     IsTallyBehind                 what was counted is so of the tokens
-use Rattle.std.specs.Prelude.{◌≡◌, ◌≤◌, ◌<◌, ◌+◌, ℕ, List, Result, Ok, Err, Option, None, map, IsTrue}
+use Rattle.std.specs.Prelude.{◌≡◌, ◌≤◌, ◌<◌, ◌+◌, ℕ, List, Result, Ok, Err, Option, Some, None, codes, map, IsTrue}
 use Rattle.olap_base.specs.Reaching.{is_category_name}
-use Rattle.olap_base.specs.Refusing.{IsCause, IsRefusedBy}
+use Rattle.olap_base.specs.Refusing.{IsFor}
 use Rattle.olap_base.specs.declared.refusals.Fault.{Fault}
 use Rattle.olap_base.specs.declared.refusals.Refusal.{Refusal}
 use Rattle.olap_ast.specs.Formula as Meaning
@@ -28,19 +28,19 @@ use Rattle.olap_grammar.specs.declared.tallying.Tally.{Tally}
 use Rattle.olap_grammar.specs.declared.tokens.Version.{Version}
 use Rattle.olap_grammar.specs.declared.tokens.Token.{Token}
 use Rattle.olap_schema_text.specs.Judging.{Above, Read}
+use Rattle.olap_schema_text.specs.Kinds.{IsFaultOf, IsRefusedAs, name_of_kind}
 use Rattle.olap_schema_text.specs.Statements as says
 use Rattle.olap_schema_text.specs.declared.kinds.SchemaKind.{SchemaKind}
-use Rattle.olap_schema_text.specs.declared.kinds.SchemaKind.TheVariants as kind
 use Rattle.olap_schema_text.specs.declared.pairing.NumberPair.{NumberPair}
 use Rattle.olap_schema_text.specs.declared.pairing.Pair.{Pair}
 use Rattle.olap_schema_text.specs.declared.reading.Reading.{Reading}
 use Rattle.olap_schema_text.specs.declared.statements.Statement.{Statement}
 use Rattle.olap_schema_text.specs.declared.statements.Statement.TheVariants as statement
 
--- no fault, or the first fault, or out of memory
-abbrev pub Finds : {A : Type 0} → Result A (Refusal SchemaKind) → Option SchemaKind → Type 0
+-- no fault, or that of this name, or out of memory
+abbrev pub Finds : {A : Type 0} → Result A (Refusal SchemaKind) → Option (List ℕ) → Type 0
 Finds (Ok u) first = first ≡ None
-Finds (Err e) first = IsCause first e
+Finds (Err e) first = IsFor (λ k. first ≡ Some (name_of_kind k)) e
 
 -- a pair of a category and a text
 abbrev pub pair_of : Pair → Meaning.Equality
@@ -63,34 +63,34 @@ above_of r = record {
 }
 
 -- the reader goes on to what it knows now, or the line has that fault
-abbrev pub Reads : {A : Type 0} → Result A (Refusal SchemaKind) → Above → Result Above SchemaKind → Type 0
+abbrev pub Reads : {A : Type 0} → Result A (Refusal SchemaKind) → Above → Result Above (List ℕ) → Type 0
 Reads (Ok u) new read = read ≡ Ok new
-Reads (Err e) new read = IsRefusedBy e read
+Reads (Err e) new read = IsRefusedAs e read
 
 -- the reader knows what all lines say, or a line has that fault
 abbrev pub ReadsLines : {A : Type 0} → Result A (Refusal (Fault SchemaKind)) → Above → Read → Type 0
 ReadsLines (Ok u) new read = read ≡ Ok new
-ReadsLines (Err e) new read = IsRefusedBy e read
+ReadsLines (Err e) new read = IsFaultOf e read
 
 -- the fault of tokens that are no formula
-abbrev pub form_kind : FormFault → SchemaKind
-form_kind of_form.BadForm = kind.BadForm
-form_kind of_form.TooDeep = kind.TooDeep
+abbrev pub form_kind : FormFault → List ℕ
+form_kind of_form.BadForm = codes "BadForm"
+form_kind of_form.TooDeep = codes "TooDeep"
 
 -- the formula, or its fault
-abbrev pub form_answer : Result words.Form FormFault → Result words.Form SchemaKind
+abbrev pub form_answer : Result words.Form FormFault → Result words.Form (List ℕ)
 form_answer (Ok f) = Ok f
 form_answer (Err e) = Err (form_kind e)
 
 -- the formula over words was read, or there is that fault
-abbrev pub ReadsForm : Result Form (Refusal SchemaKind) → Result words.Form SchemaKind → Type 0
+abbrev pub ReadsForm : Result Form (Refusal SchemaKind) → Result words.Form (List ℕ) → Type 0
 ReadsForm (Ok f) read = read ≡ Ok (form_of f)
-ReadsForm (Err e) read = IsRefusedBy e read
+ReadsForm (Err e) read = IsRefusedAs e read
 
 -- the formula was read, or there is that fault
-abbrev pub ReadsFormula : Result Formula (Refusal SchemaKind) → Result Meaning.Formula SchemaKind → Type 0
+abbrev pub ReadsFormula : Result Formula (Refusal SchemaKind) → Result Meaning.Formula (List ℕ) → Type 0
 ReadsFormula (Ok f) read = read ≡ Ok (formula_of f)
-ReadsFormula (Err e) read = IsRefusedBy e read
+ReadsFormula (Err e) read = IsRefusedAs e read
 
 -- what the tokens of a line say
 abbrev pub said : Statement → says.Statement

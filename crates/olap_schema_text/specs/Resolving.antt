@@ -3,7 +3,7 @@
 --     known             what comes of the category of a name
 --     atom_read         an atom
 --     resolved          a formula
-use Rattle.std.specs.Prelude.{◌==◌, ◌||◌, ℕ, Bool, false, not, List, [], ◌∷◌, Option, Some, None, Result, Ok, Err, is_some, option_and_then, if◌then◌else◌}
+use Rattle.std.specs.Prelude.{◌==◌, ◌||◌, ℕ, Bool, false, not, List, [], ◌∷◌, Option, Some, None, Result, Ok, Err, is_some, option_and_then, if◌then◌else◌, codes}
 use Rattle.std.specs.List.{list_any}
 use Rattle.std.specs.Option.{option_map}
 use Rattle.olap_ast.specs.Formula as Meaning
@@ -15,8 +15,6 @@ use Rattle.olap_grammar.specs.Forms as words
 use Rattle.olap_grammar.specs.Forms.{Atom, Form, Forms}
 use Rattle.olap_grammar.specs.declared.tokens.Joint.{Joint}
 use Rattle.olap_grammar.specs.declared.tokens.Joint.TheVariants as joint
-use Rattle.olap_schema_text.specs.declared.kinds.SchemaKind.{SchemaKind}
-use Rattle.olap_schema_text.specs.declared.kinds.SchemaKind.TheVariants as kind
 
 -- what comes of it if it is there, and else that fault
 abbrev pub given : {A B K : Type 0} → Option A → K → (A → Result B K) → Result B K
@@ -31,15 +29,15 @@ goes_on (Err k) next = Err k
 -- ---- atoms
 
 -- what comes of the category of the name
-abbrev pub known : {B : Type 0} → Graph → List ℕ → (ℕ → Result B SchemaKind) → Result B SchemaKind
-known g name next = given (category_named g name) kind.UnknownCategory next
+abbrev pub known : {B : Type 0} → Graph → List ℕ → (ℕ → Result B (List ℕ)) → Result B (List ℕ)
+known g name next = given (category_named g name) (codes "UnknownCategory") next
 
 -- what comes of this category as the first that an atom names: it must be the root
-abbrev pub at_root : {B : Type 0} → ℕ → ℕ → Result B SchemaKind → Result B SchemaKind
-at_root root c read = if c == root then read else Err kind.MixedRoot
+abbrev pub at_root : {B : Type 0} → ℕ → ℕ → Result B (List ℕ) → Result B (List ℕ)
+at_root root c read = if c == root then read else Err (codes "MixedRoot")
 
 -- what comes of the last of an atom's two names
-abbrev pub ends_read : Graph → ℕ → List ℕ → List ℕ → (ℕ → Result Formula SchemaKind) → Result Formula SchemaKind
+abbrev pub ends_read : Graph → ℕ → List ℕ → List ℕ → (ℕ → Result Formula (List ℕ)) → Result Formula (List ℕ)
 ends_read g root first last next = known g first (λ c. known g last (λ d. at_root root c (next d)))
 
 -- the categories of these names, if each is one's
@@ -59,28 +57,28 @@ lacks_edge g c [] = false
 lacks_edge g c (d ∷ ds) = not (is_some (edge_between g c d)) || lacks_edge g d ds
 
 -- a path from the root through these categories
-abbrev pub path_read : Graph → ℕ → List ℕ → Result Formula SchemaKind
+abbrev pub path_read : Graph → ℕ → List ℕ → Result Formula (List ℕ)
 path_read g root cs =
-    if is_repeated (root ∷ cs) then Err kind.RepeatedCategory
-    else if lacks_edge g root cs then Err kind.NotAnEdge
+    if is_repeated (root ∷ cs) then Err (codes "RepeatedCategory")
+    else if lacks_edge g root cs then Err (codes "NotAnEdge")
     else Ok (Meaning.Formula.Path cs)
 
 -- a text is compared with a category of texts, and a number with a category of numbers
-abbrev pub atom_read : Graph → ℕ → Atom → Result Formula SchemaKind
+abbrev pub atom_read : Graph → ℕ → Atom → Result Formula (List ℕ)
 atom_read g root words.Atom.Truth = Ok Meaning.Formula.Truth
 atom_read g root words.Atom.Falsity = Ok Meaning.Formula.Falsity
 atom_read g root (words.Atom.Path first names) =
-    known g first (λ c. given (categories_of g names) kind.UnknownCategory (λ cs. at_root root c (path_read g root cs)))
+    known g first (λ c. given (categories_of g names) (codes "UnknownCategory") (λ cs. at_root root c (path_read g root cs)))
 atom_read g root (words.Atom.Reach first last) = ends_read g root first last (λ d. Ok (Meaning.Formula.Reach d))
 atom_read g root (words.Atom.Via first middle last) =
     known g first (λ c. known g middle (λ d. known g last (λ e. at_root root c (Ok (Meaning.Formula.Via d e)))))
 atom_read g root (words.Atom.Equals first last text) =
     ends_read g root first last
-    (λ d. if is_number g d then Err kind.WrongNames else Ok (Meaning.Formula.Equals d text))
+    (λ d. if is_number g d then Err (codes "WrongNames") else Ok (Meaning.Formula.Equals d text))
 atom_read g root (words.Atom.Compare first last op digits) =
     ends_read g root first last (λ d. if is_number g d
-    then given (number_of digits) kind.BadNumber (λ n. Ok (Meaning.Formula.Compare d op n))
-    else Err kind.WrongNames)
+    then given (number_of digits) (codes "BadNumber") (λ n. Ok (Meaning.Formula.Compare d op n))
+    else Err (codes "WrongNames"))
 
 -- ---- formulas
 
@@ -94,7 +92,7 @@ join joint.And f g = Meaning.Formula.And f g
 
 abbrev mutual
   -- the formula at the root, or the fault of its first atom that has one
-  pub resolved : Graph → ℕ → Form → Result Formula SchemaKind
+  pub resolved : Graph → ℕ → Form → Result Formula (List ℕ)
   resolved g root (words.Form.Of a) = atom_read g root a
   resolved g root (words.Form.Not f) = goes_on (resolved g root f) (λ x. Ok (Meaning.Formula.Not x))
   resolved g root (words.Form.Joined j f h) =
@@ -102,7 +100,7 @@ abbrev mutual
   resolved g root (words.Form.One fs) = goes_on (all_resolved g root fs) (λ xs. Ok (Meaning.Formula.One xs))
 
   -- the parts of `one(..)`
-  pub all_resolved : Graph → ℕ → Forms → Result Terms SchemaKind
+  pub all_resolved : Graph → ℕ → Forms → Result Terms (List ℕ)
   all_resolved g root words.Forms.End = Ok Meaning.Terms.End
   all_resolved g root (words.Forms.More f fs) =
       goes_on (resolved g root f) (λ x. goes_on (all_resolved g root fs) (λ xs. Ok (Meaning.Terms.More x xs)))

@@ -2,6 +2,7 @@
 ghost use Rattle.olap_base.specs.Limits.{most_nodes};
 ghost use Rattle.olap_grammar.specs.Nodes.{nodes_of};
 ghost use Rattle.olap_schema_text.specs.Judging.{form_read, formula_read};
+ghost use Rattle.olap_schema_text.specs.Kinds.{name_of_kind};
 ghost use Rattle.olap_schema_text.specs.Reading.{ReadsForm, form_kind as form_kind_of};
 ghost use Rattle.std.specs.Prelude.{◌≡◌, ◌≤◌, ◌+◌, IfOk};
 
@@ -13,7 +14,7 @@ use std::alloc::Global;
 
 /// The fault of tokens that are no formula.
 fn form_kind(fault: FormFault) -> SchemaKind
-    ensures { result ≡ form_kind_of fault }
+    ensures { name_of_kind result ≡ form_kind_of fault }
 {
     match fault {
         FormFault::BadForm => SchemaKind::BadForm,

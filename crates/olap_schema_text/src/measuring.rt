@@ -5,6 +5,7 @@ ghost use Rattle.olap_grammar.specs.Nodes.{nodes_of};
 ghost use Rattle.olap_grammar.specs.declared.tokens.Token.{Token as Tokens};
 ghost use Rattle.olap_grammar.specs.declared.tokens.Version.{Version as Versions};
 ghost use Rattle.olap_schema_text.specs.Judging.{form_read};
+ghost use Rattle.olap_schema_text.specs.Kinds.{name_of_kind};
 ghost use Rattle.olap_schema_text.specs.Reading.{IsTallyBehind};
 ghost use Rattle.olap_grammar.specs.Words.{pieces_of};
 ghost use Rattle.olap_schema_text.specs.Tokens.{is_bad_number as is_bad_number_of, is_long as is_long_of, is_long_name, is_no_numeral as is_no_numeral_of, names_in};
@@ -25,7 +26,7 @@ pub(crate) const MOST_TOKENS: usize = (2 * MOST_DEPTH as usize + 3) * MOST_NODES
 pub(crate) fn long_form_fault(before: u16, front: u16, tally: &Tally) -> SchemaKind
     requires { front ≤ 3 }
     ensures { (v : Versions) (ts : List Tokens) → IsTallyBehind v front tally.now ts
-        → most_tokens most_nodes < length ts → form_read v before ts ≡ Err result }
+        → most_tokens most_nodes < length ts → form_read v before ts ≡ Err (name_of_kind result) }
 {
     if before as usize + tally.nodes as usize > MOST_NODES + front as usize {
         return SchemaKind::TooManyNodes;

@@ -4,9 +4,8 @@ ghost use Rattle.olap_ast.specs.Trees.{formula_of, terms_of};
 ghost use Rattle.olap_ast.specs.Valid.{is_same_number as is_same_number_of, is_same_pair, with_number, with_pair};
 ghost use Rattle.olap_schema_text.specs.Reading.{Finds, number_pair_of, pair_of};
 ghost use Rattle.olap_base.specs.Limits.{most_constants};
-ghost use Rattle.olap_schema_text.specs.declared.kinds.SchemaKind.TheVariants as kind;
 ghost use Rattle.std.specs.List.{list_any};
-ghost use Rattle.std.specs.Prelude.{◌≡◌, [], ◌∷◌, ◌++◌, ◌+◌, None, OnOk, Some, fold, if◌then◌else◌, length, map, nat_lt};
+ghost use Rattle.std.specs.Prelude.{◌≡◌, [], ◌∷◌, ◌++◌, ◌+◌, None, OnOk, Some, fold, if◌then◌else◌, length, map, nat_lt, codes};
 
 use crate::SchemaKind;
 use crate::statements::is;
@@ -153,7 +152,7 @@ pub(crate) fn add_few_pairs(
 ) -> Result<(), Refusal<SchemaKind>>
     ensures few { let count = length (fold with_pair (map pair_of pairs.old.items) (equalities (formula_of f.now)))
         + length (fold with_number (map number_pair_of numbers.old.items) (comparisons (formula_of f.now))) in
-        Finds result (if nat_lt most_constants count then Some kind.TooManyConstants else None) }
+        Finds result (if nat_lt most_constants count then Some (codes "TooManyConstants") else None) }
     ensures texts { OnOk result (map pair_of pairs.new.items ≡ fold with_pair (map pair_of pairs.old.items)
         (equalities (formula_of f.now))) }
     ensures numbers { OnOk result (map number_pair_of numbers.new.items

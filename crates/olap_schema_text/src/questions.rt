@@ -5,7 +5,6 @@ ghost use Rattle.olap_ast.specs.Trees.{constraint_of, formula_of};
 ghost use Rattle.olap_ast.specs.Valid.{IsQuestion, pair_count, with_number, with_pair};
 ghost use Rattle.olap_base.specs.Graph.{IsDeclared};
 ghost use Rattle.olap_base.specs.Limits.{most_constants, most_nodes};
-ghost use Rattle.olap_schema_text.specs.declared.kinds.SchemaKind.TheVariants as kind;
 ghost use Rattle.olap_grammar.specs.Brackets.{most_tokens};
 ghost use Rattle.olap_grammar.specs.Cutter.{kept_of};
 ghost use Rattle.olap_grammar.specs.CuttingMachine.{tokens_of};
@@ -18,7 +17,7 @@ ghost use Rattle.olap_schema_text.specs.Reading.{Finds, ReadsFormula, number_pai
 ghost use Rattle.olap_schema_text.specs.Resolving.{goes_on, resolved};
 ghost use Rattle.olap_grammar.specs.Shown.{form_of};
 ghost use Rattle.olap_schema.specs.Schemas.{schema_of};
-ghost use Rattle.std.specs.Prelude.{◌≡◌, ◌≤◌, [], List, Option, IfOk, Err, Ok, OnOk, Some, None, flat_map, fold, if◌then◌else◌, map, nat_lt};
+ghost use Rattle.std.specs.Prelude.{◌≡◌, ◌≤◌, [], List, Option, IfOk, Err, Ok, OnOk, Some, None, codes, flat_map, fold, if◌then◌else◌, map, nat_lt};
 
 use crate::SchemaKind;
 use crate::forming::checked_form;
@@ -66,7 +65,7 @@ fn add_all_pairs(
     requires numbers { numbers.old.items ≡ [] }
     ensures { let s = schema_of schema.now in
         let count = pair_count (all_equalities s (formula_of f.now)) (all_comparisons s (formula_of f.now)) in
-        Finds result (if nat_lt most_constants count then Some kind.TooManyConstants else None) }
+        Finds result (if nat_lt most_constants count then Some (codes "TooManyConstants") else None) }
 {
     add_of_constraints(alloc, pairs, numbers, schema.constraints())?;
     add_few_pairs(alloc, pairs, numbers, f)
@@ -76,7 +75,7 @@ fn add_all_pairs(
 fn check_pairs(alloc: Global, schema: &Schema, f: &Formula) -> Result<(), Refusal<SchemaKind>>
     ensures { let s = schema_of schema.now in
         let count = pair_count (all_equalities s (formula_of f.now)) (all_comparisons s (formula_of f.now)) in
-        Finds result (if nat_lt most_constants count then Some kind.TooManyConstants else None) }
+        Finds result (if nat_lt most_constants count then Some (codes "TooManyConstants") else None) }
 {
     let mut pairs = Vec::new(alloc);
     let mut numbers = Vec::new(alloc);
@@ -92,7 +91,7 @@ fn at_root(
 ) -> Result<Formula, Refusal<SchemaKind>>
     requires { IsDeclared (schema_of schema.now).graph root.0 }
     ensures { let s = schema_of schema.now in ReadsFormula result (goes_on (resolved s.graph root.0 (form_of form.now)) (λ f.
-        if nat_lt most_constants (pair_count (all_equalities s f) (all_comparisons s f)) then Err kind.TooManyConstants
+        if nat_lt most_constants (pair_count (all_equalities s f) (all_comparisons s f)) then Err (codes "TooManyConstants")
         else Ok f)) }
 {
     let f = resolve(alloc, &Known::Whole(schema.graph()), root, form)?;

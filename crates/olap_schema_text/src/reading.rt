@@ -3,12 +3,12 @@ ghost use Rattle.olap_ast.specs.Trees.{formula_of};
 ghost use Rattle.olap_base.specs.Reaching.{is_category_name};
 ghost use Rattle.olap_base.specs.Graph.{IsCategory, IsCategoryName};
 ghost use Rattle.olap_base.specs.Limits.{most_nodes, most_text_bytes};
-ghost use Rattle.olap_base.specs.Refusing.{IsCause, IsRefusedBy};
+ghost use Rattle.olap_base.specs.Refusing.{IsCause};
 ghost use Rattle.olap_graph.specs.Building.{category_refusal, edge_refusal, with_kind};
 ghost use Rattle.olap_schema_text.specs.Judging.{Above, category_kind as category_kind_of, category_read, constraint_added, constraint_read, edge_added, edge_kind as edge_kind_of, edge_read, line_read, nothing_above, root_read, tokens_read, version_at};
+ghost use Rattle.olap_schema_text.specs.Kinds.{IsRefusedAs, name_of_kind};
 ghost use Rattle.olap_schema_text.specs.Reading.{Reads, above_of};
 ghost use Rattle.olap_schema_text.specs.Resolving.{goes_on, resolved};
-ghost use Rattle.olap_schema_text.specs.declared.kinds.SchemaKind.{SchemaKind as SchemaKinds};
 ghost use Rattle.olap_grammar.specs.Shown.{form_of};
 ghost use Rattle.olap_ast.specs.Formula.{Formula as Meaning};
 ghost use Rattle.olap_ast.specs.Schema.{Constraint as Entry};
@@ -95,7 +95,7 @@ fn add_category(
 
 /// The fault of a line whose category is refused.
 fn category_kind(fault: CategoryFault) -> SchemaKind
-    ensures { result ≡ category_kind_of fault }
+    ensures { name_of_kind result ≡ category_kind_of fault }
 {
     match fault {
         CategoryFault::DuplicateCategory => SchemaKind::DuplicateCategory,
@@ -133,7 +133,7 @@ fn read_category(
 
 /// The fault of a line whose edge is refused.
 fn edge_kind(fault: EdgeFault) -> SchemaKind
-    ensures { result ≡ edge_kind_of fault }
+    ensures { name_of_kind result ≡ edge_kind_of fault }
 {
     match fault {
         EdgeFault::SelfEdge => SchemaKind::SelfEdge,
@@ -207,9 +207,9 @@ fn add_constraint(
 /// The root of one constraint more.
 fn root_of(reading: &Reading, name: &[u8]) -> Result<CatId, Refusal<SchemaKind>>
     ensures read { let above = above_of reading.now in
-        (next : ℕ → Result Above SchemaKinds) → MatchResult result
+        (next : ℕ → Result Above (List ℕ)) → MatchResult result
         (λ root. root_read above name.now next ≡ next root.0)
-        (λ e. IsRefusedBy e (root_read above name.now next)) }
+        (λ e. IsRefusedAs e (root_read above name.now next)) }
     ensures category { IfOk result (λ root. IsCategory (above_of reading.now).graph root.0) }
 {
     let Some(root) = reading.builder.category(name) else {
@@ -232,9 +232,9 @@ fn rooted(
     form: &Form,
 ) -> Result<(CatId, Formula), Refusal<SchemaKind>>
     ensures { let above = above_of reading.now in
-        (next : ℕ → Meaning → Result Above SchemaKinds) →
+        (next : ℕ → Meaning → Result Above (List ℕ)) →
         let read = root_read above name.now (λ root. goes_on (resolved above.graph root (form_of form.now)) (next root)) in
-        MatchResult result (λ r. read ≡ next r.0.0 (formula_of r.1)) (λ e. IsRefusedBy e read) }
+        MatchResult result (λ r. read ≡ next r.0.0 (formula_of r.1)) (λ e. IsRefusedAs e read) }
 {
     let root = root_of(reading, name)?;
     let f = resolve(alloc, &Known::Growing(&reading.builder), root, form)?;
@@ -289,7 +289,7 @@ fn long_line_fault(reading: &Reading, found: &FirstTokens) -> SchemaKind
     requires room { most_tokens most_nodes + 3 ≤ found.now.most }
     ensures { (n : ℕ) (ts : Option (List Tokens))
         → BeginsFound (version_at (above_of reading.now)) (kept_of found.now) ts
-        → tokens_read (above_of reading.now) n ts ≡ Err result }
+        → tokens_read (above_of reading.now) n ts ≡ Err (name_of_kind result) }
 {
     if reading.version.is_none() {
         return SchemaKind::BadForm;

@@ -5,15 +5,15 @@ ghost use Rattle.olap_ast.specs.Listing.{parts_before};
 ghost use Rattle.olap_ast.specs.Trees.{formula_of, op_of, terms_of};
 ghost use Rattle.olap_base.specs.Bytes.{underscore};
 ghost use Rattle.olap_base.specs.Graph.{IsCategory};
-ghost use Rattle.olap_base.specs.Refusing.{IsForMemory, IsRefusedBy};
+ghost use Rattle.olap_base.specs.Refusing.{IsForMemory};
 ghost use Rattle.olap_graph.specs.Lookups.{category_named, edge_between};
 ghost use Rattle.olap_grammar.specs.Forms as words;
 ghost use Rattle.olap_grammar.specs.Shown.{atom_of, form_of, forms_of};
 ghost use Rattle.olap_grammar.specs.Words.{pieces_of};
+ghost use Rattle.olap_schema_text.specs.Kinds.{IsRefusedAs};
 ghost use Rattle.olap_schema_text.specs.Known.{graph_seen};
 ghost use Rattle.olap_schema_text.specs.Reading.{ReadsFormula};
 ghost use Rattle.olap_schema_text.specs.Resolving.{all_resolved, atom_read, categories_of, ends_read, path_read, is_repeated, join as join_of, lacks_edge as lacks_edge_of, resolved};
-ghost use Rattle.olap_schema_text.specs.declared.kinds.SchemaKind.{SchemaKind as SchemaKinds};
 ghost use Rattle.olap_schema_text.specs.declared.kinds.SchemaKind.TheVariants as kind;
 ghost use Rattle.olap_base.specs.declared.refusals.Refusal.TheVariants as refusal;
 ghost use Rattle.std.specs.List.{list_any};
@@ -48,8 +48,8 @@ fn last_category(
     first: &[u8],
     last: &[u8],
 ) -> Result<CatId, Refusal<SchemaKind>>
-    ensures read { (next : ℕ → Result Meaning SchemaKinds) → let read = ends_read (graph_seen known.now) root.0 first.now
-        last.now next in MatchResult result (λ d. read ≡ next d.0) (λ e. IsRefusedBy e read) }
+    ensures read { (next : ℕ → Result Meaning (Numbers ℕ)) → let read = ends_read (graph_seen known.now) root.0 first.now
+        last.now next in MatchResult result (λ d. read ≡ next d.0) (λ e. IsRefusedAs e read) }
     ensures category { IfOk result (λ d. IsCategory (graph_seen known.now) d.0) }
 {
     let c = category(known, first)?;
@@ -347,7 +347,7 @@ fn resolve_part(
 ) -> Result<Box<Formula>, Refusal<SchemaKind>>
     requires { IsCategory (graph_seen known.now) root.0 }
     ensures { let read = resolved (graph_seen known.now) root.0 (form_of form.now) in
-        MatchResult result (λ f. read ≡ Ok (formula_of f.value)) (λ e. IsRefusedBy e read) }
+        MatchResult result (λ f. read ≡ Ok (formula_of f.value)) (λ e. IsRefusedAs e read) }
 {
     let f = resolve(alloc, known, root, form)?;
     Ok(Box::new(alloc, f)?)
@@ -363,7 +363,7 @@ fn resolve_all(
 ) -> Result<Terms, Refusal<SchemaKind>>
     requires { IsCategory (graph_seen known.now) root.0 }
     ensures { let read = all_resolved (graph_seen known.now) root.0 (forms_of forms.now) in
-        MatchResult result (λ terms. read ≡ Ok (terms_of terms)) (λ e. IsRefusedBy e read) }
+        MatchResult result (λ terms. read ≡ Ok (terms_of terms)) (λ e. IsRefusedAs e read) }
 {
     let mut parts = Vec::new(alloc);
     let mut left = forms;

@@ -1,8 +1,8 @@
 // Reading a schema from its text.
 ghost use Rattle.olap_schema_text.specs.Judging.{first_stuck, lines_on, schema_read, text_ended, whole};
+ghost use Rattle.olap_schema_text.specs.Kinds.{IsFaultOf};
 ghost use Rattle.olap_schema_text.specs.Laws.{GivesReadable};
 ghost use Rattle.olap_schema_text.specs.Lines.{lines_of};
-ghost use Rattle.olap_base.specs.Refusing.{IsRefusedBy};
 ghost use Rattle.olap_schema_text.specs.Reading.{ReadsLines, above_of};
 ghost use Rattle.olap_schema.specs.Schemas.{schema_of};
 ghost use Rattle.std.specs.Prelude.{◌≡◌, ◌<◌, ◌-◌, MatchResult, Ok, slice_index};
@@ -43,7 +43,7 @@ fn finish(alloc: Global, reading: Reading) -> Result<Schema, Refusal<Fault<Schem
     requires { let a = above_of reading in GivesReadable (whole a (first_stuck a.graph)) }
     ensures { let a = above_of reading in
         let read = whole a (first_stuck a.graph) in
-        MatchResult result (λ s. read ≡ Ok (schema_of s)) (λ e. IsRefusedBy e read) }
+        MatchResult result (λ s. read ≡ Ok (schema_of s)) (λ e. IsFaultOf e read) }
 {
     match reading.builder.finish() {
         Ok(graph) => Ok(Schema::new(alloc, graph, List::from_vec(reading.constraints))),
@@ -75,7 +75,7 @@ fn line_of(lines: &[u64], c: u16) -> u64
 #[tactic(auto, unfolding(crate::specs::Judging::schema_read))]
 pub fn read_schema(alloc: Global, text: &[u8]) -> Result<Schema, Refusal<Fault<SchemaKind>>>
     ensures { MatchResult result (λ s. schema_read text.now ≡ Ok (schema_of s))
-        (λ e. IsRefusedBy e (schema_read text.now)) }
+        (λ e. IsFaultOf e (schema_read text.now)) }
 {
     match begin(alloc) {
         Ok(started) => read_from(alloc, started, text),
@@ -91,7 +91,7 @@ fn read_from(
 ) -> Result<Schema, Refusal<Fault<SchemaKind>>>
     requires { GivesReadable (text_ended (lines_on (Ok (above_of started)) 0 (lines_of text.now))) }
     ensures { let read = text_ended (lines_on (Ok (above_of started)) 0 (lines_of text.now)) in
-        MatchResult result (λ s. read ≡ Ok (schema_of s)) (λ e. IsRefusedBy e read) }
+        MatchResult result (λ s. read ≡ Ok (schema_of s)) (λ e. IsFaultOf e read) }
 {
     let mut reading = started;
     match read_lines(alloc, &mut reading, text) {

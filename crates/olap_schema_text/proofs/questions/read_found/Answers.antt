@@ -8,5 +8,5 @@ use Rattle.olap_schema_text.proofs.questions.read_found.Goals as goal
 pub returns-then-found : goal.returns-then-found
 returns-then-found c = λ ts begins.
     no_question (schema_of c.args.schema.now) c.args.root.0 (kept_of c.args.found.now) ts
-    c.long_form_fault.result begins c.if-found.true c.requires.room
+    _ begins c.if-found.true c.requires.room
     (λ us behind long. c.long_form_fault.ensures version.Two us behind long)
