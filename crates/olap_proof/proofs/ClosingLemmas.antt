@@ -26,6 +26,7 @@ use Rattle.olap_trail.specs.Decisions.{Decision, HoldsCycle, HoldsShortcut, pres
 use Rattle.olap_proof.specs.declared.forms.Form.{Form}
 use Rattle.olap_proof.specs.declared.forms.Form.TheVariants.{Long, Short}
 use Rattle.olap_proof.specs.FullPlaces.{FullPlacesClose, IsFull}
+use Rattle.olap_proof.proofs.CycleLemmas.{cyclic_is, shortened_is}
 use Rattle.olap_proof.proofs.LineLemmas.{edge_there}
 use Rattle.olap_proof.proofs.AgreeingLemmas.{wider}
 use Rattle.std.proofs.lemmas.Bool.{ne_eqb}
@@ -256,8 +257,8 @@ module _ (m : Form) (s : Schema) (q : Formula) (k : Candidates) (hier : IsHierar
       go : Dec (HoldsCycle (present_graph p.decided)) → Dec (HoldsShortcut (present_graph p.decided))
           → Dec ((c : ℕ) × Contains (range_with_len 0 (category_count s.graph)) c × IsDead s.graph p c)
           → Dec ((e : ℕ) × Contains (range_with_len 0 (length s.graph.edges)) e × IsLoose s.graph p e) → Answer
-      go (yes h) b c d = inl (Cycle, tt, h)
-      go (no a) (yes h) c d = inl (Shortcut, tt, h)
+      go (yes h) b c d = inl (Cycle, tt, (cyclic_is (present_graph p.decided)).0 h)
+      go (no a) (yes h) c d = inl (Shortcut, tt, (shortened_is (present_graph p.decided)).0 h)
       go (no a) (no b) (yes w) d = inl (Dead w.0, Contains-from_range (category_count s.graph) w.0 w.1, w.2)
       go (no a) (no b) (no c) (yes w) =
           inl (by_loose m w.0 (Contains-from_range (length s.graph.edges) w.0 w.1) w.2)

@@ -27,6 +27,7 @@ use Rattle.olap_proof.specs.Certificates.{Open, Open.At, Open.Bottom, Open.Head,
 use Rattle.olap_proof.specs.Doing.{Does, leaves_open}
 use Rattle.olap_proof.specs.Lines.{IsAbout, IsClash, IsDead, IsLoose, IsNoStep, IsUnmet, IsUnmetAt, IsUnreached, Line, Line.Asked, Line.Clash, Line.Cycle, Line.Dead, Line.EdgeOrNot, Line.Loose, Line.NameOf, Line.Shortcut, Line.Unmet, Line.Unreached, Line.WayOrNot, line_text}
 use Rattle.olap_proof.specs.Places.{Place, index_of, is_known, knowledge, leads, possible_graph, truth_of_reach, way_of}
+use Rattle.olap_proof.proofs.CycleLemmas.{cyclic_is, shortened_is}
 use Rattle.olap_proof.proofs.DoingLemmas.{does_step, step_does}
 use Rattle.olap_proof.proofs.StepLemmas.{step_bottom, step_head}
 use Rattle.olap_trail.specs.Decisions.{HoldsCycle, HoldsShortcut, present_graph, status_of}
@@ -162,8 +163,9 @@ dec_does f s q k p (EdgeOrNot e) = dec_unsaid (status_of p.decided e)
 dec_does f s q k p (NameOf c) = dec_and (dec_not (ℕ_discrete c 0)) (dec_unsaid (index_of p.namings c))
 dec_does f s q k p (WayOrNot a b) = dec_and (dec_form f Short) (dec_unsaid (way_of p.ways a b))
 dec_does f s q k p (Dead c) = dec_dead s.graph p c
-dec_does f s q k p Cycle = dec_cycle (present_graph p.decided)
-dec_does f s q k p Shortcut = dec_shortcut (present_graph p.decided)
+dec_does f s q k p Cycle = let g = present_graph p.decided in dec_iff (cyclic_is g).0 (cyclic_is g).1 (dec_cycle g)
+dec_does f s q k p Shortcut =
+    let g = present_graph p.decided in dec_iff (shortened_is g).0 (shortened_is g).1 (dec_shortcut g)
 dec_does f s q k p (Loose e) = dec_and (dec_form f Long) (dec_loose s.graph p e)
 dec_does f s q k p (Unreached c) = dec_and (dec_form f Short) (dec_unreached f p c)
 dec_does f s q k p (Clash a b) = dec_and (dec_form f Short) (dec_clash f s.graph p a b)

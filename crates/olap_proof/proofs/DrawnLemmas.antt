@@ -15,7 +15,9 @@ use Rattle.olap_trail.specs.Decisions.{Decided, Decision, HoldsCycle, HoldsShort
 use Rattle.olap_trail.specs.Trails.{decision_of, decisions_of}
 use Rattle.olap_trail.specs.declared.decisions.Decision.{Decision as OneDecision}
 use Rattle.olap_proof.specs.Seen.{decision_at}
+use Rattle.olap_proof.specs.Lines.{IsCyclic, IsShortened}
 use Rattle.olap_proof.proofs.AgreeingLemmas.{wider_climb}
+use Rattle.olap_proof.proofs.CycleLemmas.{cyclic_is, shortened_is}
 use Rattle.olap_proof.proofs.SeenLemmas.{alone}
 
 -- a decision that says present draws its edge
@@ -44,10 +46,17 @@ still : (t : Decided) (e : ℕ) (x y : ℕ) → HasEdge (present_graph t) x y �
 still t e x y i =
     Contains-append_left (present_edges t) (edge_at t.graph e ∷ []) (record { child = x; parent = y }) i
 
+-- a cycle of some edges is one of more
+wider_cycle : (g j : Graph) → ((x y : ℕ) → HasEdge g x y → HasEdge j x y) → HoldsCycle g → HoldsCycle j
+wider_cycle g j more c = (c.0, wider_climb more c.1)
+
 -- with one of them once more they hold no other cycle
 pub same_cycle : (t : Decided) (e : ℕ) → Contains (present_edges t) (edge_at t.graph e)
-    → HoldsCycle (present_with t e) ↔ HoldsCycle (present_graph t)
-same_cycle t e h = (λ c. (c.0, wider_climb (again t e h) c.1), λ c. (c.0, wider_climb (still t e) c.1))
+    → HoldsCycle (present_with t e) ↔ IsCyclic (present_graph t)
+same_cycle t e h = (
+  λ c. (cyclic_is (present_graph t)).0 (wider_cycle (present_with t e) (present_graph t) (again t e h) c),
+  λ c. wider_cycle (present_graph t) (present_with t e) (still t e) ((cyclic_is (present_graph t)).1 c),
+)
 
 -- a shortcut of some edges is one of more
 wider_shortcut : (g j : Graph) → ((x y : ℕ) → HasEdge g x y → HasEdge j x y) → HoldsShortcut g → HoldsShortcut j
@@ -62,19 +71,19 @@ wider_shortcut g j more s = record {
 
 -- and no other shortcut
 pub same_shortcut : (t : Decided) (e : ℕ) → Contains (present_edges t) (edge_at t.graph e)
-    → HoldsShortcut (present_with t e) ↔ HoldsShortcut (present_graph t)
+    → HoldsShortcut (present_with t e) ↔ IsShortened (present_graph t)
 same_shortcut t e h = (
-  wider_shortcut (present_with t e) (present_graph t) (again t e h),
-  wider_shortcut (present_graph t) (present_with t e) (still t e),
+  λ s. (shortened_is (present_graph t)).0 (wider_shortcut (present_with t e) (present_graph t) (again t e h) s),
+  λ s. wider_shortcut (present_graph t) (present_with t e) (still t e) ((shortened_is (present_graph t)).1 s),
 )
 
 -- where there is none, there is no cycle
-pub no_cycle : (g : Graph) → ((c d : ℕ) → HasEdge g c d → ⊥) → HoldsCycle g → ⊥
-no_cycle g none c = go c.1
+pub no_cycle : (g : Graph) → ((c d : ℕ) → HasEdge g c d → ⊥) → IsCyclic g → ⊥
+no_cycle g none c = go ((cyclic_is g).1 c).1
   where
     go : {a b : ℕ} → Climb (HasEdge g) a b → ⊥
     go {a} (climb {z = z} r s) = none a z r
 
 -- and no shortcut
-pub no_shortcut : (g : Graph) → ((c d : ℕ) → HasEdge g c d → ⊥) → HoldsShortcut g → ⊥
-no_shortcut g none s = none s.child s.parent s.edge
+pub no_shortcut : (g : Graph) → ((c d : ℕ) → HasEdge g c d → ⊥) → IsShortened g → ⊥
+no_shortcut g none s = none s.0 s.1 s.3

@@ -11,6 +11,7 @@ mod SeenLemmas
 mod DrawingLemmas
 mod TouchingLemmas
 mod TellingLemmas
+mod CycleLemmas
 mod DrawnLemmas
 mod EdgesOutLemmas
 mod UnmetLemmas

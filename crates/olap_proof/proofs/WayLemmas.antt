@@ -39,6 +39,7 @@ use Rattle.olap_proof.specs.declared.forms.Form.TheVariants.{Long, Short}
 use Rattle.olap_proof.specs.Places.{Naming, Place, Way, edge_of_way, is_known, is_top, knowledge, leading_edges, leading_graph, leads, name_of, possible_graph, truth_of_name, truth_of_reach, truth_of_way, way_of}
 use Rattle.olap_proof.specs.Lines.{Closes, IsClash, IsDead, IsLoose, IsUnmet, IsUnmetAt, IsUnreached, Line, Line.Asked, Line.Clash, Line.Cycle, Line.Dead, Line.EdgeOrNot, Line.Loose, Line.NameOf, Line.Shortcut, Line.Unmet, Line.Unreached, Line.WayOrNot}
 use Rattle.olap_proof.proofs.AgreeingLemmas as agreeing
+use Rattle.olap_proof.proofs.CycleLemmas.{cyclic_is, shortened_is}
 use Rattle.olap_proof.proofs.AgreeingLemmas.{Like, edge_from, edges_in, wider, wider_climb}
 
 -- the decision that tells of a way
@@ -360,8 +361,8 @@ module _ (form : Form) (s : Schema) (q : Formula) (r : ℕ) (k : Candidates) (f 
   closed_none (NameOf c) h = h
   closed_none (WayOrNot a b) h = h
   closed_none (Dead c) h = dead_none c h
-  closed_none Cycle h = cycle_none h
-  closed_none Shortcut h = shortcut_none h
+  closed_none Cycle h = cycle_none ((cyclic_is (present_graph t)).1 h)
+  closed_none Shortcut h = shortcut_none ((shortened_is (present_graph t)).1 h)
   closed_none (Loose e) h = loose_none e h.1
   closed_none (Unreached c) h = unreached_none c h.1
   closed_none (Clash a b) h = clash_none a b h.1

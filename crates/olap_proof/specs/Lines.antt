@@ -6,14 +6,15 @@
 use Rattle.std.specs.Prelude.{◌≡◌, ◌≢◌, ◌<◌, ◌⊎◌, ◌++◌, ℕ, suc, List, ◌∷◌, All, true, false, MatchOption, Some, IsTrue, codes, length, slice_get}
 use Rattle.std.specs.Fmt.{decimal}
 use Rattle.olap_base.specs.Bytes.{space}
-use Rattle.olap_base.specs.Graph.{CategoryReaches, Graph, IsCategory}
+use Rattle.olap_base.specs.Chains.{Leads}
+use Rattle.olap_base.specs.Graph.{CategoryReaches, Graph, HasEdge, IsCategory}
 use Rattle.olap_ast.specs.Formula.{Formula}
 use Rattle.olap_ast.specs.Frozen.{Candidates}
 use Rattle.olap_ast.specs.Schema.{Constraint, Schema}
 use Rattle.olap_ast.specs.declared.three_values.Truth3.TheVariants.{No}
 use Rattle.olap_eval.specs.Partial.{value_at}
 use Rattle.olap_graph.specs.Lookups.{edge_at, edges_from, name_of_category}
-use Rattle.olap_trail.specs.Decisions.{HoldsCycle, HoldsShortcut, present_graph, status_of}
+use Rattle.olap_trail.specs.Decisions.{present_graph, status_of}
 use Rattle.olap_proof.specs.declared.forms.Form.{Form}
 use Rattle.olap_proof.specs.declared.forms.Form.TheVariants.{Long, Short}
 use Rattle.olap_proof.specs.Places.{Place, is_known, knowledge, leads, possible_graph, truth_of_reach, way_of}
@@ -74,6 +75,14 @@ IsAbout s l = Unit {0}
 
 -- ---- the reasons
 
+-- a walk of edges leads back to where it began
+abbrev pub IsCyclic : Graph → Type 0
+IsCyclic g = (c : ℕ) × Leads (HasEdge g) c c
+
+-- an edge, and a walk of two edges or more between the same categories
+abbrev pub IsShortened : Graph → Type 0
+IsShortened g = (a b c : ℕ) × HasEdge g a b × HasEdge g a c × Leads (HasEdge g) c b
+
 -- c has a member, and all edges out of c are absent
 abbrev pub IsDead : Graph → Place → ℕ → Type 0
 IsDead g p c = (c ≢ 0) × IsTrue (is_known p c) × All (λ e. status_of p.decided e ≡ Some false) (edges_from g c)
@@ -108,8 +117,8 @@ IsUnmetAt f cs n k p = MatchOption (slice_get cs n) ⊥ (IsUnmet f k p)
 -- no frozen dimension for the question has what is decided, for the reason that the line says
 abbrev pub Closes : Form → Schema → Formula → Candidates → Place → Line → Type 0
 Closes f s q k p (Dead c) = IsDead s.graph p c
-Closes f s q k p Cycle = HoldsCycle (present_graph p.decided)
-Closes f s q k p Shortcut = HoldsShortcut (present_graph p.decided)
+Closes f s q k p Cycle = IsCyclic (present_graph p.decided)
+Closes f s q k p Shortcut = IsShortened (present_graph p.decided)
 Closes f s q k p (Loose e) = (f ≡ Long) × IsLoose s.graph p e
 Closes f s q k p (Unreached c) = (f ≡ Short) × IsUnreached f p c
 Closes f s q k p (Clash a b) = (f ≡ Short) × IsClash f s.graph p a b

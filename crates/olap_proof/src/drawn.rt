@@ -2,8 +2,9 @@
 ghost use Rattle.std.specs.Prelude.{◌≡◌, ◌<◌, ◌↔◌, ℕ, Contains, IfSome, IsNone, IsTrue, length, true};
 ghost use Rattle.olap_base.specs.Graph.{HasEdge};
 ghost use Rattle.olap_graph.specs.Lookups.{edge_at};
+ghost use Rattle.olap_proof.specs.Lines.{IsCyclic, IsShortened};
 ghost use Rattle.olap_proof.specs.Seen.{decision_at};
-ghost use Rattle.olap_trail.specs.Decisions.{HoldsCycle, HoldsShortcut, present_edges, present_graph};
+ghost use Rattle.olap_trail.specs.Decisions.{present_edges, present_graph};
 
 use crate::places::Place;
 use olap_base::EdgeId;
@@ -37,7 +38,7 @@ fn present_edge(place: &Place) -> Option<EdgeId>
 
 /// Whether they hold a cycle.
 pub(crate) fn is_cyclic(place: &Place) -> bool
-    ensures { IsTrue result ↔ HoldsCycle (present_graph place.now.decided) }
+    ensures { IsTrue result ↔ IsCyclic (present_graph place.now.decided) }
 {
     match present_edge(place) {
         Some(edge) => place.closes_cycle(edge),
@@ -47,7 +48,7 @@ pub(crate) fn is_cyclic(place: &Place) -> bool
 
 /// Whether they hold a shortcut.
 pub(crate) fn is_shortened(place: &Place) -> bool
-    ensures { IsTrue result ↔ HoldsShortcut (present_graph place.now.decided) }
+    ensures { IsTrue result ↔ IsShortened (present_graph place.now.decided) }
 {
     match present_edge(place) {
         Some(edge) => place.makes_shortcut(edge),
