@@ -38,6 +38,7 @@ NEVER = [
 ]
 # Where a list is full: the files that say so, of a list that they hold, and how often.
 FULL = {
+    "olap_draft/src/searches.rt": 1,  # of the steps of a search
     "olap_draft/src/trees.rt": 1,
     "olap_encoding/src/encoders.rt": 1,
     "olap_encoding/src/starting.rt": 1,

@@ -529,7 +529,8 @@ class Page:
             return told or el("p", "None: no answer was yes.")
         intro = el("p", "Why each yes is right, line by line: in each, a case is split by what may be, or closed for a reason. ",
                    el("code", "docs/CERTIFICATES.md"), " says what the lines mean. Whoever doubts one puts it into a file and "
-                   "asks ", el("code", "olap verify-short SCHEMA FILE TARGET SOURCE.."), ", or without the program ",
+                   "asks ", el("code", "olap verify-short SCHEMA FILE TARGET SOURCE.."), ", or ", el("code", "verify"),
+                   " of one that begins with ", el("code", "certificate 1"), ", or without the program ",
                    el("code", "tools/check-certificate SCHEMA FILE TARGET SOURCE.."), ".")
         by_target = defaultdict(list)
         for target, sources in known:
@@ -540,7 +541,8 @@ class Page:
 
     def certificate(self, target: str, sources: tuple[str, ...]) -> Markup:
         lines = self.facts.certificates[target, sources].splitlines()
-        words = el("code", " ".join(["olap prove-short SCHEMA", target, *sources]))
+        command = "prove-short" if lines[0].startswith("short") else "prove"
+        words = el("code", " ".join([f"olap {command} SCHEMA", target, *sources]))
         more = len(lines) - MOST_REASONS
         return el(
             "details",

@@ -48,7 +48,7 @@ class Facts:
     always: dict[tuple[str, str], bool] = field(default_factory=dict)  # does each member of the child take the edge?
     enough: dict[str, Enough] = field(default_factory=dict)
     answers: dict[tuple[str, tuple[str, ...]], texts.Counterexample | None] = field(default_factory=dict)
-    certificates: dict[tuple[str, tuple[str, ...]], str] = field(default_factory=dict)  # of yes's, in the short form
+    certificates: dict[tuple[str, tuple[str, ...]], str] = field(default_factory=dict)  # of yes's, in the form that is shorter
     after: dict[tuple[str, tuple[str, ...]], list[str]] = field(default_factory=dict)  # of no's, what after-no says
     asks_pairs: bool = True
 
@@ -224,7 +224,17 @@ def facts_of(program: Program, progress: Progress, most_for_pairs: int, seconds:
 
     def certificate(question: tuple[str, tuple[str, ...]], left: float) -> str:
         target, sources = question
-        return program.must("prove-short", SCHEMA, target, *sources, seconds=left).text
+        end = time.monotonic() + left
+        written = []
+        for command in ("prove-short", "prove"):
+            try:
+                answer = program.must(command, SCHEMA, target, *sources, ends=(0, 6), seconds=max(0, end - time.monotonic()))
+            except Late:
+                break
+            written += [answer.text] if answer.status == 0 else []
+        if not written:
+            raise Late
+        return min(written, key=lambda text: text.count("\n"))
 
     def shown(target: str, sources: tuple[str, ...]) -> texts.Counterexample | None:
         key = (target, sources)

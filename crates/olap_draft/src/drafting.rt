@@ -1,4 +1,5 @@
 // A draft of a certificate, by a search of which nothing is promised.
+use crate::order::Order;
 use crate::searches::Search;
 use crate::steps::Words;
 use crate::tasks::{Asked, Task};
@@ -10,30 +11,29 @@ use olap_proof::{Form, push_bottom, push_head};
 use olap_schema::Schema;
 use std::alloc::Global;
 
-/// How often a decision may be tried below a root.
-const TRIES: u32 = 1 << 20;
-
-/// Appends the tree of a bottom category.
+/// Appends the tree of a bottom category, after so much work on others.
 fn push_below(
     alloc: Global,
     asked: &Asked,
     root: CatId,
+    work: &mut Vec<()>,
     out: &mut Vec<u8>,
 ) -> Result<(), Refusal<GivenUp>> {
     let task = Task::new(alloc, asked, root)?;
-    let mut search = Search::new(alloc, &task, TRIES);
-    search.push_tree(asked.constraints, out)
+    let mut search = Search::new(alloc, &task);
+    search.push_tree(asked.constraints, work, out)
 }
 
 /// Appends a draft: a tree for each bottom category.
 fn push_draft(alloc: Global, asked: &Asked, out: &mut Vec<u8>) -> Result<(), Refusal<GivenUp>> {
     let graph = asked.words.graph;
+    let mut work = Vec::new(alloc);
     push_head(out, asked.form)?;
     'categories: for b in 1..graph.categories() {
         let root = CatId(b);
         if graph.is_bottom(root) {
             push_bottom(out, graph, root)?;
-            push_below(alloc, asked, root, out)?;
+            push_below(alloc, asked, root, &mut work, out)?;
         }
     }
     Ok(())
@@ -49,8 +49,9 @@ fn draft_of(alloc: Global, asked: &Asked) -> Result<Vec<u8>, Refusal<GivenUp>> {
 /// A text that may be a certificate of that form, of why the target is summarizable from the sources: a tree for each
 /// bottom category.
 ///
-/// `GivenUp`: for some bottom category no tree was found with a million tries, or it has more than four million lines;
-/// it may be that there is none. `Memory`: out of memory, or the text is longer than a certificate's file may be.
+/// `GivenUp`: for some bottom category no tree was found, or it has more than four million lines; it may be that there
+/// is none. `Memory`: out of memory, or the text is longer than a certificate's file may be, or the search has taken more
+/// than `MOST_WORK` steps, over all bottom categories, and found no tree.
 pub fn draft<'a>(
     alloc: Global,
     schema: &'a Schema,
@@ -62,12 +63,14 @@ pub fn draft<'a>(
     let constraints = schema.constraints();
     // The question of summarizability has no constants.
     let candidates = Candidates::of(alloc, graph, constraints, &Formula::True)?;
+    let order = Order::of(alloc, graph)?;
     let words = Words {
         graph,
         candidates: &candidates,
     };
     let asked = Asked {
         words,
+        order: &order,
         constraints,
         form,
         target,

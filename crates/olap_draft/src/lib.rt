@@ -7,6 +7,7 @@
 mod activities;
 mod decided;
 mod drafting;
+mod order;
 mod rows;
 mod searches;
 mod shapes;

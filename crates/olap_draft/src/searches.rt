@@ -3,12 +3,12 @@
 use crate::activities::Activities;
 use crate::decided::Decision;
 use crate::rows::with;
-use crate::shapes::Shape;
+use crate::shapes::{MOST_WORK, Shape};
 use crate::steps::Step;
 use crate::tasks::{Task, Variable};
 use crate::trees::{GivenUp, Trees};
 use olap_ast::{Constraint, Truth3};
-use olap_base::Refusal;
+use olap_base::{Memory, Refusal};
 use olap_graph::Categories;
 use olap_proof::Line;
 use std::alloc::{AllocError, Global};
@@ -33,8 +33,6 @@ pub(crate) struct Search<'a> {
     needed: Vec<usize>,
     /// The reason of a tree to which a leaf is added.
     above: Vec<usize>,
-    /// How often a decision may still be tried.
-    left: u32,
     alloc: Global,
 }
 
@@ -77,8 +75,8 @@ fn named_in(steps: &[Step]) -> Categories {
 }
 
 impl<'a> Search<'a> {
-    /// A search with so many tries, without room yet.
-    pub(crate) fn new(alloc: Global, task: &'a Task<'a>, tries: u32) -> Search<'a> {
+    /// A search, without room yet.
+    pub(crate) fn new(alloc: Global, task: &'a Task<'a>) -> Search<'a> {
         Search {
             task,
             shape: Shape::new(alloc, task.root),
@@ -87,13 +85,31 @@ impl<'a> Search<'a> {
             reason: Vec::new(alloc),
             needed: Vec::new(alloc),
             above: Vec::new(alloc),
-            left: tries,
             alloc,
         }
     }
 
-    /// Takes room, and appends the lines of the tree that it finds below the root.
+    /// Appends the lines of the tree that it finds below the root, after so much work on others. `Memory` also if it finds
+    /// none, and the work is more than it may be.
     pub(crate) fn push_tree(
+        &mut self,
+        constraints: &[Constraint],
+        work: &mut Vec<()>,
+        out: &mut Vec<u8>,
+    ) -> Result<(), Refusal<GivenUp>> {
+        swap(&mut self.shape.work, work);
+        let pushed = self.push_found(constraints, out);
+        swap(&mut self.shape.work, work);
+        match pushed {
+            Err(Refusal::Kind(_)) if work.len() > MOST_WORK => {
+                Err(Refusal::Memory(Memory::full(work)))
+            }
+            pushed => pushed,
+        }
+    }
+
+    /// Takes room, and appends the lines of the tree that it finds.
+    fn push_found(
         &mut self,
         constraints: &[Constraint],
         out: &mut Vec<u8>,
@@ -101,7 +117,7 @@ impl<'a> Search<'a> {
         let task = self.task;
         self.activities.resize(task.choices.len())?;
         self.shape.reserve(task)?;
-        self.shape.refresh(task);
+        self.shape.freshen(task, None);
         let tree = self.refute(task.choices.len())?;
         self.trees.push_lines(task.graph, constraints, tree, out)
     }
@@ -121,13 +137,13 @@ impl<'a> Search<'a> {
             }
             size = size.clamp(1, end);
             let from = end - size;
-            self.shape.decided.set_between(task, from, end, false);
-            self.shape.refresh(task);
+            self.shape.set_between(task, from, end, false);
+            self.shape.freshen(task, Some(line));
             if self.shape.closes(task, line) {
                 end = from;
                 size = size.wrapping_add(size);
             } else {
-                self.shape.decided.set_between(task, from, end, true);
+                self.shape.set_between(task, from, end, true);
                 if size == 1 {
                     end = from;
                     self.needed.push(self.shape.decided.decision(end).variable)?;
@@ -137,8 +153,8 @@ impl<'a> Search<'a> {
                 }
             }
         }
-        self.shape.decided.set_between(task, 0, count, true);
-        self.shape.refresh(task);
+        self.shape.set_between(task, 0, count, true);
+        self.shape.freshen(task, None);
         Ok(())
     }
 
@@ -166,15 +182,14 @@ impl<'a> Search<'a> {
 
     // ---- what closes at once
 
-    /// Whether some line closes once the variable has the value. It is tried, unless there were too many tries.
+    /// Whether some line closes once the variable has the value. It is tried, unless the work is more than it may be.
     fn closes_at_once(&mut self, variable: usize, value: usize) -> bool {
         if let Some((c, d)) = self.task.unasked_way(variable) {
             return self.shape.clashes(self.task, c, d, value == 1);
         }
-        if self.left == 0 {
+        if self.shape.is_spent() {
             return false;
         }
-        self.left -= 1;
         self.shape
             .closes_after(self.task, Decision { variable, value })
     }
@@ -198,16 +213,17 @@ impl<'a> Search<'a> {
         let task = self.task;
         let mut more = false;
         let mut is_after_way = false;
+        self.shape.spend(task.choices.len());
         'choices: for place in 0..task.choices.len() {
             let is_way = matches!(task.variable(place), Variable::Way(_, _));
             if is_after_way && !is_way {
                 return true;
             }
             if let Some(decision) = self.failing(place) {
-                self.shape.decide(task, decision.other());
+                let touched = self.shape.decide(task, decision.other());
                 more = true;
                 is_after_way = is_way;
-                if self.shape.is_closed(task) {
+                if self.shape.closes_near(task, &touched) {
                     return true;
                 }
             }
@@ -279,6 +295,7 @@ impl<'a> Search<'a> {
     /// The variable to split by: the most active, of these one above what is known, of these the first.
     fn pick(&mut self) -> Option<usize> {
         let wanted = self.wanted_names();
+        self.shape.spend(self.task.choices.len());
         let mut best = None;
         let mut most = 0;
         let mut is_above = false;
@@ -299,7 +316,7 @@ impl<'a> Search<'a> {
     /// A tree that splits by a variable, or that of a case which doesn't need it.
     #[cycle(refuting)]
     fn split(&mut self, depth: usize) -> Result<usize, Refusal<GivenUp>> {
-        if depth == 0 || self.left == 0 {
+        if depth == 0 || self.shape.is_spent() {
             return Err(Refusal::Kind(GivenUp));
         }
         match self.pick() {
@@ -325,7 +342,7 @@ impl<'a> Search<'a> {
         let task = self.task;
         let length = self.shape.decided.count();
         'values: for value in 0..task.values(variable) {
-            self.shape.decide(task, Decision { variable, value });
+            let _touched = self.shape.decide(task, Decision { variable, value });
             let tree = self.refute(depth)?;
             self.shape.back_to(task, length);
             if !has(&self.reason, variable) {
@@ -369,7 +386,7 @@ impl<'a> Search<'a> {
     fn split_off(&mut self, decision: Decision, tree: usize) -> Result<usize, Refusal<GivenUp>> {
         let variable = decision.variable;
         swap(&mut self.reason, &mut self.above);
-        self.shape.decide(self.task, decision);
+        let _touched = self.shape.decide(self.task, decision);
         let leaf = self.leaf()?;
         self.activities.raise(&self.reason);
         self.needed.clear();

@@ -1,13 +1,23 @@
 // Shapes of which some edges, names and ways are decided, in tables.
 use crate::decided::{Decided, Decision};
-use crate::rows::{Rows, reaches};
+use crate::rows::{Drawing, Rows, meet, reaches, with};
 use crate::steps::{Stack, Step};
 use crate::tasks::{Task, Variable};
 use olap_ast::Truth3;
 use olap_base::{CatId, EdgeId};
-use olap_graph::Graph;
+use olap_graph::{Categories, Graph};
 use olap_proof::{Form, Line};
 use std::alloc::{AllocError, Global};
+
+/// How many steps a search may take, over all bottom categories. A step is a look at a line, an edge or a part of a formula.
+pub(crate) const MOST_WORK: usize = 1 << 26;
+
+/// What a decision has changed: categories of which something is known that wasn't, and whether an edge is present.
+#[derive(Clone, Copy)]
+pub(crate) struct Touched {
+    categories: Categories,
+    draws: bool,
+}
 
 /// What is decided, and what is then known.
 #[derive(Drop)]
@@ -15,8 +25,11 @@ pub(crate) struct Shape {
     root: CatId,
     pub(crate) decided: Decided,
     rows: Rows,
-    kept: Rows,
+    /// Whether what is known must be read off anew.
+    is_stale: bool,
     stack: Stack,
+    /// The steps that were taken, one item each: so a list of them may be full, as another may.
+    pub(crate) work: Vec<()>,
 }
 
 impl Shape {
@@ -26,8 +39,9 @@ impl Shape {
             root,
             decided: Decided::new(alloc),
             rows: Rows::new(alloc),
-            kept: Rows::new(alloc),
+            is_stale: true,
             stack: Stack::new(alloc),
+            work: Vec::new(alloc),
         }
     }
 
@@ -36,8 +50,19 @@ impl Shape {
         let categories = usize::from(task.graph.categories());
         self.stack.reserve(task.most_steps())?;
         self.rows.resize(categories)?;
-        self.kept.resize(categories)?;
         self.decided.reserve(task)
+    }
+
+    /// So many steps more.
+    pub(crate) fn spend(&mut self, steps: usize) {
+        let count = self.work.len().wrapping_add(steps);
+        // Items without a size take no room, so they aren't refused.
+        let _resized = self.work.resize(count, ());
+    }
+
+    /// Whether the work is more than it may be.
+    pub(crate) fn is_spent(&self) -> bool {
+        self.work.len() > MOST_WORK
     }
 
     /// The variable of the decision at a place.
@@ -47,23 +72,46 @@ impl Shape {
 
     // ---- what is known
 
-    /// Reads what is known off the decisions.
-    pub(crate) fn refresh(&mut self, task: &Task<'_>) {
-        let graph = task.graph;
-        self.rows.begin(self.root);
-        self.rows.read_open(graph, &self.decided);
-        'edges: for e in 0..graph.edges() {
-            if self.decided.edge(EdgeId(e)) == Some(true) {
-                let (child, parent) = graph.ends(EdgeId(e));
-                self.rows.draw(child, parent);
-            }
+    /// Reads what is known off the decisions, if they have changed: all of it, or what a line asks.
+    pub(crate) fn freshen(&mut self, task: &Task<'_>, line: Option<Line>) {
+        if !self.is_stale {
+            return;
         }
+        let drawing = Drawing {
+            task,
+            decided: &self.decided,
+        };
+        let (asks_drawn, asks_led, asks_open) = match line {
+            Some(Line::Dead(_)) => (false, false, false),
+            Some(Line::Cycle | Line::Shortcut) => (true, false, false),
+            Some(Line::LooseEdge(_)) => (false, false, true),
+            Some(_) => (false, true, true),
+            None => (true, true, true),
+        };
+        self.is_stale = line.is_some();
+        self.rows.read_known(&drawing, self.root);
+        if asks_drawn {
+            self.rows.read_drawn(&drawing);
+        }
+        if asks_led {
+            self.rows.read_led(&drawing);
+        }
+        if asks_open {
+            self.rows.read_open(&drawing);
+        }
+        self.spend(task.size());
         if task.form == Form::Short {
-            'decisions: for i in 0..self.decided.count() {
-                if let Variable::Way(c, d) = self.variable(task, i) {
-                    if self.decided.way(c, d) == Some(true) {
-                        self.rows.lead(c, d);
-                    }
+            self.read_ways(task);
+        }
+    }
+
+    /// Adds the ways that were decided to what is known.
+    fn read_ways(&mut self, task: &Task<'_>) {
+        'decisions: for i in 0..self.decided.count() {
+            if let Variable::Way(c, d) = self.variable(task, i) {
+                if self.decided.way(c, d) == Some(true) {
+                    self.spend(task.size() / 4);
+                    self.rows.lead(task, c, d);
                 }
             }
         }
@@ -115,6 +163,7 @@ impl Shape {
     /// The value of a formula's steps.
     pub(crate) fn value(&mut self, form: Form, steps: &[Step]) -> Truth3 {
         self.stack.clear();
+        self.spend(steps.len() / 2);
         'steps: for i in 0..steps.len() {
             let value = match steps[i] {
                 Step::Known(value) => value,
@@ -135,41 +184,73 @@ impl Shape {
 
     // ---- decisions
 
-    /// One decision more.
-    pub(crate) fn decide(&mut self, task: &Task<'_>, decision: Decision) {
+    /// One decision more. The categories of which something is known then that wasn't.
+    pub(crate) fn decide(&mut self, task: &Task<'_>, decision: Decision) -> Touched {
         self.decided.push(task, decision);
-        match task.variable(decision.variable) {
+        self.rows.keep();
+        let mut draws = false;
+        let c = match task.variable(decision.variable) {
             Variable::Edge(e) => {
-                if decision.value == 0 {
-                    self.rows.read_open(task.graph, &self.decided);
-                } else if e.0 < task.graph.edges() {
-                    let (child, parent) = task.graph.ends(e);
-                    self.rows.draw(child, parent);
+                let (child, parent) = task.ends(e);
+                self.spend(task.size() / 2);
+                if decision.value == 1 {
+                    draws = true;
+                    self.rows.add_edge(task, child, parent);
+                } else {
+                    let drawing = Drawing {
+                        task,
+                        decided: &self.decided,
+                    };
+                    self.rows.drop_edge(&drawing, child);
                 }
+                child
             }
-            Variable::Name(_) => {}
+            Variable::Name(c) => c,
             Variable::Way(c, d) => {
                 if decision.value == 1 {
-                    self.rows.lead(c, d);
+                    self.spend(task.size() / 4);
+                    self.rows.add_way(task, c, d);
                 }
+                c
             }
+        };
+        Touched {
+            categories: with(self.rows.touched(), c),
+            draws,
         }
     }
 
-    /// Takes the decisions from a place of the trail on back. What is known is read off anew.
+    /// Whether some decision from one place of the trail up to another is on an edge or a way.
+    fn draws_between(&self, task: &Task<'_>, from: usize, to: usize) -> bool {
+        'decisions: for i in from..to {
+            if !matches!(self.variable(task, i), Variable::Name(_)) {
+                return true;
+            }
+        }
+        false
+    }
+
+    /// Gives the decisions from one place of the trail up to another their values, or takes these away.
+    pub(crate) fn set_between(&mut self, task: &Task<'_>, from: usize, to: usize, given: bool) {
+        self.decided.set_between(task, from, to, given);
+        self.is_stale |= self.draws_between(task, from, to);
+    }
+
+    /// Takes the decisions from a place of the trail on back.
     pub(crate) fn back_to(&mut self, task: &Task<'_>, length: usize) {
+        let count = self.decided.count();
+        self.is_stale |= self.draws_between(task, length, count);
         self.decided.truncate(task, length);
-        self.refresh(task);
+        self.freshen(task, None);
     }
 
     /// Whether some line closes after the decision, which is then taken back.
     pub(crate) fn closes_after(&mut self, task: &Task<'_>, decision: Decision) -> bool {
         let length = self.decided.count();
-        self.kept.copy(&self.rows);
-        self.decide(task, decision);
-        let is_closed = self.is_closed(task);
+        let touched = self.decide(task, decision);
+        let is_closed = self.closes_near(task, &touched);
         self.decided.truncate(task, length);
-        self.rows.copy(&self.kept);
+        self.rows.restore();
         is_closed
     }
 
@@ -236,6 +317,7 @@ impl Shape {
     /// Whether the line closes.
     pub(crate) fn closes(&mut self, task: &Task<'_>, line: Line) -> bool {
         let graph = task.graph;
+        self.spend(1);
         match line {
             Line::Constraint(n) => {
                 self.has(task.constraint_root(n))
@@ -243,7 +325,10 @@ impl Shape {
             }
             Line::Question => self.value(task.form, task.question()) == Truth3::No,
             Line::Dead(c) => c.0 != 0 && self.has(c) && self.has_no_step(task, c, None),
-            Line::Cycle | Line::Shortcut => self.some_edge(graph, line),
+            Line::Cycle | Line::Shortcut => {
+                self.spend(task.edges.len() / 4);
+                self.some_edge(task, line)
+            }
             Line::LooseEdge(e) => self.is_loose(graph, e),
             Line::LooseCategory(c) => {
                 c.0 != self.root.0
@@ -259,11 +344,12 @@ impl Shape {
     }
 
     /// Whether some present edge is on a cycle, or bypassed, as the line says.
-    fn some_edge(&self, graph: &Graph, line: Line) -> bool {
-        'edges: for e in 0..graph.edges() {
-            let edge = EdgeId(e);
+    fn some_edge(&self, task: &Task<'_>, line: Line) -> bool {
+        let graph = task.graph;
+        'edges: for i in 0..task.edges.len() {
+            let edge = task.edges[i];
             if self.decided.edge(edge) == Some(true) {
-                let (child, parent) = graph.ends(edge);
+                let (child, parent) = task.ends(edge);
                 let found = match line {
                     Line::Cycle => reaches(&self.rows.drawn, parent, child),
                     _ => self.is_bypassed(graph, edge),
@@ -303,6 +389,35 @@ impl Shape {
             }
         }
         None
+    }
+
+    /// Whether the line says something of these categories.
+    fn is_near(&self, task: &Task<'_>, line: Line, touched: &Touched) -> bool {
+        let categories = &touched.categories;
+        match line {
+            Line::Question => meet(categories, &task.question_scope()),
+            Line::Constraint(n) => meet(categories, &task.constraint_scope(n)),
+            Line::Cycle | Line::Shortcut => touched.draws,
+            Line::LooseEdge(e) => categories.has(task.ends(e).0.0) || categories.has(self.root.0),
+            Line::LooseCategory(c) => categories.has(c.0) || categories.has(self.root.0),
+            Line::Dead(c) => categories.has(c.0),
+            Line::Steps(c, _) => categories.has(c.0) || meet(categories, &task.parents(c)),
+            _ => false,
+        }
+    }
+
+    /// Whether some line closes that says something of these categories.
+    pub(crate) fn closes_near(&mut self, task: &Task<'_>, touched: &Touched) -> bool {
+        let ways = task.laws.len().wrapping_add(self.decided.count());
+        self.spend(ways / 8);
+        'lines: for place in 0..ways.wrapping_add(task.constraints()) {
+            if let Some(line) = self.tried(task, place) {
+                if self.is_near(task, line, touched) && self.closes(task, line) {
+                    return true;
+                }
+            }
+        }
+        false
     }
 
     /// Whether some line closes.

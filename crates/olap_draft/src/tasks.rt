@@ -1,8 +1,10 @@
 // Tasks of a draft: a root of a schema, formulas as steps, and what may be decided.
+use crate::order::Order;
+use crate::rows::with;
 use crate::steps::{Step, Words};
 use olap_ast::Constraint;
 use olap_base::{CatId, EdgeId, MOST_CATEGORIES};
-use olap_graph::Graph;
+use olap_graph::{Categories, Graph};
 use olap_proof::{Form, Line};
 use std::alloc::{AllocError, Global};
 
@@ -31,24 +33,27 @@ pub(crate) fn way_place(c: CatId, d: CatId) -> usize {
 #[derive(Clone, Copy)]
 pub(crate) struct Asked<'a> {
     pub(crate) words: Words<'a>,
+    pub(crate) order: &'a Order,
     pub(crate) constraints: &'a [Constraint],
     pub(crate) form: Form,
     pub(crate) target: CatId,
     pub(crate) sources: &'a [CatId],
 }
 
-/// A formula that holds at each member of its root, and where its steps stand.
+/// A formula that holds at each member of its root, where its steps stand, and of which categories it says something.
 #[derive(Clone, Copy)]
 struct Posed {
     root: CatId,
     first: usize,
     end: usize,
+    scope: Categories,
 }
 
 /// A root, formulas, and the variables that matter below it.
 #[derive(Drop)]
 pub(crate) struct Task<'a> {
     pub(crate) graph: &'a Graph,
+    pub(crate) order: &'a Order,
     pub(crate) form: Form,
     pub(crate) root: CatId,
     /// The steps of the constraints, one after another, and those of the question.
@@ -58,6 +63,12 @@ pub(crate) struct Task<'a> {
     /// The lines that are tried first, in their order.
     pub(crate) laws: Vec<Line>,
     pub(crate) choices: Vec<Choice>,
+    /// The categories that the root reaches, parents first, the same as a set, and the edges out of them.
+    pub(crate) below: Vec<CatId>,
+    pub(crate) all: Categories,
+    pub(crate) edges: Vec<EdgeId>,
+    /// The parents of each category.
+    parents: Vec<Categories>,
 }
 
 /// Whether the root reaches the category by edges of the graph, and the category is one of it.
@@ -107,6 +118,7 @@ impl<'a> Task<'a> {
     ) -> Result<Task<'a>, AllocError> {
         let mut task = Task {
             graph: asked.words.graph,
+            order: asked.order,
             form: asked.form,
             root,
             steps: Vec::new(alloc),
@@ -115,9 +127,14 @@ impl<'a> Task<'a> {
                 root,
                 first: 0,
                 end: 0,
+                scope: Categories::empty(),
             },
             laws: Vec::new(alloc),
             choices: Vec::new(alloc),
+            below: Vec::new(alloc),
+            all: Categories::empty(),
+            edges: Vec::new(alloc),
+            parents: Vec::new(alloc),
         };
         task.pose(alloc, asked)?;
         Ok(task)
@@ -125,12 +142,15 @@ impl<'a> Task<'a> {
 
     /// Adds the formulas, and then the lines that are tried first and what may be decided.
     fn pose(&mut self, alloc: Global, asked: &Asked<'a>) -> Result<(), AllocError> {
+        self.push_below()?;
         'constraints: for constraint in asked.constraints {
             self.push_constraint(&asked.words, constraint)?;
         }
         self.question.first = self.steps.len();
         push_question(self.root, asked.target, asked.sources, &mut self.steps)?;
         self.question.end = self.steps.len();
+        self.question.scope = self.scope_of(self.root, self.question());
+        self.push_parents()?;
         self.push_laws()?;
         self.push_ways(alloc)?;
         self.push_edges()?;
@@ -147,7 +167,59 @@ impl<'a> Task<'a> {
         let first = self.steps.len();
         words.push(&constraint.formula, root, &mut self.steps)?;
         let end = self.steps.len();
-        self.constraints.push(Posed { root, first, end })?;
+        let scope = self.scope_of(root, between(&self.steps, first, end));
+        self.constraints.push(Posed {
+            root,
+            first,
+            end,
+            scope,
+        })?;
+        Ok(())
+    }
+
+    /// The root, and the categories of which a formula's steps say something.
+    fn scope_of(&self, root: CatId, steps: &[Step]) -> Categories {
+        let mut scope = with(Categories::empty(), root);
+        'steps: for i in 0..steps.len() {
+            match steps[i] {
+                Step::Edge(e) => scope = with(scope, self.ends(e).0),
+                Step::Reach(c, _) | Step::Name(c, _) | Step::Below(c, _) => scope = with(scope, c),
+                _ => {}
+            }
+        }
+        scope
+    }
+
+    /// Adds the categories that the root reaches, and the edges out of them.
+    fn push_below(&mut self) -> Result<(), AllocError> {
+        let (graph, order) = (self.graph, self.order);
+        'categories: for i in 0..order.categories.len() {
+            if is_below(graph, self.root, order.categories[i]) {
+                self.below.extend_from_slice(&[order.categories[i]])?;
+                self.all = with(self.all, order.categories[i]);
+            }
+        }
+        'edges: for e in 0..graph.edges() {
+            let (child, _) = graph.ends(EdgeId(e));
+            if is_below(graph, self.root, child) {
+                self.edges.extend_from_slice(&[EdgeId(e)])?;
+            }
+        }
+        Ok(())
+    }
+
+    /// Adds the parents of each category.
+    fn push_parents(&mut self) -> Result<(), AllocError> {
+        let graph = self.graph;
+        'categories: for c in 0..graph.categories() {
+            let mut parents = Categories::empty();
+            let edges = graph.parents(CatId(c));
+            'edges: for i in 0..edges.len() {
+                let (_, parent) = graph.ends(edges[i]);
+                parents = with(parents, parent);
+            }
+            self.parents.extend_from_slice(&[parents])?;
+        }
         Ok(())
     }
 
@@ -158,15 +230,19 @@ impl<'a> Task<'a> {
         self.laws.extend_from_slice(&alone)?;
         let is_short = self.form == Form::Short;
         'categories: for c in 0..graph.categories() {
+            if !is_below(graph, self.root, CatId(c)) {
+                continue;
+            }
             self.laws.extend_from_slice(&[Line::Dead(CatId(c))])?;
             if is_short {
                 self.laws
                     .extend_from_slice(&[Line::LooseCategory(CatId(c))])?;
             }
         }
-        let edges = if is_short { 0 } else { graph.edges() };
-        'edges: for e in 0..edges {
-            self.laws.extend_from_slice(&[Line::LooseEdge(EdgeId(e))])?;
+        let edges = if is_short { 0 } else { self.edges.len() };
+        'edges: for i in 0..edges {
+            let line = Line::LooseEdge(self.edges[i]);
+            self.laws.extend_from_slice(&[line])?;
         }
         Ok(())
     }
@@ -182,11 +258,10 @@ impl<'a> Task<'a> {
 
     /// The edges that the root may reach.
     fn push_edges(&mut self) -> Result<(), AllocError> {
-        let graph = self.graph;
-        'edges: for e in 0..graph.edges() {
-            let (child, _) = graph.ends(EdgeId(e));
-            if is_below(graph, self.root, child) {
-                self.add(Variable::Edge(EdgeId(e)), 2, true)?;
+        'edges: for i in 0..self.edges.len() {
+            if i < self.edges.len() {
+                let edge = self.edges[i];
+                self.add(Variable::Edge(edge), 2, true)?;
             }
         }
         Ok(())
@@ -253,6 +328,30 @@ impl<'a> Task<'a> {
         d.0 != 0 && is_below(self.graph, c, d) && is_below(self.graph, self.root, c)
     }
 
+    /// The child and the parent of an edge.
+    pub(crate) fn ends(&self, e: EdgeId) -> (CatId, CatId) {
+        if e.0 < self.graph.edges() {
+            self.graph.ends(e)
+        } else {
+            (CatId(0), CatId(0))
+        }
+    }
+
+    /// The parents of a category.
+    pub(crate) fn parents(&self, c: CatId) -> Categories {
+        let place = usize::from(c.0);
+        if place < self.parents.len() {
+            self.parents[place]
+        } else {
+            Categories::empty()
+        }
+    }
+
+    /// How many categories and edges there are.
+    pub(crate) fn size(&self) -> usize {
+        self.below.len().wrapping_add(self.edges.len())
+    }
+
     /// The variable at a place.
     pub(crate) fn variable(&self, place: usize) -> Variable {
         if place < self.choices.len() {
@@ -312,6 +411,20 @@ impl<'a> Task<'a> {
         } else {
             &[]
         }
+    }
+
+    /// The categories of which a constraint says something.
+    pub(crate) fn constraint_scope(&self, n: usize) -> Categories {
+        if n < self.constraints.len() {
+            self.constraints[n].scope
+        } else {
+            Categories::empty()
+        }
+    }
+
+    /// The categories of which the question says something.
+    pub(crate) fn question_scope(&self) -> Categories {
+        self.question.scope
     }
 
     /// The steps of the question.

@@ -8,7 +8,7 @@ use std::alloc::{AllocError, Global};
 /// How many lines of a tree are written.
 const MOST_LINES: u32 = 1 << 22;
 
-/// A tree wasn't found with so many tries, or it has too many lines.
+/// A tree wasn't found, or it has too many lines.
 #[derive(Clone, Copy)]
 pub struct GivenUp;
 

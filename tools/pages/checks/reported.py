@@ -194,7 +194,8 @@ def certificate_faults(top: Element, file: Path) -> Iterator[str]:
             if "more lines" in place.all("p")[0].text():
                 continue
             text.write_text(lines)
-            said = olap("verify-short", str(file), str(text), *words)[1].strip(), checker.said(file.read_bytes(), words, lines.encode())
+            command = "verify-short" if lines.startswith("short") else "verify"
+            said = olap(command, str(file), str(text), *words)[1].strip(), checker.said(file.read_bytes(), words, lines.encode())
             if said != ("accepted", "accepted"):
                 yield f"of the certificate for {words} the program and check-certificate say {said}"
 
