@@ -2,7 +2,7 @@
 --     IsPut                        a summary was put at a member
 --     view_put, view_refused, view_left, view_kept   the views after it
 --     so_far_first, so_far_next, so_far_refused, so_far_all   category by category
---     fact_behind, taken_ok, taken_err   fact by fact
+--     fact_behind, facts_behind, taken_ok, taken_err   fact by fact
 use Rattle.std.proofs.Common.{◌≡◌, ◌≢◌, ◌+◌, ◌<◌, ◌≤◌, ℕ, suc, List, [], ◌∷◌, ◌++◌, length, get_or, take, drop, map, Bool, true, false, cond, refl, sym, ap, subst, ◌∙◌, inl, inr, Option, Some, IfSome, arith, drop-cons, length-drop}
 use Rattle.std.specs.Prelude.{◌==◌, ◌⊎◌, AllPairs, Contains, Result, Ok, Err}
 use Rattle.std.proofs.Math.Seq.{take_all}
@@ -267,6 +267,18 @@ fact_behind step i r at (g ∷ facts) f =
     let e : (at + 1) + length facts ≡ at + suc (length facts) = omega arith in
     fact_behind step i (fact_after step i at g r) (at + 1) facts f
     ∙ ap (λ n. fact_after step i n f (store_after_facts step i (fact_after step i at g r) (at + 1) facts)) e
+
+-- some facts after the others
+pub facts_behind : (step : Step) (i : Instance) (r : Result (List View) (Fault DeltaKind)) (at : ℕ)
+    (facts more : List Fact)
+    → store_after_facts step i r at (facts ++ more)
+    ≡ store_after_facts step i (store_after_facts step i r at facts) (at + length facts) more
+facts_behind step i r at [] more =
+    let e : at ≡ at + 0 = omega arith in ap (λ n. store_after_facts step i r n more) e
+facts_behind step i r at (g ∷ facts) more =
+    let e : (at + 1) + length facts ≡ at + suc (length facts) = omega arith in
+    facts_behind step i (fact_after step i at g r) (at + 1) facts more
+    ∙ ap (λ n. store_after_facts step i (store_after_facts step i (fact_after step i at g r) (at + 1) facts) n more) e
 
 -- the views of a table, or its fault, after a fact
 pub taken_ok : (step : Step) (i : Instance) (at : ℕ) (f : Fact) (before after : List View)

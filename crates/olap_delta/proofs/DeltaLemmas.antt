@@ -1,5 +1,4 @@
 -- Stored views that are changed fact by fact.
---     HasTaken                      some facts were taken
 --     taken_none, taken_more        no fact, and one more
 --     are_taken_none, are_taken_more, taken_since    the same between two times
 --     handed_out_after, after_text  what is handed out, and what comes of a text
@@ -19,20 +18,12 @@ use Rattle.olap_delta.specs.FactByFact.{fact_after, facts_changed, store_after_f
 use Rattle.olap_delta.specs.Changing.{Delta, step_of}
 use Rattle.olap_delta.specs.declared.changes.Change.{Change}
 use Rattle.olap_delta.specs.Reading.{or_refused, views_changed}
-use Rattle.olap_delta.specs.Taking.{AreTaken, IsStoreAfter, IsStoreAfterAll}
+use Rattle.olap_delta.specs.Taking.{AreTaken, HasTaken, IsStoreAfter, IsStoreAfterAll}
 use Rattle.olap_delta.specs.declared.kinds.ChangeKind.{ChangeKind}
 use Rattle.olap_delta.specs.declared.kinds.DeltaKind.{DeltaKind}
 use Rattle.olap_facts.specs.declared.kinds.FactKind.{FactKind}
-use Rattle.olap_delta.proofs.ChangingLemmas.{fact_behind}
+use Rattle.olap_delta.proofs.ChangingLemmas.{fact_behind, facts_behind}
 use Rattle.olap_delta.proofs.StoreChangedLemmas.{store_is}
-
--- these facts were taken, by this step, at these views
-pub record HasTaken (by : Change) (i : Instance) (stored : List View) (facts : List Fact) (d : Delta) : Type 0 where
-  pub change : d.change ≡ by
-  pub instance : d.instance ≡ i
-  pub categories : d.categories ≡ categories_in stored
-  pub taken : d.taken ≡ length facts
-  pub views : d.views ≡ facts_changed (step_of by) i stored facts
 
 -- one fact more was taken
 pub taken_more : (by : Change) (i : Instance) (views : List View) (facts : List Fact) (f : Fact) (d e : Delta)
@@ -86,22 +77,23 @@ are_taken_more facts f old d e h s j c t v = record {
     at : d.taken + 2 ≡ (old.taken + 2) + length facts
     at = let a = h.taken in omega arith
 
--- taken since no fact was
-pub taken_since : (by : Change) (i : Instance) (views : List View) (facts : List Fact) (old d : Delta)
-    → HasTaken by i views [] old → AreTaken facts old d → HasTaken by i views facts d
-taken_since by i views facts old d h a = record {
+-- some facts more
+pub taken_since : (by : Change) (i : Instance) (views : List View) (before facts : List Fact) (old d : Delta)
+    → HasTaken by i views before old → AreTaken facts old d → HasTaken by i views (before ++ facts) d
+taken_since by i views before facts old d h a = record {
   change = a.change ∙ h.change;
   instance = a.instance ∙ h.instance;
   categories = a.categories ∙ h.categories;
-  taken = let n = h.taken in let m = a.taken in omega arith;
+  taken = let n = h.taken in let m = a.taken in omega (arith, length-append {A = Fact});
   views = a.views
       ∙ ap (λ p. store_after_facts (step_of p) old.instance old.views (old.taken + 2) facts) h.change
       ∙ ap (λ j. store_after_facts (step_of by) j old.views (old.taken + 2) facts) h.instance
       ∙ ap (λ r. store_after_facts (step_of by) i r (old.taken + 2) facts) h.views
-      ∙ ap (λ n. store_after_facts (step_of by) i (Ok views) n facts) at;
+      ∙ ap (λ n. store_after_facts (step_of by) i (facts_changed (step_of by) i views before) n facts) at
+      ∙ sym (facts_behind (step_of by) i (Ok views) 2 before facts);
 }
   where
-    at : old.taken + 2 ≡ 2
+    at : old.taken + 2 ≡ 2 + length before
     at = let n = h.taken in omega arith
 
 -- ---- what is handed out

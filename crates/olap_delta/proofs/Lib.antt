@@ -10,7 +10,7 @@ mod StepLemmas
 mod DeltaLemmas
 mod JoinedRowLemmas
 mod LotLemmas
-mod TakingLemmas
+mod TextLemmas
 mod ListedLemmas
 mod JoiningLemmas
 mod JoinedTableLemmas

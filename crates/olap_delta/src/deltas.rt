@@ -1,11 +1,12 @@
 // Stored views that are changed fact by fact.
-ghost use Rattle.std.specs.Prelude.{◌≡◌, ◌+◌, ◌<◌, ℕ, All, IfErr, IfOk, List as Items, Ok, length};
+ghost use Rattle.std.specs.Prelude.{◌≡◌, ◌+◌, ◌<◌, ◌≤◌, ℕ, All, IfErr, IfOk, List as Items, Ok, length, map};
 ghost use Rattle.olap_base.specs.Graph.{Graph as TheGraph};
 ghost use Rattle.olap_base.specs.Limits.{most_count};
 ghost use Rattle.olap_base.specs.Refusing.{IsRefusedBy};
 ghost use Rattle.olap_base.specs.Views.{View as TheView};
 ghost use Rattle.olap_delta.specs.FactByFact.{fact_after};
 ghost use Rattle.olap_delta.specs.Changing.{step_of};
+ghost use Rattle.olap_delta.specs.Taking.{AreTaken};
 ghost use Rattle.olap_facts.specs.Seen.{fact_of};
 ghost use Rattle.olap_view.specs.Seen.{views_of};
 ghost use Rattle.olap_view.specs.Stores.{Fits, IsInFileOrder, IsSoundStore, IsStore};
@@ -86,6 +87,17 @@ impl<'a> Delta<'a> {
             };
         }
         self.taken += 1;
+    }
+
+    /// Takes facts, in their order, as `take` takes one.
+    pub(crate) fn take_all(&mut self, facts: &[Fact])
+        requires members { All (λ f. f.member.0 < length self.old.instance) facts.now }
+        requires room { self.old.taken + length facts.now ≤ most_count }
+        ensures { AreTaken (map fact_of facts.now) self.old self.new }
+    {
+        'facts: for fact in facts {
+            self.take(fact);
+        }
     }
 
     /// The stored views after the facts, or the first fact that was refused. `Memory`: out of memory.

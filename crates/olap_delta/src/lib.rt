@@ -12,12 +12,13 @@ mod joining;
 mod kinds;
 mod laws;
 mod lots;
-mod reading;
 mod storing;
+mod taking;
+mod texts;
 
 pub use changes::Change;
 pub use deltas::Delta;
 pub use kinds::{ChangeKind, DeltaKind};
 pub use laws::{append_gives_direct_views, retract_gives_direct_views};
-pub use reading::change_by_text;
 pub use storing::{append, retract};
+pub use texts::{Changer, change_by_text};

@@ -34,14 +34,12 @@ fn one_by_one(
     ensures { IsStoreAfter change legal.now (views_of store.now) (facts_of facts.now) result }
 {
     let mut delta = Delta::new(alloc, change, legal, store)?;
-    'facts: for fact in facts.rows.items() {
-        delta.take(fact);
-    }
+    delta.take_all(facts.rows.items());
     delta.into_store()
 }
 
 /// The stored views after the change by the facts, or the first that is refused: joined by member, where no fact is.
-fn changed(
+pub(crate) fn changed(
     alloc: Global,
     change: Change,
     legal: &Legal,

@@ -1,4 +1,4 @@
 -- Lemmas.
 mod TellingLemmas
-mod ReadingLemmas
-mod RollingLemmas
+pub mod ReadingLemmas
+pub mod RollingLemmas

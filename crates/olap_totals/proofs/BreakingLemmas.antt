@@ -1,5 +1,5 @@
 -- What is told of the members at which totals differ.
-use Rattle.std.proofs.Common.{◌≡◌, ◌⊎◌, ◌∙◌, ℕ, List, [], ◌∷◌, Ok, length, map, true, false, refl, ap, sym, subst, inl, inr, arith}
+use Rattle.std.proofs.Common.{◌≡◌, ℕ, List, [], ◌∷◌, Ok, length, map, true, false, sym, subst, arith}
 use Rattle.std.specs.Prelude.{◌==◌}
 use Rattle.olap_base.specs.Instance.{Instance}
 use Rattle.olap_base.proofs.ViewLemmas.{eqb_is}

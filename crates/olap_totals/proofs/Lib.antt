@@ -3,3 +3,4 @@ mod ViewLemmas
 mod WordLemmas
 mod BreakingLemmas
 mod StoreLemmas
+mod FeedingLemmas

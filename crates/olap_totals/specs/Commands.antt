@@ -6,22 +6,22 @@ use Rattle.std.specs.Prelude.{ℕ, Bool, List, [], ◌∷◌, ◌++◌, ◌-◌,
 use Rattle.std.specs.Fmt.{decimal}
 use Rattle.std.specs.Str.{bytes_eq}
 use Rattle.olap_base.specs.Graph.{Graph}
-use Rattle.olap_base.specs.Limits.{most_facts_bytes, most_store_bytes, most_views}
+use Rattle.olap_base.specs.Limits.{most_facts, most_store_bytes, most_views}
 use Rattle.olap_base.specs.Instance.{Instance}
 use Rattle.olap_base.specs.Views.{View, direct_view, direct_views}
 use Rattle.olap_ast.specs.Schema.{Schema}
 use Rattle.olap_breaks.specs.Breaks.{Break, breaks, breaks_text}
 use Rattle.olap_records.specs.Records.{records_of}
-use Rattle.olap_facts.specs.FactText.{facts_read}
+use Rattle.olap_facts.specs.FactText.{facts_read_within}
 use Rattle.olap_delta.specs.Changes.{Step, appended, retracted}
 use Rattle.olap_delta.specs.Kinds.{name_of_change_kind}
 use Rattle.olap_delta.specs.Reading.{views_changed}
 use Rattle.olap_view.specs.StoreText.{store_text}
 use Rattle.olap_view.specs.ViewText.{view_text}
 use Rattle.olap_order.specs.Arguments.{by_four, by_three_or_more, by_two}
-use Rattle.olap_order.specs.Order.{Order, Told, and_then, refused}
+use Rattle.olap_order.specs.Order.{Order, Read, Told, and_then, refused}
 use Rattle.olap_order.specs.Outputs.{line}
-use Rattle.olap_order.specs.Steps.{category_word, different_words, meaning_or_fault, schema_file, text_file}
+use Rattle.olap_order.specs.Steps.{category_word, different_words, meaning_or_fault, schema_file}
 use Rattle.olap_reading.specs.Steps.{facts_file, legal_file, store_file}
 use Rattle.olap_order.specs.declared.status.Status.{Status}
 use Rattle.olap_order.specs.declared.status.Status.TheVariants.{No, Yes}
@@ -58,11 +58,12 @@ store_order schema instance facts categories =
     and_then (facts_file s i (codes "facts") facts) (λ table.
     store_told s.graph i (direct_views i table cs)))))
 
--- facts at the instance's members, and the stored views after them; a fault of the facts comes before a fault of a view
-abbrev pub changed_text : Step → Schema → Instance → List View → List ℕ → Order (List View)
-changed_text step s i views text =
+-- facts at the instance's members in a file of any length, and the stored views after them; a fault of the facts comes
+-- before a fault of a view
+abbrev pub changed_file : Step → Schema → Instance → List View → (facts : List ℕ) → Order (List View)
+changed_file step s i views facts = Read facts (λ text.
     meaning_or_fault (codes "facts") (codes "record") name_of_change_kind
-    (views_changed step i views (facts_read s.graph i (records_of text)))
+    (views_changed step i views (facts_read_within most_facts s.graph i (records_of text))))
 
 -- the schema, the instance and its laws, the stored views, the facts, and then each fact at the views
 abbrev pub change_order : Step → (schema instance store facts : List ℕ) → Order Question
@@ -70,9 +71,8 @@ change_order step schema instance store facts =
     and_then (schema_file (codes "schema") schema) (λ s.
     and_then (legal_file s (codes "instance") instance) (λ i.
     and_then (store_file s i (codes "store") store) (λ views.
-    and_then (text_file (codes "facts") most_facts_bytes facts) (λ text.
-    and_then (changed_text step s i views text) (λ changed.
-    store_told s.graph i changed)))))
+    and_then (changed_file step s i views facts) (λ changed.
+    store_told s.graph i changed))))
 
 -- the answer is yes if there are none
 abbrev pub breaks_status : List Break → Status

@@ -3,21 +3,19 @@
 --     store_of       of an instance, after the categories
 --     change_of      of a legal instance
 --     change_by      of its stored views
---     change_told    of the text of the facts
 use Rattle.std.specs.Prelude.{ℕ, List, [], ◌++◌, ◌-◌, codes, length}
 use Rattle.std.specs.Fmt.{decimal}
 use Rattle.olap_base.specs.Instance.{Instance}
-use Rattle.olap_base.specs.Limits.{most_facts_bytes}
 use Rattle.olap_base.specs.Views.{View, direct_view, direct_views}
 use Rattle.olap_ast.specs.Schema.{Schema}
 use Rattle.olap_delta.specs.Changes.{Step}
 use Rattle.olap_view.specs.ViewText.{view_text}
 use Rattle.olap_order.specs.Order.{Order, Told, and_then}
 use Rattle.olap_order.specs.Outputs.{line}
-use Rattle.olap_order.specs.Steps.{category_word, different_words, text_file}
+use Rattle.olap_order.specs.Steps.{category_word, different_words}
 use Rattle.olap_reading.specs.Steps.{facts_file, legal_file, store_file}
 use Rattle.olap_order.specs.declared.status.Status.TheVariants.{Yes}
-use Rattle.olap_totals.specs.Commands.{breaks_status, changed_text, store_told}
+use Rattle.olap_totals.specs.Commands.{breaks_status, changed_file, store_told}
 use Rattle.olap_breaks.specs.Breaks.{breaks, breaks_text}
 use Rattle.olap_totals.specs.Questions.{Question}
 
@@ -59,15 +57,10 @@ breaks_under s instance target sources =
     and_then (category_word s.graph 4 target) (λ c.
     and_then (different_words (codes "DuplicateSource") s.graph 5 [] sources) (λ cs. breaks_of s instance c cs))
 
--- each fact of the text at the views
-abbrev pub change_told : Step → Schema → Instance → List View → (text : List ℕ) → Order Question
-change_told step s i views text =
-    and_then (changed_text step s i views text) (λ changed. store_told s.graph i changed)
-
--- the facts, and then what is left
+-- the facts, and the stored views after them
 abbrev pub change_by : Step → Schema → Instance → List View → (facts : List ℕ) → Order Question
 change_by step s i views facts =
-    and_then (text_file (codes "facts") most_facts_bytes facts) (λ text. change_told step s i views text)
+    and_then (changed_file step s i views facts) (λ changed. store_told s.graph i changed)
 
 -- the stored views, and then what is left
 abbrev pub change_of : Step → Schema → Instance → (store facts : List ℕ) → Order Question

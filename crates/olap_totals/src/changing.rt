@@ -5,73 +5,60 @@ ghost use Rattle.olap_instance.specs.Made.{IsMadeFor};
 ghost use Rattle.olap_schema.specs.Schemas.{schema_of};
 ghost use Rattle.olap_view.specs.Seen.{views_of};
 ghost use Rattle.olap_view.specs.Stores.{IsInFileOrder, IsSoundStore};
-ghost use Rattle.olap_order.specs.Judged.{Judged, Replies};
-ghost use Rattle.olap_order.specs.Taken.{PlainStep};
-ghost use Rattle.olap_totals.specs.Commands.{changed_text};
-ghost use Rattle.olap_totals.specs.Under.{change_by, change_of, change_told, change_under};
+ghost use Rattle.olap_order.specs.Judged.{Judged};
+ghost use Rattle.olap_order.specs.Taken.{FileStep};
+ghost use Rattle.olap_totals.specs.Commands.{changed_file};
+ghost use Rattle.olap_totals.specs.Under.{change_by, change_of, change_under};
 ghost use Rattle.olap_totals.specs.Questions.{IsAnswer};
 
+use crate::feeding::{Unchanged, changed_by_rest};
 use crate::storing::told;
-use olap_base::{MOST_FACTS_BYTES, Refusal};
-use olap_delta::{Change, change_by_text};
+use olap_base::Refusal;
+use olap_delta::Change;
 use olap_legal::Legal;
-use olap_order::{Reply, Stop, refuse_part, text_in};
+use olap_order::{Reply, Stop, refuse_part};
 use olap_outside::Library;
 use olap_reading::{legal_in, store_in};
 use olap_schema::Schema;
 use olap_view::Store;
 use std::alloc::Global;
 
-/// The stored views after the change by the facts of a text.
-fn changed_by(
+/// The stored views after the change by the facts in a file, which may be of any length.
+fn changed_in<L: Library>(
     alloc: Global,
     change: Change,
     schema: &Schema,
     legal: &Legal,
     store: &Store,
-    facts: &[u8],
+    file: &str,
+    lib: &mut L,
 ) -> Result<Store, Stop>
     requires made { IsMadeFor (schema_of schema.now).graph legal.now }
     requires sound { IsSoundStore (schema_of schema.now).graph legal.now (views_of store.now) }
     requires order { All (IsInFileOrder legal.now) (views_of store.now) }
-    ensures step { PlainStep (changed_text (step_of change) (schema_of schema.now) legal.now
-        (views_of store.now) facts.now) views_of result }
+    ensures step { FileStep L.Library lib.old lib.new (changed_file (step_of change) (schema_of schema.now)
+        legal.now (views_of store.now) file.now) views_of result }
     ensures sound { IfOk result (λ s.
         IsSoundStore (schema_of schema.now).graph legal.now (views_of s)) }
 {
-    match change_by_text(alloc, change, schema.graph(), legal, store, facts) {
+    let Ok(()) = lib.open_file(file) else {
+        return Err(Stop::Read);
+    };
+    match changed_by_rest(alloc, change, schema.graph(), legal, store, lib) {
         Ok(changed) => Ok(changed),
-        Err(Refusal::Kind(fault)) => Err(refuse_part(
+        Err(Unchanged::Failed) => Err(Stop::Read),
+        Err(Unchanged::Refused(Refusal::Kind(fault))) => Err(refuse_part(
             alloc,
             "facts",
             "record",
             fault.at,
             fault.kind.name(),
         )),
-        Err(Refusal::Memory(memory)) => Err(Stop::Memory(memory)),
+        Err(Unchanged::Refused(Refusal::Memory(memory))) => Err(Stop::Memory(memory)),
     }
 }
 
-/// The text of stored views after the change by the facts of a text.
-fn told_after(
-    alloc: Global,
-    change: Change,
-    schema: &Schema,
-    legal: &Legal,
-    store: &Store,
-    facts: &[u8],
-) -> Result<Reply, Stop>
-    requires made { IsMadeFor (schema_of schema.now).graph legal.now }
-    requires sound { IsSoundStore (schema_of schema.now).graph legal.now (views_of store.now) }
-    requires order { All (IsInFileOrder legal.now) (views_of store.now) }
-    ensures replies { Replies IsAnswer (change_told (step_of change) (schema_of schema.now) legal.now
-        (views_of store.now) facts.now) result }
-{
-    let changed = changed_by(alloc, change, schema, legal, store, facts)?;
-    told(alloc, schema, legal, &changed)
-}
-
-/// Stored views after the change by the facts in a file.
+/// The text of stored views after the change by the facts in a file.
 fn by_facts<L: Library>(
     alloc: Global,
     change: Change,
@@ -87,8 +74,8 @@ fn by_facts<L: Library>(
     ensures judged { Judged IsAnswer L.Library lib.old lib.new (change_by (step_of change)
         (schema_of schema.now) legal.now (views_of store.now) facts.now) result }
 {
-    let text = text_in(alloc, "facts", facts, MOST_FACTS_BYTES, lib)?;
-    told_after(alloc, change, schema, legal, store, &text)
+    let changed = changed_in(alloc, change, schema, legal, store, facts, lib)?;
+    told(alloc, schema, legal, &changed)
 }
 
 /// The stored views of a legal instance in a file after the change by the facts in another.

@@ -8,6 +8,7 @@
 mod breaking;
 mod changing;
 mod checking;
+mod feeding;
 mod judging;
 mod rolling_up;
 mod storing;

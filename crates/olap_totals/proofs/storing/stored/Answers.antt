@@ -1,4 +1,4 @@
-use Rattle.std.proofs.Common.{◌<◌, length, subst, sym}
+use Rattle.std.proofs.Common.{length, subst, sym}
 use Rattle.std.specs.Prelude.{All}
 use Rattle.olap_base.specs.Graph.{IsCategory}
 use Rattle.olap_base.specs.Views.{View, direct_views}

@@ -1,0 +1,16 @@
+-- The views of the facts that have gone into them.
+use Rattle.std.proofs.Common.{subst}
+use Rattle.olap_view.specs.Seen.{views_of}
+use Rattle.olap_delta.specs.Taking.{AreIn}
+use Rattle.olap_delta.specs.declared.taking.Taken.{Taken}
+use Rattle.olap_delta.proofs.DeltaLemmas.{handed_out_after}
+use Rattle.olap_delta.proofs.taking.Taken.into_store.Goals as goal
+
+pub returns-in-Gone : goal.returns-in-Gone
+returns-in-Gone c = λ facts h.
+    let b = c.args.base in
+    let views = views_of b.store.now in
+    let e = c.into_store.ensures in
+    handed_out_after b.change b.legal.now views facts c.in-Gone.delta
+    (subst (λ (t : Taken). AreIn b.change b.legal.now views facts t) c.in-Gone.is h)
+    c.into_store.result e.ok e.sound e.order e.err

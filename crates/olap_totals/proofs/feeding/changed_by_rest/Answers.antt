@@ -1,0 +1,165 @@
+-- A piece more, the end, and a refusal.
+use Rattle.std.proofs.Common.{◌≡◌, ◌<◌, ◌++◌, ◌∙◌, [], ℕ, List, Ok, length, take, inl, ap, arith, subst}
+use Rattle.std.specs.Prelude.{is_ok}
+use Rattle.std.proofs.lemmas.List.{length-take-le}
+use Rattle.std.proofs.lemmas.Result.{err_from_is_err_and}
+use Rattle.olap_base.specs.Limits.{most_facts}
+use Rattle.olap_base.specs.Refusing.{IsRefusedBy}
+use Rattle.olap_records.specs.Standing.{records_fed, unmarked}
+use Rattle.olap_facts.specs.FactText.{facts_read_within}
+use Rattle.olap_outside.specs.Pieces.{EndsTold}
+use Rattle.olap_view.specs.Seen.{views_of}
+use Rattle.olap_delta.specs.Changing.{step_of}
+use Rattle.olap_delta.specs.Reading.{views_changed}
+use Rattle.olap_delta.specs.Taking.{HasTakenText}
+use Rattle.olap_reading.proofs.RollingLemmas.{below, ends-told, long-or-end, longer, mark-joined, parts-more, told-end, told-fault}
+use Rattle.olap_totals.specs.Feeding.{IsChangedBy}
+use Rattle.olap_totals.proofs.feeding.changed_by_rest.Goals as goal
+
+pub returns-in_err-changer-clause-fault : goal.returns-in_err-changer-clause-fault
+returns-in_err-changer-clause-fault g c =
+    let lib = g.L.Library in
+    let gr = c.args.graph.now in
+    let i = c.args.legal.now in
+    let by = c.args.change in
+    let views = views_of c.args.store.now in
+    let n = c.in_ok-count.count in
+    let piece = c.fill.new.piece in
+    let e = c.in_err-changer.field-0.0 in
+    let size : length piece ≡ 65536 = c.fill.auto.piece in
+    let end : n < 65536 → EndsTold (lib.rest c.args.lib.now) (lib.rest c.fill.new.lib) =
+    λ l. c.in_ok-count.ensures.end (omega (arith, l, size)) in
+    let stop = err_from_is_err_and c.from_residual-in_err-changer.result c.from_residual-in_err-changer.ensures.1 in
+    rw (stop.1, stop.2)
+    (told-fault c.records_are_those_at_the_end.ensures
+    (λ rs. IsRefusedBy e (views_changed (step_of by) i views (facts_read_within most_facts gr i rs)))
+    (lib.rest c.args.lib.now) (lib.rest c.fill.new.lib) (take n piece) c.in_ok-count.ensures.bytes
+    (long-or-end (lib.rest c.args.lib.now) (lib.rest c.fill.new.lib) (take n piece) n
+    (length-take-le n piece c.in_ok-count.ensures.bound) end)
+    (λ more. subst (λ (xs : List ℕ). IsRefusedBy e
+    (views_changed (step_of by) i views (facts_read_within most_facts gr i (records_fed (xs ++ more)))))
+    c.without_mark.ensures
+    (c.in_err-changer.ensures.takes by gr i views most_facts [] c.new-changer.ensures more)))
+
+pub pieces-init : goal.pieces-init
+pieces-init g c =
+    let gr = c.args.graph.now in
+    let i = c.args.legal.now in
+    let by = c.args.change in
+    let views = views_of c.args.store.now in
+    let n = c.in_ok-count.count in
+    let piece = c.fill.new.piece in
+    let size : length piece ≡ 65536 = c.fill.auto.piece in
+    let bound = c.in_ok-count.ensures.bound in
+    let cut = length-take-le n piece bound in
+    record {
+      so_far = record {
+        text = take n piece;
+        parts = c.in_ok-count.ensures.bytes;
+        long = λ e. omega (arith, e, cut);
+        taken = subst (λ (fed : List ℕ). HasTakenText by gr i views most_facts fed c.in_ok-changer.changer)
+            c.without_mark.ensures (c.in_ok-changer.ensures.takes by gr i views most_facts [] c.new-changer.ensures);
+      };
+      end = λ l. c.in_ok-count.ensures.end (omega (arith, l, size));
+      most = omega (arith, bound, size);
+      few = λ e. c.in_ok-count.ensures.few (omega (arith, e));
+      size = size;
+      ready = c.fill.ensures.ready ∙ ap is_ok c.in_ok-count.was;
+      later = c.fill.ensures.cause.later;
+      kept = c.fill.ensures.kept;
+    }
+
+pub returns-in_err-changer-2-clause-fault : goal.returns-in_err-changer-2-clause-fault
+returns-in_err-changer-2-clause-fault g c =
+    let lib = g.L.Library in
+    let gr = c.args.graph.now in
+    let i = c.args.legal.now in
+    let by = c.args.change in
+    let views = views_of c.args.store.now in
+    let sf = c.pieces.invariant.so_far in
+    let b = take c.in_ok-count-2.count c.fill-in-pieces.new.piece in
+    let e = c.in_err-changer-2.field-0.0 in
+    let long = sf.long c.pieces-test.true in
+    let stop = err_from_is_err_and c.from_residual-in_err-changer-2.result c.from_residual-in_err-changer-2.ensures.1 in
+    rw (stop.1, stop.2)
+    (told-fault c.records_are_those_at_the_end.ensures
+    (λ rs. IsRefusedBy e (views_changed (step_of by) i views (facts_read_within most_facts gr i rs)))
+    (lib.rest c.args.lib.now) (lib.rest c.fill-in-pieces.new.lib) (sf.text ++ b)
+    (parts-more (lib.rest c.args.lib.now) (lib.rest c.pieces.lib) (lib.rest c.fill-in-pieces.new.lib) sf.text b
+    sf.parts c.in_ok-count-2.ensures.bytes)
+    (inl (longer sf.text b long))
+    (λ more. subst (λ (xs : List ℕ). IsRefusedBy e
+    (views_changed (step_of by) i views (facts_read_within most_facts gr i (records_fed (xs ++ more)))))
+    (mark-joined sf.text b long)
+    (c.in_err-changer-2.ensures.takes by gr i views most_facts (unmarked sf.text) sf.taken more)))
+
+pub pieces-preserved : goal.pieces-preserved
+pieces-preserved g c =
+    let lib = g.L.Library in
+    let gr = c.args.graph.now in
+    let i = c.args.legal.now in
+    let by = c.args.change in
+    let views = views_of c.args.store.now in
+    let inv = c.pieces.invariant in
+    let sf = inv.so_far in
+    let piece = c.fill-in-pieces.new.piece in
+    let b = take c.in_ok-count-2.count piece in
+    let long = sf.long c.pieces-test.true in
+    let size : length piece ≡ 65536 = c.fill-in-pieces.auto.piece ∙ inv.size in
+    let kept = c.fill-in-pieces.ensures.kept in
+    record {
+      so_far = record {
+        text = sf.text ++ b;
+        parts = parts-more (lib.rest c.args.lib.now) (lib.rest c.pieces.lib) (lib.rest c.fill-in-pieces.new.lib)
+            sf.text b sf.parts c.in_ok-count-2.ensures.bytes;
+        long = λ e. longer sf.text b long;
+        taken = subst (λ (fed : List ℕ). HasTakenText by gr i views most_facts fed c.in_ok-changer-2.changer)
+            (mark-joined sf.text b long)
+            (c.in_ok-changer-2.ensures.takes by gr i views most_facts (unmarked sf.text) sf.taken);
+      };
+      end = λ l. ends-told (lib.rest c.args.lib.now) (lib.rest c.pieces.lib) (lib.rest c.fill-in-pieces.new.lib) sf.text
+          sf.parts (c.in_ok-count-2.ensures.end (omega (arith, l, size)));
+      most = omega (arith, c.in_ok-count-2.ensures.bound, size);
+      few = λ e. c.in_ok-count-2.ensures.few (omega (arith, e));
+      size = size;
+      ready = c.fill-in-pieces.ensures.ready ∙ ap is_ok c.in_ok-count-2.was;
+      later = omega (arith, inv.later, c.fill-in-pieces.ensures.cause.later);
+      kept = record {
+        contents = kept.contents ∙ inv.kept.contents;
+        asked = kept.asked ∙ inv.kept.asked;
+        sure = kept.sure ∙ inv.kept.sure;
+      };
+    }
+
+pub returns-in_err-finish-clause-fault : goal.returns-in_err-finish-clause-fault
+returns-in_err-finish-clause-fault g c =
+    let lib = g.L.Library in
+    let gr = c.args.graph.now in
+    let i = c.args.legal.now in
+    let by = c.args.change in
+    let views = views_of c.args.store.now in
+    let inv = c.pieces.invariant in
+    let sf = inv.so_far in
+    let e = c.in_err-finish.field-0.0 in
+    let stop = err_from_is_err_and c.from_residual-in_err-finish.result c.from_residual-in_err-finish.ensures.1 in
+    rw (stop.1, stop.2)
+    (told-end c.records_are_those_at_the_end.ensures
+    (λ rs. IsRefusedBy e (views_changed (step_of by) i views (facts_read_within most_facts gr i rs)))
+    (lib.rest c.args.lib.now) (lib.rest c.pieces.lib) sf.text sf.parts
+    (inv.end (below c.pieces.count inv.most c.pieces-test.false))
+    (c.in_err-finish.ensures by gr i views most_facts (unmarked sf.text) sf.taken).err)
+
+pub returns-clause-changed : goal.returns-clause-changed
+returns-clause-changed g c =
+    let lib = g.L.Library in
+    let gr = c.args.graph.now in
+    let i = c.args.legal.now in
+    let by = c.args.change in
+    let views = views_of c.args.store.now in
+    let inv = c.pieces.invariant in
+    let sf = inv.so_far in
+    told-end c.records_are_those_at_the_end.ensures
+    (λ rs. IsChangedBy by gr i views rs (Ok c.in_ok-finish.field-0))
+    (lib.rest c.args.lib.now) (lib.rest c.pieces.lib) sf.text sf.parts
+    (inv.end (below c.pieces.count inv.most c.pieces-test.false))
+    (c.in_ok-finish.ensures by gr i views most_facts (unmarked sf.text) sf.taken)
