@@ -1,23 +1,25 @@
 -- Printing a cube's view row by row, and reading its text back.
 --     ids_more, ids_end    the ids of a row's members, one more, and all of them
---     members_from         the members from one on
+--     same_take            a prefix by its length
+--     row_stands, row_fields   a row, by the instances' number
 --     four_same            four items after others
 --     cube_view_more       one row more
 --     cube_view_reads      the text reads back
 use Rattle.std.proofs.Common.{◌≡◌, ℕ, zero, suc, ◌+◌, ◌<◌, ◌≤◌, ◌++◌, ◌∷◌, ◌∙◌, List, [], length, map, take, drop, get_or, arith, refl, sym, ap, subst, append_assoc, append-nil, length-append}
 use Rattle.std.specs.Prelude.{All}
 use Rattle.std.proofs.lemmas.List.Elements.{All-map}
-use Rattle.std.proofs.lemmas.List.{drop_all, drop_more, get_or-map, length-map, map-append, take_more}
+use Rattle.std.proofs.lemmas.List.{drop_all, get_or-map, length-map, map-append, take_more}
 use Rattle.olap_base.specs.Instance.{Instance, IsMember, member_at}
-use Rattle.olap_base.specs.declared.ids.MemberId.{MemberId}
 use Rattle.olap_cube.specs.CubeViews.{CubeRow, CubeView}
+use Rattle.olap_view.specs.Seen.{summary_of}
 use Rattle.olap_records.specs.Records.{records_of}
 use Rattle.olap_records.specs.Texts.{text_of_row, text_of_rows}
 use Rattle.olap_records.proofs.ReadingBack.{text-back, texts-push}
 use Rattle.olap_cube_views.specs.CubeTallies.{AreMembers}
 use Rattle.olap_cube_views.specs.CubeViewText.{cube_view_text, fields_in, header, ids_in, numbers_of, records_of_cube_view}
-use Rattle.olap_cube_views.specs.Seen.{cube_row_of, cube_rows_of, members_of}
+use Rattle.olap_cube_views.specs.Seen.{cube_row_of, cube_rows_of}
 use Rattle.olap_cube_views.specs.declared.views.CubeRow as told
+use Rattle.olap_cube_views.proofs.AncestorLemmas.{members_length}
 
 -- ---- the ids of a row's members
 
@@ -58,14 +60,38 @@ module _ (is : List Instance) (ys : List ℕ) where
   ids_end k ids l h = sym (append-nil ids)
       ∙ ap (λ t. ids ++ ids_in t (drop k ys)) (sym (drop_all k is l)) ∙ h.all
 
--- the members from the k-th on
-pub members_from : (ms : List MemberId) (k : ℕ) (d : MemberId) → k < length ms
-    → drop k (members_of ms) ≡ (get_or ms k d).0 ∷ drop (k + 1) (members_of ms)
-members_from ms k d l =
-    let n = length-map ms (λ (m : MemberId). m.0) in
-    let h : k < length (members_of ms) = omega arith in
-    drop_more (members_of ms) k 0 h
-    ∙ ap (λ y. y ∷ drop (k + 1) (members_of ms)) (get_or-map (λ (m : MemberId). m.0) ms k d 0 l)
+-- of as many numbers as there are, no other prefix
+pub same_take : (n k : ℕ) (ys : List ℕ) → length (take n ys) ≡ k → take n ys ≡ take k ys
+same_take n k ys e = sym (back n ys) ∙ ap (λ m. take m ys) e
+  where
+    back : (n : ℕ) (ys : List ℕ) → take (length (take n ys)) ys ≡ take n ys
+    back zero ys = refl
+    back (suc n) [] = refl
+    back (suc n) (y ∷ ys) = ap (λ t. y ∷ t) (back n ys)
+
+-- the rows stand at members
+module _ (is : List Instance) (n : ℕ) (rows : List told.CubeRow) (k : ℕ) (d : told.CubeRow) (l : k < length rows)
+    (a : All (λ (r : CubeRow). AreMembers is r.members) (cube_rows_of n rows)) where
+  at_members : AreMembers is (take n (get_or rows k d).members.places)
+  at_members =
+      let e = length-map rows (cube_row_of n) in
+      subst (λ (r : CubeRow). AreMembers is r.members) (get_or-map (cube_row_of n) rows k d (cube_row_of n d) l)
+      (a k (cube_row_of n d) (omega arith))
+
+  -- as many as there are instances
+  same_members : take n (get_or rows k d).members.places ≡ take (length is) (get_or rows k d).members.places
+  same_members =
+      same_take n (length is) (get_or rows k d).members.places
+      (members_length is (take n (get_or rows k d).members.places) at_members)
+
+  -- so does each of them
+  pub row_stands : AreMembers is (take (length is) (get_or rows k d).members.places)
+  row_stands = subst (AreMembers is) same_members at_members
+
+  -- by the instances a row has the fields that it has by the target
+  pub row_fields : fields_in is (cube_row_of (length is) (get_or rows k d)) ≡ fields_in is (cube_row_of n (get_or rows k d))
+  row_fields = ap (λ (ys : List ℕ). fields_in is (record { members = ys; summary = summary_of (get_or rows k d).summary }))
+      (sym same_members)
 
 -- four items after others, each the same as another
 pub four_same : (xs : List (List ℕ)) (a b c d p q r s : List ℕ) → a ≡ p → b ≡ q → c ≡ r → d ≡ s
@@ -75,20 +101,20 @@ four_same xs a b c d p q r s e f g h = λ i. xs ++ (e i ∷ f i ∷ g i ∷ h i 
 -- ---- rows
 
 -- one row more
-pub cube_view_more : (top : List (List ℕ)) (fields : CubeRow → List (List ℕ)) (rows : List told.CubeRow) (k : ℕ)
+pub cube_view_more : (top : List (List ℕ)) (fields : CubeRow → List (List ℕ)) (n : ℕ) (rows : List told.CubeRow) (k : ℕ)
     (d : told.CubeRow) (out new : List ℕ) → k < length rows
-    → out ≡ text_of_rows (top ∷ map fields (cube_rows_of (take k rows)))
-    → new ≡ out ++ text_of_row (fields (cube_row_of (get_or rows k d)))
-    → new ≡ text_of_rows (top ∷ map fields (cube_rows_of (take (k + 1) rows)))
-cube_view_more top fields rows k d out new l eo en =
+    → out ≡ text_of_rows (top ∷ map fields (cube_rows_of n (take k rows)))
+    → new ≡ out ++ text_of_row (fields (cube_row_of n (get_or rows k d)))
+    → new ≡ text_of_rows (top ∷ map fields (cube_rows_of n (take (k + 1) rows)))
+cube_view_more top fields n rows k d out new l eo en =
     let row = get_or rows k d in
-    let before = map fields (cube_rows_of (take k rows)) in
-    let more : map fields (cube_rows_of (take (k + 1) rows)) ≡ before ++ fields (cube_row_of row) ∷ [] =
-    ap (λ (rs : List told.CubeRow). map fields (cube_rows_of rs)) (take_more rows k d l)
-    ∙ ap (map fields) (map-append cube_row_of (take k rows) (row ∷ []))
-    ∙ map-append fields (cube_rows_of (take k rows)) (cube_row_of row ∷ []) in
-    en ∙ ap (λ (t : List ℕ). t ++ text_of_row (fields (cube_row_of row))) eo
-    ∙ sym (texts-push (top ∷ before) (fields (cube_row_of row)))
+    let before = map fields (cube_rows_of n (take k rows)) in
+    let more : map fields (cube_rows_of n (take (k + 1) rows)) ≡ before ++ fields (cube_row_of n row) ∷ [] =
+    ap (λ (rs : List told.CubeRow). map fields (cube_rows_of n rs)) (take_more rows k d l)
+    ∙ ap (map fields) (map-append (cube_row_of n) (take k rows) (row ∷ []))
+    ∙ map-append fields (cube_rows_of n (take k rows)) (cube_row_of n row ∷ []) in
+    en ∙ ap (λ (t : List ℕ). t ++ text_of_row (fields (cube_row_of n row))) eo
+    ∙ sym (texts-push (top ∷ before) (fields (cube_row_of n row)))
     ∙ ap (λ (t : List (List (List ℕ))). text_of_rows (top ∷ t)) (sym more)
 
 -- each record has a field, where the first has and those after it have

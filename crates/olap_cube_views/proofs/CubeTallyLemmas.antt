@@ -1,11 +1,12 @@
 -- For which fact tables a tally of a cube stands.
+--     pushed                        what stands at each key with an entry more
 --     stands_start                  no fact
 --     stands_apart, stands_joined   one fact more that reaches no tuple of the target, and one that reaches a tuple
+--     stands_same                   where the same stands at each key
 --     tally_*                       what is true of every tally
---     room                          no sum wraps
---     direct_rows_are               the rows of the direct view; told_members: they stand at members
-use Rattle.std.proofs.Common.{◌≡◌, ℕ, suc, ◌+◌, ◌*◌, ◌^◌, ◌<◌, ◌≤◌, List, [], ◌∷◌, ◌++◌, length, map, take, Bool, true, false, cond, refl, ap, sym, subst, ◌∙◌, arith, Option, Some, None, IfSome, option_map, w64, length-append}
-use Rattle.std.specs.Prelude.{All, filter_map, Contains, Err, IsSome, Ok, OnOk, Result, filter, if◌then◌else◌}
+--     told_rows                     the rows of the direct view; direct_members: they stand at members
+use Rattle.std.proofs.Common.{◌≡◌, ℕ, ◌+◌, ◌≤◌, List, [], ◌∷◌, ◌++◌, length, map, take, Bool, true, false, cond, refl, ap, sym, subst, ◌∙◌, arith, Option, Some, None, w64, length-append}
+use Rattle.std.specs.Prelude.{All, filter_map, Contains, IsSome, filter, if◌then◌else◌}
 use mir.Val.{SFits}
 use Rattle.std.specs.BTreeMap.{is_at}
 use Rattle.std.specs.Cmp.{tied_itself}
@@ -16,10 +17,9 @@ use Rattle.std.specs.Ordering.{is_eq}
 use Rattle.std.specs.declared.cmp.Ordering.{Ordering}
 use Rattle.std.specs.declared.cmp.Ordering.TheVariants.{Less, Equal, Greater}
 use Rattle.std.proofs.lemmas.Cmp.{nat_list_cmp_total}
-use Rattle.std.proofs.lemmas.List.{append-nil, get_or-map, length-map, map-append}
-use Rattle.std.proofs.lemmas.List.Elements.{All-cons, All-filter, All-map, All-nil, All-push, filter-append}
+use Rattle.std.proofs.lemmas.List.{append-nil, length-map, map-append}
+use Rattle.std.proofs.lemmas.List.Elements.{All-cons, All-nil, All-push, filter-append}
 use Rattle.std.proofs.lemmas.Map.Lookups.{exact_bytes}
-use Rattle.std.proofs.lemmas.Map.Made.{keys_of-map_values, lookup-map_values}
 use Rattle.olap_base.specs.Deciding.{contains_cons}
 use Rattle.olap_base.specs.Instance.{Instance}
 use Rattle.olap_base.specs.Limits.{most_count}
@@ -30,21 +30,18 @@ use Rattle.olap_cube.specs.CubeViews.{CubeFact, CubeRow, cube_direct_rows, cube_
 use Rattle.olap_cube.specs.Tuples.{IsTupleOf, TupleReaches, tuple_reaches, tuples_of}
 use Rattle.olap_cube.proofs.TupleLemmas.{is_tuple_of, tuple_reaches_is, tuples_of_is}
 use Rattle.olap_view.specs.Columns.{Ascent}
-use Rattle.olap_view.specs.Bounds.{IsJoinable, IsOfValues}
-use Rattle.olap_view.specs.Seen.{summary_of}
 use Rattle.olap_view.specs.Tables.{when}
-use Rattle.olap_view.specs.declared.summaries.Summary as told
-use Rattle.olap_view.proofs.SummaryLemmas.{joinable, of_values_more, total_of_value_list}
 use Rattle.olap_view.proofs.ViewingLemmas.{filter_map_same}
-use Rattle.olap_cube_views.specs.CubeTallies.{AreMembers, CubeStandsFor, CubeTallied, Entry, IsCubeTally, IsKeyOf, IsTupleAncestor, ReachesNone, entries_of, is_key, key_cmp, key_of, row_of_entry, summary_at, tallied}
+use Rattle.olap_cube_views.specs.CubeTallies.{AreMembers, CubeStandsFor, CubeTallied, Entry, IsCubeTally, IsKeyOf, IsOwn, IsTupleAncestor, IsWithin, ReachesNone, entries_of, is_key, key_cmp, key_of, row_of_entry, summary_at, tallied}
 use Rattle.olap_cube_views.specs.Dimensions.{categories_in, instances_in}
 use Rattle.olap_cube.specs.Limits.{most_dimensions}
-use Rattle.olap_cube_views.specs.Seen.{cube_row_of, cube_rows_of, members_of}
+use Rattle.olap_cube_views.specs.Seen.{cube_row_of, cube_rows_of}
 use Rattle.olap_cube_views.specs.declared.views.CubeRow as told_row
 use Rattle.olap_cube_views.proofs.AncestorLemmas.{tuple_length, tuple_members}
 use Rattle.olap_cube_views.proofs.KeyLemmas.{filled_same, take-filled}
 use Rattle.olap_cube_views.proofs.OrderLemmas.{keys-ascend}
 use Rattle.olap_cube_views.proofs.RowLemmas.{rows_are}
+use Rattle.olap_cube_views.proofs.SumLemmas.{summary_found, summary_push}
 
 -- ---- totals
 
@@ -77,36 +74,6 @@ total_more is fs f y =
     go false = ap (λ vs. total (map of_value vs)) (append-nil (cube_values_at is fs y))
         ∙ sym (⊕_none (total_of_cube_facts is fs y))
 
--- a test leaves no more items than there are
-filter_short : {A : Type 0} (p : A → Bool) (xs : List A) → length (filter p xs) ≤ length xs
-filter_short p [] = omega arith
-filter_short {A} p (x ∷ xs) = go (p x) (filter_short p xs)
-  where
-    go : (b : Bool) → length (filter p xs) ≤ length xs
-        → length (cond b (x ∷ filter p xs) (filter p xs)) ≤ suc (length xs)
-    go true h = omega arith
-    go false h = omega arith
-
--- what so many values come to, more may come to
-of_values : (o : Option Summary) (n k : ℕ) → n ≤ k → IfSome o (IsOfValues n) → IfSome o (IsOfValues k)
-of_values None n k h q = q
-of_values (Some s) n k h q = of_values_more n k s h q
-
--- what some facts come to at y
-total_is_of_values : (is : List Instance) (facts : List CubeFact) (y : List ℕ) → All (λ f. SFits w64 f.value) facts
-    → IfSome (total_of_cube_facts is facts y) (IsOfValues (length facts))
-total_is_of_values is facts y a =
-    of_values (total_of_cube_facts is facts y) (length (cube_values_at is facts y)) (length facts) short
-    (total_of_value_list (cube_values_at is facts y)
-    (All-map (SFits w64) (λ (f : CubeFact). f.value) (filter (λ f. tuple_reaches is f.members y) facts)
-    (All-filter (λ (f : CubeFact). tuple_reaches is f.members y) (λ (f : CubeFact). SFits w64 f.value) facts a)))
-  where
-    short : length (cube_values_at is facts y) ≤ length facts
-    short =
-        let e = length-map (filter (λ (f : CubeFact). tuple_reaches is f.members y) facts)
-        (λ (f : CubeFact). f.value) in
-        let l = filter_short (λ (f : CubeFact). tuple_reaches is f.members y) facts in omega arith
-
 -- ---- keys
 
 -- an ordering that passes the test is `Equal`
@@ -123,22 +90,26 @@ own_key p q e = ap is_eq (subst (λ w. key_cmp p w ≡ Equal) e (tied_itself nat
 pub same_key : (p q : List ℕ) → is_key p q ≡ true → p ≡ q
 same_key p q e = exact_bytes p q (equal (key_cmp p q) e)
 
--- what stands at a key of a map
-pub found_is : (entries : List (List ℕ × told.Summary)) (q : List ℕ)
-    → summary_at (entries_of entries) q ≡ option_map summary_of (lookup (is_at (key_cmp q)) entries)
-found_is entries q = lookup-map_values summary_of (is_at (key_cmp q)) entries
+-- an entry more
+pub pushed : (es : List Entry) (p : List ℕ) (v : Summary) (q : List ℕ) → summary_at (es ++ (p, v) ∷ []) q
+    ≡ (if is_key p q then summary_at es p ⊕ Some v else summary_at es q)
+pushed es p v q = summary_push es (p, v) q ∙ go (is_key p q) refl
+  where
+    other : (b : Bool) → is_key q p ≡ b → is_key p q ≡ false → b ≡ false
+    other true h e = absurd (cc (own_key p q (sym (same_key q p h)), e))
+    other false h e = refl
 
--- what stands at each key after a summary is joined at one
-pub joined_at : (old new : List (List ℕ × told.Summary)) (p : List ℕ) (v : Summary)
-    → ((q : List ℕ) → option_map summary_of (lookup (is_at (key_cmp q)) new)
-    ≡ (if is_key p q then option_map summary_of (lookup (is_at (key_cmp p)) old) ⊕ Some v
-    else option_map summary_of (lookup (is_at (key_cmp q)) old)))
-    → (q : List ℕ) → summary_at (entries_of new) q
-    ≡ (if is_key p q then summary_at (entries_of old) p ⊕ Some v else summary_at (entries_of old) q)
-joined_at old new p v h q = found_is new q ∙ h q
-    ∙ ap (λ o. if is_key p q then o ⊕ Some v else option_map summary_of (lookup (is_at (key_cmp q)) old))
-    (sym (found_is old p))
-    ∙ ap (λ o. if is_key p q then summary_at (entries_of old) p ⊕ Some v else o) (sym (found_is old q))
+    go : (b : Bool) → is_key p q ≡ b → summary_at es q ⊕ cond (is_key q p) (Some v) None
+        ≡ (if is_key p q then summary_at es p ⊕ Some v else summary_at es q)
+    go true e =
+        let k : p ≡ q = same_key p q e in
+        ap (λ b. summary_at es q ⊕ cond b (Some v) None) (own_key q p (sym k))
+        ∙ ap (λ r. summary_at es r ⊕ Some v) (sym k)
+        ∙ sym (ap (λ b. if b then summary_at es p ⊕ Some v else summary_at es q) e)
+    go false e =
+        ap (λ b. summary_at es q ⊕ cond b (Some v) None) (other (is_key q p) refl e)
+        ∙ ⊕_none (summary_at es q)
+        ∙ sym (ap (λ b. if b then summary_at es p ⊕ Some v else summary_at es q) e)
 
 -- ---- one fact more
 
@@ -230,39 +201,58 @@ module _ (t : CubeTallied) (facts : List CubeFact) (f : CubeFact) (s : CubeStand
     pub stands_joined : CubeStandsFor (with_entries t entries) (facts ++ f ∷ [])
     stands_joined = record { added = one_more; at = at_tuple; keys = at_key }
 
--- the same of a map's entries, where a summary is joined at the key of the tuple that the fact reaches
-pub fact_joined : {T E : Type 0} (o : Result T E) (columns : List Ascent) (old new : List (List ℕ × told.Summary))
-    (f : CubeFact) (y p : List ℕ) (v : Summary) → length columns ≤ most_dimensions
-    → IsTupleAncestor (instances_in columns) f.members (categories_in columns) y → p ≡ key_of y → v ≡ of_value f.value
-    → OnOk o ((q : List ℕ) → option_map summary_of (lookup (is_at (key_cmp q)) new)
-    ≡ (if is_key p q then option_map summary_of (lookup (is_at (key_cmp p)) old) ⊕ Some v
-    else option_map summary_of (lookup (is_at (key_cmp q)) old)))
-    → OnOk o ((n : ℕ) (facts : List CubeFact) → CubeStandsFor (tallied columns old n) facts
-    → CubeStandsFor (tallied columns new (n + 1)) (facts ++ f ∷ []))
-fact_joined (Ok u) columns old new f y p v few r k e h = λ n facts s.
+-- the same of rows, where the row of the fact's value is added
+pub fact_joined : (columns : List Ascent) (old new : List told_row.CubeRow) (f : CubeFact) (y p : List ℕ) (e : Entry)
+    → length columns ≤ most_dimensions
+    → IsTupleAncestor (instances_in columns) f.members (categories_in columns) y → p ≡ key_of y
+    → e ≡ (p, of_value f.value)
+    → ((q : List ℕ) → summary_at (entries_of new) q ≡ summary_at (entries_of old ++ e ∷ []) q)
+    → (n : ℕ) (facts : List CubeFact) → CubeStandsFor (tallied columns old n) facts
+    → CubeStandsFor (tallied columns new (n + 1)) (facts ++ f ∷ [])
+fact_joined columns old new f y p e few r k is h = λ n facts s.
     let l = length-map columns (λ (a : Ascent). a.instance) in
     stands_joined (tallied columns old n) facts f s (entries_of new) y p r k (omega arith)
-    (λ q. subst (λ w. summary_at (entries_of new) q
-    ≡ (if is_key p q then summary_at (entries_of old) p ⊕ Some w else summary_at (entries_of old) q)) e
-    (joined_at old new p v h q))
-fact_joined (Err u) columns old new f y p v few r k e h = h
+    (λ q. h q ∙ ap (λ (d : Entry). summary_at (entries_of old ++ d ∷ []) q) is
+    ∙ pushed (entries_of old) p (of_value f.value) q)
 
 -- and where the fact reaches none
-pub fact_apart : (columns : List Ascent) (entries : List (List ℕ × told.Summary)) (f : CubeFact)
+pub fact_apart : (columns : List Ascent) (rows : List told_row.CubeRow) (f : CubeFact)
     → ReachesNone (instances_in columns) f.members (categories_in columns) → (n : ℕ) (facts : List CubeFact)
-    → CubeStandsFor (tallied columns entries n) facts
-    → CubeStandsFor (tallied columns entries (n + 1)) (facts ++ f ∷ [])
-fact_apart columns entries f none n facts s = stands_apart (tallied columns entries n) facts f s none
+    → CubeStandsFor (tallied columns rows n) facts → CubeStandsFor (tallied columns rows (n + 1)) (facts ++ f ∷ [])
+fact_apart columns rows f none n facts s = stands_apart (tallied columns rows n) facts f s none
+
+-- where the same stands at each key, a tally stands for the same facts
+pub stands_same : (t : CubeTallied) (entries : List Entry) → ((q : List ℕ) → summary_at entries q ≡ summary_at t.entries q)
+    → (facts : List CubeFact) → CubeStandsFor t facts → CubeStandsFor (record t { entries = entries }) facts
+stands_same t entries h facts s = record {
+  added = s.added;
+  at = λ y m. h (key_of y) ∙ s.at y m;
+  keys = λ q w. s.keys q (subst IsSome (h q) w);
+}
+
+-- so it is a tally
+pub tally_same : (t : CubeTallied) → IsCubeTally t → (entries : List Entry)
+    → ((q : List ℕ) → summary_at entries q ≡ summary_at t.entries q) → IsWithin t.added entries
+    → IsCubeTally (record t { entries = entries })
+tally_same t i entries h w = record {
+  dimensions = i.dimensions;
+  few = i.few;
+  within = w;
+  facts = i.facts;
+  values = i.values;
+  stands = stands_same t entries h i.facts i.stands;
+}
 
 -- ---- every tally
 
 -- a tally with one fact more is one
 pub tally_more : (t : CubeTallied) (q : IsCubeTally t) (f : CubeFact) (entries : List Entry) → t.added + 1 ≤ most_count
-    → SFits w64 f.value → CubeStandsFor (with_entries t entries) (q.facts ++ f ∷ [])
+    → SFits w64 f.value → IsWithin (t.added + 1) entries → CubeStandsFor (with_entries t entries) (q.facts ++ f ∷ [])
     → IsCubeTally (with_entries t entries)
-tally_more t q f entries h v s = record {
+tally_more t q f entries h v w s = record {
   dimensions = q.dimensions;
   few = h;
+  within = w;
   facts = q.facts ++ f ∷ [];
   values = All-push (λ (f : CubeFact). SFits w64 f.value) q.facts f q.values v;
   stands = s;
@@ -279,29 +269,11 @@ pub tally_start : (is : List Instance) (c : List ℕ) → length is ≤ most_dim
 tally_start is c few = record {
   dimensions = few;
   few = omega arith;
+  within = record { each = All-nil IsOwn; all = omega arith };
   facts = [];
   values = All-nil (λ (f : CubeFact). SFits w64 f.value);
   stands = stands_start is c;
 }
-
--- what stands at a key has room for one value more
-pub room : (t : CubeTallied) → IsCubeTally t → (q : List ℕ)
-    → IfSome (summary_at t.entries q) IsJoinable
-room t k q = go (summary_at t.entries q) refl
-  where
-    small : (o : Option Summary) → IfSome o (IsOfValues (length k.facts)) → IfSome o IsJoinable
-    small None h = h
-    small (Some s) h = let a = k.few in let b = k.stands.added in
-        joinable (length k.facts) (length k.facts * 2 ^ 63) s (omega arith) (omega arith) h.up_to
-
-    go : (o : Option Summary) → summary_at t.entries q ≡ o → IfSome o IsJoinable
-    go None e = tt
-    go (Some s) e =
-        let y = k.stands.keys q (subst IsSome (sym e) refl) in
-        let at : total_of_cube_facts t.instances k.facts y.0 ≡ Some s =
-        sym (k.stands.at y.0 y.1) ∙ ap (summary_at t.entries) (sym y.2) ∙ e in
-        subst (λ o. IfSome o IsJoinable) at
-        (small (total_of_cube_facts t.instances k.facts y.0) (total_is_of_values t.instances k.facts y.0 k.values))
 
 -- ---- rows
 
@@ -313,9 +285,10 @@ direct_rows_are t facts few s o =
     rows_are key_cmp nat_list_cmp_total exact_bytes key_of (λ y x. record { members = y; summary = x })
     (row_of_entry (length t.instances)) (tuples_of t.instances t.target) t.entries reads
     (keys-ascend t.instances t.target few) o keys
-    ∙ filter_map_same (λ y. cube_row_at y (summary_at t.entries (key_of y)))
+    ∙ filter_map_same (λ y. cube_row_at y (lookup (is_at (key_cmp (key_of y))) t.entries))
     (λ y. cube_row_at y (total_of_cube_facts t.instances facts y)) (tuples_of t.instances t.target)
-    (λ y c. ap (cube_row_at y) (s.at y (tuples_of_is t.instances t.target y c)))
+    (λ y c. ap (cube_row_at y)
+    (sym (summary_found t.entries o (key_of y)) ∙ s.at y (tuples_of_is t.instances t.target y c)))
   where
     reads : (y : List ℕ) → Contains (tuples_of t.instances t.target) y → (x : Summary)
         → row_of_entry (length t.instances) (key_of y, x) ≡ record { members = y; summary = x }
@@ -324,9 +297,10 @@ direct_rows_are t facts few s o =
         ap (λ ys. record { members = ys; summary = x })
         (ap (λ j. take j (key_of y)) (sym n) ∙ take-filled most_dimensions y (omega arith))
 
-    keys : (q : List ℕ) → IsSome (summary_at t.entries q)
+    keys : (q : List ℕ) → IsSome (lookup (is_at (key_cmp q)) t.entries)
         → (y : List ℕ) × Contains (tuples_of t.instances t.target) y × (key_of y ≡ q)
-    keys q w = let y = s.keys q w in (y.0, is_tuple_of t.instances t.target y.0 y.1, sym y.2)
+    keys q w = let y = s.keys q (subst IsSome (sym (summary_found t.entries o q)) w) in
+        (y.0, is_tuple_of t.instances t.target y.0 y.1, sym y.2)
 
 -- each row of a direct view stands at members
 rows_members : (is : List Instance) (h : List ℕ → Option Summary) (ts : List (List ℕ))
@@ -344,19 +318,26 @@ rows_members is h (y ∷ ys) f =
     cons (Some s) m a = All-cons (λ (r : CubeRow). AreMembers is r.members) (record { members = y; summary = s })
         (filter_map (λ y. cube_row_at y (h y)) ys) m a
 
--- each row of a direct view, as the code has it, stands at members
-pub told_members : (is : List Instance) (c : List ℕ) (facts : List CubeFact) (rows : List told_row.CubeRow)
-    → cube_rows_of rows ≡ cube_direct_rows is c facts → All (λ r. AreMembers is (members_of r.members)) rows
-told_members is c facts rows e k d l =
-    let n = length-map rows cube_row_of in
-    let h : k < length (cube_rows_of rows) = omega arith in
-    let at : All (λ (r : CubeRow). AreMembers is r.members) (cube_rows_of rows) =
+-- the rows of a direct view stand at members
+pub direct_members : (is : List Instance) (c : List ℕ) (facts : List CubeFact) (rows : List CubeRow)
+    → rows ≡ cube_direct_rows is c facts → All (λ r. AreMembers is r.members) rows
+direct_members is c facts rows e =
     subst (All (λ (r : CubeRow). AreMembers is r.members)) (sym e)
     (rows_members is (total_of_cube_facts is facts) (tuples_of is c)
-    (λ y m. tuple_members is c y (tuples_of_is is c y m))) in
-    subst (λ (r : CubeRow). AreMembers is r.members) (get_or-map cube_row_of rows k d (cube_row_of d) l)
-    (at k (cube_row_of d) h)
+    (λ y m. tuple_members is c y (tuples_of_is is c y m)))
 
--- entries have the keys of what they stand for
-pub entry_keys : (entries : List (List ℕ × told.Summary)) → keys_of (entries_of entries) ≡ keys_of entries
-entry_keys entries = keys_of-map_values summary_of entries
+-- the rows that structs stand for are those of their entries
+pub rows_of_entries : (k : ℕ) (rows : List told_row.CubeRow)
+    → cube_rows_of k rows ≡ map (row_of_entry k) (entries_of rows)
+rows_of_entries k [] = refl
+rows_of_entries k (r ∷ rows) = ap (λ t. cube_row_of k r ∷ t) (rows_of_entries k rows)
+
+-- joined rows, in order, are those of the direct view
+pub told_rows : (t : CubeTallied) (facts : List CubeFact) (rows : List told_row.CubeRow)
+    → length t.instances ≤ most_dimensions → CubeStandsFor t facts
+    → ((q : List ℕ) → summary_at (entries_of rows) q ≡ summary_at t.entries q)
+    → IsStrictlySortedBy key_cmp (keys_of (entries_of rows))
+    → cube_rows_of (length t.instances) rows ≡ cube_direct_rows t.instances t.target facts
+told_rows t facts rows few s h o =
+    rows_of_entries (length t.instances) rows
+    ∙ direct_rows_are (record t { entries = entries_of rows }) facts few (stands_same t (entries_of rows) h facts s) o

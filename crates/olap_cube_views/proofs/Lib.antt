@@ -1,5 +1,7 @@
 -- Lemmas.
 mod RowLemmas
+mod PermutedLemmas
+mod SumLemmas
 mod KeyLemmas
 mod AncestorLemmas
 mod OrderLemmas

@@ -80,17 +80,17 @@ module _ {T K X B : Type 0} (R : K → K → Ordering) (o : IsTotalOrder R) (exa
   none-found (t ∷ ts) = none-found ts
 
   -- at the first entry's key stands what that entry has
-  at_head : (q : K) (e : K × X) (es : List (K × X)) → R q e.0 ≡ Equal → found (e ∷ es) q ≡ Some e.1
+  pub at_head : (q : K) (e : K × X) (es : List (K × X)) → R q e.0 ≡ Equal → found (e ∷ es) q ≡ Some e.1
   at_head q e es h = lookup_head (is_at (R q)) e es (ap is_eq h)
 
   -- after the first entry nothing stands at its key
-  past : (q : K) (e : K × X) (es : List (K × X)) → IsStrictlySortedBy R (keys_of (e ∷ es)) → R q e.0 ≡ Equal
+  pub past : (q : K) (e : K × X) (es : List (K × X)) → IsStrictlySortedBy R (keys_of (e ∷ es)) → R q e.0 ≡ Equal
       → found es q ≡ None
   past q e es s h = lookup-none (is_at (R q)) es
       (none_past_head (eq_by_cmp_equiv o) q e es (IsDistinct-from_sorted R (keys_of (e ∷ es)) s) (ap is_eq h))
 
   -- at another key than the first entry's stands what the entries after it have there
-  not_head : (q : K) (e : K × X) (es : List (K × X)) → is_eq (R q e.0) ≡ false → found (e ∷ es) q ≡ found es q
+  pub not_head : (q : K) (e : K × X) (es : List (K × X)) → is_eq (R q e.0) ≡ false → found (e ∷ es) q ≡ found es q
   not_head q e es h = lookup_tail (is_at (R q)) e es h
 
   -- at a key below the first entry's stands nothing

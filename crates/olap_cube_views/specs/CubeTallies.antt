@@ -1,26 +1,30 @@
 -- A tally of a cube's facts: what the values come to, by tuples of the target's members.
 --     key_of           the key of a tuple: its members, and zeros up to four numbers
 --     IsTupleAncestor  the one tuple of the target that a tuple reaches
+--     summary_at       what stands at a key
+--     IsWithin         the entries are of so many values at most
 --     CubeTallied      what a tally has counted
 --     CubeStandsFor    it stands for a fact table
 --     IsCubeTally      what is true of every tally
-use Rattle.std.specs.Prelude.{◌≡◌, Bool, ℕ, zero, suc, ◌≤◌, List, [], ◌∷◌, length, map, take, All, FitsSigned, Option, IsSome}
+use Rattle.std.specs.Prelude.{◌≡◌, ◌*◌, ◌^◌, Bool, ℕ, zero, suc, ◌≤◌, List, [], ◌∷◌, length, filter, map, sum_by, take, All, FitsSigned, Ok, Option, IsSome}
 use Rattle.std.specs.Cmp.Lexicographic.{slice_cmp}
 use Rattle.std.specs.Int.{w64}
 use Rattle.std.specs.BTreeMap.{is_at}
-use Rattle.std.specs.Map.{lookup}
 use Rattle.std.specs.Ordering.{nat_cmp}
 use Rattle.std.specs.declared.cmp.Ordering.{Ordering}
+use Rattle.olap_base.specs.Graph.{Graph}
 use Rattle.olap_base.specs.Instance.{Instance, IsMember}
 use Rattle.olap_base.specs.Limits.{most_count}
-use Rattle.olap_base.specs.Summaries.{Summary}
+use Rattle.olap_base.specs.Summaries.{Summary, total}
 use Rattle.olap_cube.specs.CubeViews.{CubeFact, CubeRow, total_of_cube_facts}
 use Rattle.olap_cube.specs.Tuples.{IsTupleOf, TupleReaches}
 use Rattle.olap_view.specs.Columns.{Ascent}
-use Rattle.olap_view.specs.Seen.{summary_of}
-use Rattle.olap_view.specs.declared.summaries.Summary as told
+use Rattle.olap_view.specs.Bounds.{IsUpTo}
 use Rattle.olap_cube.specs.Limits.{most_dimensions}
+use Rattle.olap_cube_views.specs.CubeFactText.{cube_facts_read}
 use Rattle.olap_cube_views.specs.Dimensions.{categories_in, instances_in}
+use Rattle.olap_cube_views.specs.Seen.{entry_of}
+use Rattle.olap_cube_views.specs.declared.views.CubeRow as told_row
 
 -- ---- the tuple that a fact reaches
 
@@ -60,17 +64,26 @@ key_cmp = slice_cmp nat_cmp
 abbrev pub is_key : List ℕ → List ℕ → Bool
 is_key p q = is_at (key_cmp p) q
 
--- a key with its summary
+-- a key with a summary
 abbrev pub Entry : Type 0
 Entry = List ℕ × Summary
 
--- the entries that a map's entries stand for
-abbrev pub entries_of : List (List ℕ × told.Summary) → List Entry
-entries_of entries = map (λ e. (e.0, summary_of e.1)) entries
+-- the entries of rows
+abbrev pub entries_of : List told_row.CubeRow → List Entry
+entries_of rows = map entry_of rows
 
--- the summary at a key
+-- what stands at a key: all that its entries come to
 abbrev pub summary_at : List Entry → List ℕ → Option Summary
-summary_at entries q = lookup (is_at (key_cmp q)) entries
+summary_at entries q = total (map (λ e. e.1) (filter (λ e. is_key q e.0) entries))
+
+-- a summary of as many values of 64 bits as its count says
+abbrev pub IsOwn : Entry → Type 0
+IsOwn e = IsUpTo e.1.count (e.1.count * 2 ^ 63) e.1
+
+-- the entries' summaries are of so many values of 64 bits at most, all together
+pub record IsWithin (n : ℕ) (entries : List Entry) : Type 0 where
+  pub each : All IsOwn entries
+  pub all : sum_by (λ e. e.1.count) entries ≤ n
 
 -- the row of an entry, where there are so many dimensions
 abbrev pub row_of_entry : ℕ → Entry → CubeRow
@@ -97,19 +110,26 @@ pub record CubeStandsFor (t : CubeTallied) (facts : List CubeFact) : Type 0 wher
       → summary_at t.entries (key_of y) ≡ total_of_cube_facts t.instances facts y
   pub keys : (q : List ℕ) → IsSome (summary_at t.entries q) → IsKeyOf t.instances t.target q
 
+-- the records stand for facts, and it stands for those
+pub record HasTallied (gs : List Graph) (is : List Instance) (records : List (List (List ℕ))) (t : CubeTallied) : Type 0 where
+  pub facts : List CubeFact
+  pub read : cube_facts_read gs is records ≡ Ok facts
+  pub stands : CubeStandsFor t facts
+
 -- it stands for some fact table whose values are of 64 bits
 pub record IsCubeTally (t : CubeTallied) : Type 0 where
   pub dimensions : length t.instances ≤ most_dimensions
   pub few : t.added ≤ most_count
+  pub within : IsWithin t.added t.entries
   pub facts : List CubeFact
   pub values : All (λ f. FitsSigned w64 f.value) facts
   pub stands : CubeStandsFor t facts
 
--- what a tally over columns and a map's entries has counted
-abbrev pub tallied : List Ascent → List (List ℕ × told.Summary) → ℕ → CubeTallied
-tallied columns entries n = record {
+-- what a tally over columns and rows has counted
+abbrev pub tallied : List Ascent → List told_row.CubeRow → ℕ → CubeTallied
+tallied columns rows n = record {
   instances = instances_in columns;
   target = categories_in columns;
   added = n;
-  entries = entries_of entries;
+  entries = entries_of rows;
 }

@@ -2,12 +2,13 @@
 --     members_of      the numbers of members
 --     fact_at         a value at members
 --     cube_fact_of    a fact; cube_facts_of a table
---     cube_row_of     a row; cube_rows_of rows in order
+--     entry_of        a row as a pair; cube_row_of a row; cube_rows_of rows in order
 --     cube_view_of    a view
-use Rattle.std.specs.Prelude.{ℕ, ℤ, List, map}
+use Rattle.std.specs.Prelude.{ℕ, ℤ, List, length, map, take}
 use Rattle.olap_base.specs.declared.ids.MemberId.{MemberId}
+use Rattle.olap_base.specs.Summaries.{Summary}
 use Rattle.olap_cube.specs.CubeViews.{CubeFact, CubeRow, CubeView}
-use Rattle.olap_view.specs.Seen.{ids}
+use Rattle.olap_view.specs.Seen.{ids, summary_of}
 use Rattle.olap_cube_views.specs.declared.tables.CubeFact as told_fact
 use Rattle.olap_cube_views.specs.declared.tables.CubeFacts.{CubeFacts}
 use Rattle.olap_cube_views.specs.declared.views.CubeRow as told_row
@@ -29,17 +30,18 @@ cube_fact_of f = fact_at f.members f.value
 abbrev pub cube_facts_of : CubeFacts → List CubeFact
 cube_facts_of facts = map cube_fact_of facts.rows
 
--- the row that a struct stands for
-abbrev pub cube_row_of : told_row.CubeRow → CubeRow
-cube_row_of r = record {
-  members = members_of r.members;
-  summary = record { count = r.count; sum = r.sum; least = r.least; greatest = r.greatest };
-}
+-- a row as its members, with the first member where there is no dimension, and what is at them
+abbrev pub entry_of : told_row.CubeRow → List ℕ × Summary
+entry_of r = (r.members.places, summary_of r.summary)
+
+-- the row that a struct stands for, where there are so many dimensions
+abbrev pub cube_row_of : ℕ → told_row.CubeRow → CubeRow
+cube_row_of k r = record { members = take k r.members.places; summary = summary_of r.summary }
 
 -- the rows that structs stand for
-abbrev pub cube_rows_of : List told_row.CubeRow → List CubeRow
-cube_rows_of rows = map cube_row_of rows
+abbrev pub cube_rows_of : ℕ → List told_row.CubeRow → List CubeRow
+cube_rows_of k rows = map (cube_row_of k) rows
 
 -- the view that a struct stands for
 abbrev pub cube_view_of : told_view.CubeView → CubeView
-cube_view_of v = record { target = ids v.target; rows = cube_rows_of v.rows }
+cube_view_of v = record { target = ids v.target; rows = cube_rows_of (length v.target) v.rows }

@@ -9,6 +9,7 @@
 mod legals;
 mod printing;
 mod reading;
+mod sums;
 mod tables;
 mod tallies;
 mod target_columns;
@@ -21,4 +22,4 @@ pub use reading::read_cube_facts;
 pub use tables::{CubeFact, CubeFacts};
 pub use target_columns::TargetColumns;
 pub use viewing::{cube_direct, cube_roll_up};
-pub use views::{CubeRow, CubeView};
+pub use views::{CubeRow, CubeView, Members};

@@ -1,12 +1,12 @@
 // Views of cubes as CSV texts.
-ghost use Rattle.std.specs.Prelude.{◌≡◌, ◌+◌, ◌++◌, ◌≤◌, All, IfOk, OnOk, length};
+ghost use Rattle.std.specs.Prelude.{◌≡◌, ◌+◌, ◌++◌, ◌≤◌, All, IfOk, OnOk, length, take};
 ghost use Rattle.olap_records.specs.Records.{records_of};
 ghost use Rattle.olap_records.specs.Texts.{text_of_row};
 ghost use Rattle.olap_cube_views.specs.CubeTallies.{AreMembers};
 ghost use Rattle.olap_cube_views.specs.CubeViewText.{cube_view_text, fields_in, header, records_of_cube_view};
 ghost use Rattle.olap_cube.specs.Limits.{most_dimensions};
 ghost use Rattle.olap_cube_views.specs.Dimensions.{instances_in, instances_of};
-ghost use Rattle.olap_cube_views.specs.Seen.{cube_row_of, cube_view_of, members_of};
+ghost use Rattle.olap_cube_views.specs.Seen.{cube_row_of, cube_view_of};
 
 use crate::{CubeRow, CubeView, Legals, TargetColumns};
 use itoa::Buffer;
@@ -48,10 +48,13 @@ fn print_row(
     row: &CubeRow,
 ) -> Result<(), Memory>
     requires width { out.old.width ≡ length instances.now + 4 }
-    requires members { AreMembers (instances_of instances.now) (members_of row.now.members) }
+    requires few { length instances.now ≤ most_dimensions }
+    requires members { AreMembers (instances_of instances.now)
+        (take (length (instances_of instances.now)) row.now.members.places) }
     ensures text { OnOk result (out.new.text
         ≡ out.old.text
-        ++ text_of_row (fields_in (instances_of instances.now) (cube_row_of row.now))) }
+        ++ text_of_row (fields_in (instances_of instances.now)
+        (cube_row_of (length (instances_of instances.now)) row.now))) }
     ensures width { out.new.width ≡ out.old.width }
 {
     let mut count = Buffer::new();
@@ -60,14 +63,13 @@ fn print_row(
     let mut greatest = Buffer::new();
     let mut fields: Vec<&[u8]> = Vec::new(alloc);
     'ids: for k in 0..instances.len() {
-        let member = row.members.items()[k];
-        fields.push(instances[k].id(member))?;
+        fields.push(instances[k].id(row.members.member(k)))?;
     }
     fields.extend_from_slice(&[
-        count.format(row.count).as_bytes(),
-        sum.format(row.sum).as_bytes(),
-        least.format(row.least).as_bytes(),
-        greatest.format(row.greatest).as_bytes(),
+        count.format(row.summary.count).as_bytes(),
+        sum.format(row.summary.sum).as_bytes(),
+        least.format(row.summary.least).as_bytes(),
+        greatest.format(row.summary.greatest).as_bytes(),
     ])?;
     out.row(&fields)
 }
@@ -76,7 +78,7 @@ fn print_row(
 fn print(alloc: Global, instances: &[&Instance], view: &CubeView) -> Result<Vec<u8>, Memory>
     requires few { length instances.now ≤ most_dimensions }
     requires at_members { All (λ r.
-        AreMembers (instances_of instances.now) (members_of r.members)) view.now.rows }
+        AreMembers (instances_of instances.now) r.members) (cube_view_of view.now).rows }
     ensures { IfOk result
         (λ bytes. bytes.items ≡ cube_view_text (instances_of instances.now) (cube_view_of view.now)) }
 {
@@ -92,7 +94,7 @@ fn print(alloc: Global, instances: &[&Instance], view: &CubeView) -> Result<Vec<
 fn text(alloc: Global, instances: &[&Instance], view: &CubeView) -> Result<Text, Memory>
     requires few { length instances.now ≤ most_dimensions }
     requires at_members { All (λ r.
-        AreMembers (instances_of instances.now) (members_of r.members)) view.now.rows }
+        AreMembers (instances_of instances.now) r.members) (cube_view_of view.now).rows }
     ensures text { IfOk result
         (λ text. text ≡ cube_view_text (instances_of instances.now) (cube_view_of view.now)) }
     ensures reads { IfOk result (λ text.
@@ -105,7 +107,7 @@ fn text(alloc: Global, instances: &[&Instance], view: &CubeView) -> Result<Text,
 /// the members' ids and the four numbers in decimal. Its records read back as the header and these fields. `Memory`:
 /// out of memory.
 pub fn print_cube_view(alloc: Global, legals: &Legals, view: &CubeView) -> Result<Text, Memory>
-    requires at_members { All (λ r. AreMembers legals.now (members_of r.members)) view.now.rows }
+    requires at_members { All (λ r. AreMembers legals.now r.members) (cube_view_of view.now).rows }
 
     ensures text { IfOk result (λ text. text ≡ cube_view_text legals.now (cube_view_of view.now)) }
     ensures reads { IfOk result
@@ -122,7 +124,7 @@ pub fn print_rolled_up(
     view: &CubeView,
 ) -> Result<Text, Memory>
     requires at_members { All (λ r.
-        AreMembers (instances_in columns.now) (members_of r.members)) view.now.rows }
+        AreMembers (instances_in columns.now) r.members) (cube_view_of view.now).rows }
 
     ensures text { IfOk result
         (λ text. text ≡ cube_view_text (instances_in columns.now) (cube_view_of view.now)) }

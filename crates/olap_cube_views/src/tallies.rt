@@ -1,35 +1,27 @@
 // A tally of a cube's facts: what the values come to, at each tuple of the target's members that some fact reaches.
-ghost use Rattle.std.specs.BTreeMap.{IsOrdered, IsUnchanged, get};
-ghost use Rattle.std.specs.Option.{option_map};
-ghost use Rattle.std.specs.Prelude.{◌≡◌, ◌+◌, ◌++◌, ◌∷◌, ◌<◌, ◌≤◌, ◌^◌, ℕ, All, IfOk, IfSome, IsNone, List as Items, None, OnErr, OnOk, Some, [], if◌then◌else◌, length, map, take};
+ghost use Rattle.std.specs.Prelude.{◌≡◌, ◌+◌, ◌++◌, ◌∷◌, ◌<◌, ◌≤◌, ℕ, All, IfOk, IfSome, IsNone, List as Items, OnErr, OnOk, [], length};
 ghost use Rattle.olap_base.specs.Limits.{most_count};
-ghost use Rattle.olap_base.specs.Summaries.{of_value, ◌⊕◌};
 ghost use Rattle.olap_cube.specs.CubeViews.{CubeFact as TheFact, cube_direct_rows};
-ghost use Rattle.olap_view.specs.Bounds.{IsJoinable};
-ghost use Rattle.olap_view.specs.Seen.{ids, summary_of};
-ghost use Rattle.olap_cube_views.specs.CubeTallies.{AreMembers, CubeStandsFor, IsTupleAncestor, ReachesNone, entries_of, is_key, key_cmp, key_of, row_of_entry, summary_at, tallied};
+ghost use Rattle.olap_view.specs.Seen.{ids};
+ghost use Rattle.olap_cube_views.specs.CubeTallies.{AreMembers, CubeStandsFor, IsTupleAncestor, IsWithin, ReachesNone, entries_of, key_of, summary_at, tallied};
 ghost use Rattle.olap_cube.specs.Limits.{most_dimensions};
 ghost use Rattle.olap_cube_views.specs.Dimensions.{categories_in, instances_in};
-ghost use Rattle.olap_cube_views.specs.Seen.{cube_fact_of, cube_row_of, cube_rows_of, fact_at, members_of};
+ghost use Rattle.olap_cube_views.specs.Seen.{cube_rows_of, fact_at, members_of};
 
-use crate::{CubeFact, CubeRow, Legals};
-use olap_base::{CatId, List, MemberId, Memory};
+use crate::sums::{Sums, join_rows};
+use crate::{CubeRow, Legals, Members};
+use olap_base::{CatId, MemberId, Memory};
 use olap_cube::MOST_DIMENSIONS;
-use olap_view::{Column, Summary};
+use olap_view::Column;
 use std::alloc::Global;
-use std::collections::BTreeMap;
 use std::marker::Model;
-
-/// The members of a tuple, in order of the dimensions, and zeros after them: of one target all have as many. Keys
-/// ascend as tuples do in file order.
-type Key = [u32; MOST_DIMENSIONS];
 
 /// What the values of the facts that were added come to, at each tuple of members of a target.
 #[derive(Drop)]
 pub(crate) struct CubeTally<'a> {
     // For each dimension the member of the target's category that each member reaches.
     columns: Vec<Column<'a>>,
-    summaries: BTreeMap<Key, Summary>,
+    sums: Sums,
     added: u64,
 }
 
@@ -38,9 +30,9 @@ impl<'a> Model for CubeTally<'a> {
 
     ghost Value = { CubeTallied };
 
-    ghost view = { λ a. tallied a.columns.items a.summaries.entries a.added };
+    ghost view = { λ a. tallied a.columns.items a.sums.rows.items a.added };
 
-    ghost invariant = { λ a. IsCubeTally (tallied a.columns.items a.summaries.entries a.added) };
+    ghost invariant = { λ a. IsCubeTally (tallied a.columns.items a.sums.rows.items a.added) };
 }
 
 /// For each dimension the column of the target's category. It takes four bytes for each member of the instances.
@@ -61,13 +53,13 @@ pub(crate) fn columns<'a>(
     Ok(columns)
 }
 
-/// The key of the one tuple of the target's members that these members reach, if there is one.
-fn key(columns: &[Column], members: &[MemberId]) -> Option<Key>
+/// The one tuple of the target's members that these members reach, if there is one, and first members after it.
+fn key(columns: &[Column], members: &[MemberId]) -> Option<Members>
     requires few { length columns.now ≤ most_dimensions }
     requires members { AreMembers (instances_in columns.now) (members_of members.now) }
     ensures some { IfSome result (λ q. (y : Items ℕ)
         × IsTupleAncestor (instances_in columns.now) (members_of members.now)
-        (categories_in columns.now) y × (q ≡ key_of y)) }
+        (categories_in columns.now) y × (q.places ≡ key_of y)) }
     ensures none { IsNone result
         → ReachesNone (instances_in columns.now) (members_of members.now) (categories_in columns.now) }
 {
@@ -78,94 +70,35 @@ fn key(columns: &[Column], members: &[MemberId]) -> Option<Key>
             None => return None,
         }
     }
-    Some(key)
+    Some(Members { places: key })
 }
 
-/// Joins a summary to what stands at a key.
-fn join(summaries: &mut BTreeMap<Key, Summary>, key: Key, summary: Summary) -> Result<(), Memory>
-    requires this { IsJoinable (summary_of summary) }
-    requires there { IfSome (option_map summary_of (get key_cmp summaries.old key))
-        IsJoinable }
-    ensures ok { OnOk result ((q : Items ℕ) → option_map summary_of (get key_cmp summaries.new q)
-        ≡ (if is_key key q
-        then option_map summary_of (get key_cmp summaries.old key) ⊕ Some (summary_of summary)
-        else option_map summary_of (get key_cmp summaries.old q))) }
-    ensures err { OnErr result (IsUnchanged summaries.old summaries.new) }
-{
-    let there = summaries.get(&key).copied();
-    summaries.insert(key, summary.beside(there))?;
-    Ok(())
-}
-
-/// Joins a value to what stands at the tuple that these members reach, if they reach one: what stood for some facts
-/// stands for them and this one after them.
-fn join_fact(
+/// Adds a value at the tuple that these members reach, if they reach one: what stood for some facts stands for them and
+/// this one after them.
+fn add_fact(
     columns: &[Column],
-    summaries: &mut BTreeMap<Key, Summary>,
+    sums: &mut Sums,
     members: &[MemberId],
     value: i64,
 ) -> Result<(), Memory>
     requires few { length columns.now ≤ most_dimensions }
     requires members { AreMembers (instances_in columns.now) (members_of members.now) }
-    requires room { (q : Items ℕ)
-        → IfSome (summary_at (entries_of summaries.old.entries) q) IsJoinable }
+    requires within { IsWithin most_count (entries_of sums.old.rows.items) }
     ensures stands { OnOk result ((n : ℕ) (facts : Items TheFact)
-        → CubeStandsFor (tallied columns.now summaries.old.entries n) facts
-        → CubeStandsFor (tallied columns.now summaries.new.entries (n + 1))
+        → CubeStandsFor (tallied columns.now sums.old.rows.items n) facts
+        → CubeStandsFor (tallied columns.now sums.new.rows.items (n + 1))
         (facts ++ fact_at members.now value ∷ [])) }
-    ensures err { OnErr result (IsUnchanged summaries.old summaries.new) }
+    ensures within { OnOk result ((n : ℕ) → IsWithin n (entries_of sums.old.rows.items)
+        → IsWithin (n + 1) (entries_of sums.new.rows.items)) }
+    ensures err { OnErr result ((q : Items ℕ) → summary_at (entries_of sums.new.rows.items) q
+        ≡ summary_at (entries_of sums.old.rows.items) q) }
+    ensures left { OnErr result ((n : ℕ) → IsWithin n (entries_of sums.old.rows.items)
+        → IsWithin n (entries_of sums.new.rows.items)) }
 {
     match key(columns, members) {
-        Some(key) => join(summaries, key, Summary::of_value(value)),
+        Some(key) => sums.add(key, value),
         None => Ok(()),
     }
-}
-
-/// The members of a key's tuple.
-fn members(alloc: Global, key: &Key, dimensions: usize) -> Result<Vec<MemberId>, Memory>
-    requires { dimensions ≤ most_dimensions }
-    ensures { IfOk result (λ v. members_of v.items ≡ take dimensions key.now) }
-{
-    let mut members = Vec::new(alloc);
-    'dimensions: for k in 0..dimensions {
-        members.push(MemberId(key[k]))?;
-    }
-    Ok(members)
-}
-
-/// The row of a key's tuple.
-fn row(alloc: Global, key: &Key, dimensions: usize, summary: &Summary) -> Result<CubeRow, Memory>
-    requires { dimensions ≤ most_dimensions }
-    ensures { IfOk result
-        (λ r. cube_row_of r ≡ row_of_entry dimensions (key.now, summary_of summary.now)) }
-{
-    let members = members(alloc, key, dimensions)?;
-    Ok(CubeRow {
-        members: List::from_vec(members),
-        count: summary.count,
-        sum: summary.sum,
-        least: summary.least,
-        greatest: summary.greatest,
-    })
-}
-
-/// The rows of a map's entries, in the order of their keys.
-fn rows(
-    alloc: Global,
-    summaries: &BTreeMap<Key, Summary>,
-    dimensions: usize,
-) -> Result<Vec<CubeRow>, Memory>
-    requires { dimensions ≤ most_dimensions }
-    ensures rows { IfOk result (λ v.
-        cube_rows_of v.items ≡ map (row_of_entry dimensions) (entries_of summaries.now.entries)) }
-    ensures order { IfOk result (λ v. IsOrdered key_cmp summaries.now) }
-{
-    let mut rows = Vec::new(alloc);
-    'entries: for (key, summary) in summaries.iter() {
-        let row = row(alloc, key, dimensions, summary)?;
-        rows.push(row)?;
-    }
-    Ok(rows)
 }
 
 impl<'a> CubeTally<'a> {
@@ -178,7 +111,7 @@ impl<'a> CubeTally<'a> {
     {
         CubeTally {
             columns,
-            summaries: BTreeMap::new(alloc),
+            sums: Sums::new(alloc),
             added: 0,
         }
     }
@@ -190,30 +123,33 @@ impl<'a> CubeTally<'a> {
         self.added
     }
 
-    /// Adds a fact: a tally that stood for some facts stands for them and this one after them. It takes one look at
-    /// a list for each dimension, and memory for a tuple that no fact has reached before.
-    pub(crate) fn add(&mut self, fact: &CubeFact) -> Result<(), Memory>
-        requires members { AreMembers self.old.instances (members_of fact.now.members) }
+    /// Adds a value at members: a tally that stood for some facts stands for them and this one after them. It takes
+    /// one look at a list for each dimension; memory goes by the tuples that were reached.
+    pub(crate) fn add(&mut self, members: &[MemberId], value: i64) -> Result<(), Memory>
+        requires members { AreMembers self.old.instances (members_of members.now) }
         requires room { self.old.added < most_count }
         ensures instances { self.new.instances ≡ self.old.instances }
         ensures target { self.new.target ≡ self.old.target }
         ensures added { OnOk result (self.new.added ≡ self.old.added + 1) }
         ensures stands { OnOk result ((facts : Items TheFact) → CubeStandsFor self.old facts
-            → CubeStandsFor self.new (facts ++ cube_fact_of fact.now ∷ [])) }
+            → CubeStandsFor self.new (facts ++ fact_at members.now value ∷ [])) }
     {
-        let members = fact.members.items();
-        join_fact(&self.columns, &mut self.summaries, members, fact.value)?;
+        add_fact(&self.columns, &mut self.sums, members, value)?;
         self.added += 1;
         Ok(())
     }
 
     /// The rows of the direct view.
-    pub(crate) fn rows(&self, alloc: Global) -> Result<Vec<CubeRow>, Memory>
-        ensures rows { IfOk result (λ v. (facts : Items TheFact) → CubeStandsFor self.now facts
-            → cube_rows_of v.items ≡ cube_direct_rows self.now.instances self.now.target facts) }
-        ensures members { IfOk result
-            (λ v. All (λ r. AreMembers self.now.instances (members_of r.members)) v.items) }
+    pub(crate) fn into_rows(self) -> Vec<CubeRow>
+        ensures rows { (facts : Items TheFact) → CubeStandsFor self.entry facts
+            → cube_rows_of (length self.entry.instances) result.items
+            ≡ cube_direct_rows self.entry.instances self.entry.target facts }
+        ensures members { All (λ r. AreMembers self.entry.instances r.members)
+            (cube_rows_of (length self.entry.instances) result.items) }
+        ensures width { length self.entry.target ≡ length self.entry.instances }
     {
-        rows(alloc, &self.summaries, self.columns.len())
+        let mut rows = self.sums.rows;
+        join_rows(&mut rows);
+        rows
     }
 }

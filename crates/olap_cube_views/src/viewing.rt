@@ -1,5 +1,5 @@
 // The direct view of a cube's target, from facts or from a text of them.
-ghost use Rattle.std.specs.Prelude.{◌≡◌, ◌≤◌, All, IfErr, IfOk, List as Items, MatchResult, [], length, map};
+ghost use Rattle.std.specs.Prelude.{◌≡◌, ◌≤◌, All, IfErr, IfOk, List as Items, MatchResult, OnOk, [], length, map};
 ghost use Rattle.olap_base.specs.Limits.{most_count};
 ghost use Rattle.olap_base.specs.Refusing.{IsRefusedBy};
 ghost use Rattle.olap_cube.specs.Limits.{most_dimensions};
@@ -10,7 +10,7 @@ ghost use Rattle.olap_view.specs.Seen.{ids};
 ghost use Rattle.olap_cube_views.specs.CubeFactText.{cube_fact_fault, cube_fact_read, cube_facts_read};
 ghost use Rattle.olap_cube_views.specs.CubeRefusals.{IsFaultCause};
 ghost use Rattle.olap_cube_views.specs.CubeRollingUp.{IsCubeRolledUp};
-ghost use Rattle.olap_cube_views.specs.CubeTallies.{AreMembers, CubeStandsFor};
+ghost use Rattle.olap_cube_views.specs.CubeTallies.{AreMembers, CubeStandsFor, HasTallied};
 ghost use Rattle.olap_cube_views.specs.Dimensions.{AreMadeFor, categories_in, graphs_of, instances_in, instances_of};
 ghost use Rattle.olap_cube_views.specs.Seen.{cube_facts_of, cube_view_of, members_of};
 
@@ -25,42 +25,34 @@ use olap_records::Rows;
 use std::alloc::Global;
 
 /// The direct view of a tally's target from the facts that were added.
-fn view(alloc: Global, target: &[CatId], tally: &CubeTally) -> Result<CubeView, Memory>
-    requires { tally.now.target ≡ ids target.now }
-    ensures view { IfOk result (λ v. (facts : Items TheFact) → CubeStandsFor tally.now facts
-        → cube_view_of v ≡ cube_direct_view tally.now.instances facts (ids target.now)) }
-    ensures members { IfOk result
-        (λ v. All (λ r. AreMembers tally.now.instances (members_of r.members)) v.rows) }
+fn view(alloc: Global, target: &[CatId], tally: CubeTally<'_>) -> Result<CubeView, Memory>
+    requires { tally.target ≡ ids target.now }
+    ensures view { IfOk result (λ v. (facts : Items TheFact) → CubeStandsFor tally.entry facts
+        → cube_view_of v ≡ cube_direct_view tally.entry.instances facts (ids target.now)) }
+    ensures members { IfOk result (λ v.
+        All (λ r. AreMembers tally.entry.instances r.members) (cube_view_of v).rows) }
 {
     let mut categories = Vec::new(alloc);
     categories.extend_from_slice(target)?;
-    let rows = tally.rows(alloc)?;
     Ok(CubeView {
         target: List::from_vec(categories),
-        rows: List::from_vec(rows),
+        rows: List::from_vec(tally.into_rows()),
     })
 }
 
-/// The direct view of a target from facts. The tally, of this target, is empty.
-fn direct(
-    alloc: Global,
-    facts: &CubeFacts,
-    target: &[CatId],
-    tally: &mut CubeTally,
-) -> Result<CubeView, Memory>
-    requires target { tally.old.target ≡ ids target.now }
+/// Adds facts to an empty tally.
+fn add_facts(facts: &CubeFacts, tally: &mut CubeTally) -> Result<(), Memory>
     requires start { CubeStandsFor tally.old [] }
     requires at_members { All (λ f. AreMembers tally.old.instances (members_of f.members)) facts.now.rows }
     requires few { length facts.now.rows ≤ most_count }
-    ensures view { IfOk result (λ v. cube_view_of v
-        ≡ cube_direct_view tally.old.instances (cube_facts_of facts.now) (ids target.now)) }
-    ensures members { IfOk result
-        (λ v. All (λ r. AreMembers tally.old.instances (members_of r.members)) v.rows) }
+    ensures instances { tally.new.instances ≡ tally.old.instances }
+    ensures target { tally.new.target ≡ tally.old.target }
+    ensures stands { OnOk result (CubeStandsFor tally.new (cube_facts_of facts.now)) }
 {
     'facts: for fact in facts.rows.items() {
-        tally.add(fact)?;
+        tally.add(fact.members.items(), fact.value)?;
     }
-    view(alloc, target, tally)
+    Ok(())
 }
 
 /// The direct view of a target, a category of each dimension: a row for each tuple of their members that some fact's
@@ -82,11 +74,11 @@ pub fn cube_direct(
     ensures view { IfOk result
         (λ v. cube_view_of v
         ≡ cube_direct_view legals.now (cube_facts_of facts.now) (ids target.now)) }
-    ensures members { IfOk result
-        (λ v. All (λ r. AreMembers legals.now (members_of r.members)) v.rows) }
+    ensures members { IfOk result (λ v. All (λ r. AreMembers legals.now r.members) (cube_view_of v).rows) }
 {
     let mut tally = CubeTally::new(alloc, columns(alloc, legals, target)?);
-    direct(alloc, facts, target, &mut tally)
+    add_facts(facts, &mut tally)?;
+    view(alloc, target, tally)
 }
 
 /// Adds the facts of the records that are left.
@@ -111,32 +103,29 @@ fn add_rows(
 {
     'rows: while rows.advance()? {
         let fact = fact(alloc, graphs, instances, rows, tally.added())?;
-        tally.add(&fact)?;
+        tally.add(fact.members.items(), fact.value)?;
     }
     Ok(())
 }
 
-/// The direct view of a target from the facts of the records that are left, or their first fault. The tally, of this
-/// target, is empty.
-fn rolled_up_left(
+/// Adds the facts of the records that are left to an empty tally, or tells their first fault.
+fn add_left(
     alloc: Global,
     graphs: &[&Graph],
     instances: &[&Instance],
-    target: &[CatId],
-    tally: &mut CubeTally,
     rows: &mut Rows,
-) -> Result<CubeView, Refusal<Fault<FactKind>>>
+    tally: &mut CubeTally,
+) -> Result<(), Refusal<Fault<FactKind>>>
     requires few { length instances.now ≤ most_dimensions }
     requires made { AreMadeFor (graphs_of graphs.now) (instances_of instances.now) }
     requires instances { tally.old.instances ≡ instances_of instances.now }
-    requires target { tally.old.target ≡ ids target.now }
     requires start { CubeStandsFor tally.old [] }
-    ensures view { IfOk result (λ v. IsCubeRolledUp (graphs_of graphs.now)
-        (instances_of instances.now) rows.old.left (ids target.now) (cube_view_of v)) }
-    ensures members { IfOk result (λ v.
-        All (λ r. AreMembers (instances_of instances.now) (members_of r.members)) v.rows) }
-    ensures err { IfErr result (λ e. IsRefusedBy e
+    ensures facts { MatchResult result
+        (λ _. HasTallied (graphs_of graphs.now) (instances_of instances.now) rows.old.left tally.new)
+        (λ e. IsRefusedBy e
         (cube_facts_read (graphs_of graphs.now) (instances_of instances.now) rows.old.left)) }
+    ensures instances { tally.new.instances ≡ instances_of instances.now }
+    ensures target { tally.new.target ≡ tally.old.target }
 {
     if !begins(rows, instances.len())? {
         return Err(Refusal::Kind(Fault {
@@ -144,35 +133,30 @@ fn rolled_up_left(
             kind: FactKind::BadHeader,
         }));
     }
-    add_rows(alloc, graphs, instances, rows, tally)?;
-    Ok(view(alloc, target, tally)?)
+    add_rows(alloc, graphs, instances, rows, tally)
 }
 
-/// The direct view of the columns' categories from a text of facts, or the text's first fault. The tally, over these
-/// columns, is empty.
-fn rolled_up(
+/// Adds the facts of a text to an empty tally over these columns, or tells the text's first fault.
+fn add_text(
     alloc: Global,
     graphs: &[&Graph],
     columns: &TargetColumns,
-    tally: &mut CubeTally,
     text: &[u8],
-) -> Result<CubeView, Refusal<Fault<FactKind>>>
+    tally: &mut CubeTally,
+) -> Result<(), Refusal<Fault<FactKind>>>
     requires made { AreMadeFor (graphs_of graphs.now) (instances_in columns.now) }
     requires instances { tally.old.instances ≡ instances_in columns.now }
-    requires target { tally.old.target ≡ categories_in columns.now }
     requires start { CubeStandsFor tally.old [] }
-    ensures view { IfOk result (λ v. IsCubeRolledUp (graphs_of graphs.now)
-        (instances_in columns.now) (records_of text.now) (categories_in columns.now)
-        (cube_view_of v)) }
-    ensures members { IfOk result (λ v.
-        All (λ r. AreMembers (instances_in columns.now) (members_of r.members)) v.rows) }
-    ensures err { IfErr result (λ e. IsRefusedBy e
+    ensures facts { MatchResult result
+        (λ _. HasTallied (graphs_of graphs.now) (instances_in columns.now) (records_of text.now) tally.new)
+        (λ e. IsRefusedBy e
         (cube_facts_read (graphs_of graphs.now) (instances_in columns.now) (records_of text.now))) }
+    ensures instances { tally.new.instances ≡ instances_in columns.now }
+    ensures target { tally.new.target ≡ tally.old.target }
 {
     let instances = columns.instances(alloc)?;
-    let target = columns.target(alloc)?;
     let mut rows = Rows::new(alloc, text);
-    rolled_up_left(alloc, graphs, &instances, &target, tally, &mut rows)
+    add_left(alloc, graphs, &instances, &mut rows, tally)
 }
 
 /// The direct view of the columns' categories from a text of facts, or the text's first fault, which is that of
@@ -192,12 +176,14 @@ pub fn cube_roll_up(
         (instances_in columns.now) (records_of text.now) (categories_in columns.now)
         (cube_view_of v)) }
     ensures members { IfOk result (λ v.
-        All (λ r. AreMembers (instances_in columns.now) (members_of r.members)) v.rows) }
+        All (λ r. AreMembers (instances_in columns.now) r.members) (cube_view_of v).rows) }
 
     ensures err { IfErr result (λ e.
         IsRefusedBy e
         (cube_facts_read (graphs_of graphs.now) (instances_in columns.now) (records_of text.now))) }
 {
+    let target = columns.target(alloc)?;
     let mut tally = CubeTally::new(alloc, columns.lent(alloc)?);
-    rolled_up(alloc, graphs, columns, &mut tally, text)
+    add_text(alloc, graphs, columns, text, &mut tally)?;
+    Ok(view(alloc, &target, tally)?)
 }

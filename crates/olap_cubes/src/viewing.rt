@@ -8,7 +8,7 @@ ghost use Rattle.olap_cube_views.specs.CubeRollingUp.{IsCubeRolledUp};
 ghost use Rattle.olap_cube_views.specs.CubeTallies.{AreMembers};
 ghost use Rattle.olap_cube_views.specs.CubeViewText.{cube_view_text};
 ghost use Rattle.olap_cube_views.specs.Dimensions.{AreMadeFor, categories_in, graphs_of as graphs_at, instances_in};
-ghost use Rattle.olap_cube_views.specs.Seen.{cube_view_of, members_of};
+ghost use Rattle.olap_cube_views.specs.Seen.{cube_view_of};
 ghost use Rattle.olap_dimensions.specs.Dimensions.{schemas_of};
 ghost use Rattle.olap_records.specs.Records.{records_of};
 ghost use Rattle.olap_order.specs.Judged.{Judged};
@@ -56,8 +56,8 @@ fn rolled_up(
     ensures view { IfOk result (λ v. IsCubeRolledUp (graphs_of (schemas_of cube.now))
         (instances_in columns.now) (records_of text.now) (categories_in columns.now)
         (cube_view_of v)) }
-    ensures members { IfOk result
-        (λ v. All (λ r. AreMembers (instances_in columns.now) (members_of r.members)) v.rows) }
+    ensures members { IfOk result (λ v.
+        All (λ r. AreMembers (instances_in columns.now) r.members) (cube_view_of v).rows) }
     ensures err { IfErr result (λ e. IsRefusedBy e
         (cube_facts_read (graphs_of (schemas_of cube.now)) (instances_in columns.now)
         (records_of text.now))) }
@@ -81,8 +81,8 @@ fn view_in<L: Library>(
         (λ stop. FileStep L.Library lib.old lib.new
         (cube_facts_file (schemas_of cube.now) (instances_in columns.now) file.now)
         (λ facts. facts) (Err stop)) }
-    ensures members { IfOk result
-        (λ v. All (λ r. AreMembers (instances_in columns.now) (members_of r.members)) v.rows) }
+    ensures members { IfOk result (λ v.
+        All (λ r. AreMembers (instances_in columns.now) r.members) (cube_view_of v).rows) }
 {
     let Some(text) = read_file(alloc, file, MOST_FACTS_BYTES, lib)? else {
         return Err(refuse_long(alloc, "facts"));

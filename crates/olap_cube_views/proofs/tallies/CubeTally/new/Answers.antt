@@ -13,5 +13,5 @@ invariant_of-result c =
     let columns = c.args.columns.items in
     let l = length-map columns (λ (a : Ascent). a.instance) in
     let few : length (instances_in columns) ≤ most_dimensions = let f = c.requires in omega arith in
-    subst (λ entries. IsCubeTally (tallied columns entries 0)) (sym c.new.ensures.empty)
+    subst (λ rows. IsCubeTally (tallied columns rows 0)) (sym c.new.ensures)
     (tally_start (instances_in columns) (categories_in columns) few)
