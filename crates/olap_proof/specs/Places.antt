@@ -4,7 +4,6 @@
 --     Place           a root, and decisions
 --     is_known        the category is known to have a member
 --     truth_of_reach  whether one category's member reaches another's
---     is_numbered     the text spells a number that compares so
 --     knowledge       what is known of edges, of reaching, of names and of comparisons
 use Rattle.std.specs.Prelude.{◌&&◌, ◌||◌, ◌==◌, ◌++◌, ℕ, zero, suc, List, [], ◌∷◌, Bool, true, false, Option, Some, None, codes, filter, length, map, option_map, unwrap_or, if◌then◌else◌}
 use Rattle.std.specs.List.{range_with_len}

@@ -67,7 +67,8 @@ module _ (v : Version) (before front : ℕ) (y : Tally) (ts : List Token)
     nodes_too_many : front ≤ 3 → most_nodes + front < before + y.nodes → most_nodes < before + nodes_of v ts
     nodes_too_many f l = let few = behind.few in omega (arith, f, l, few)
 
-    pub many_nodes : front ≤ 3 → most_nodes + front < before + y.nodes → form_read v before ts ≡ Err (codes "TooManyNodes")
+    pub many_nodes : front ≤ 3 → most_nodes + front < before + y.nodes
+        → form_read v before ts ≡ Err (codes "TooManyNodes")
     unfolding form_read
     many_nodes f l =
         let t : nat_lt most_nodes (before + nodes_of v ts) ≡ true =

@@ -214,4 +214,5 @@ question_cut s root ts =
 
 -- the formula that the text is, at the root, or its first fault
 unfoldable pub question_read : Schema → ℕ → List ℕ → Result Formula (List ℕ)
-question_read s root text = if is_bad text then Err (codes "BadByte") else question_cut s root (tokens_of version.Two text)
+question_read s root text =
+    if is_bad text then Err (codes "BadByte") else question_cut s root (tokens_of version.Two text)

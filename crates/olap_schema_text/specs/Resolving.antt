@@ -68,7 +68,8 @@ abbrev pub atom_read : Graph → ℕ → Atom → Result Formula (List ℕ)
 atom_read g root words.Atom.Truth = Ok Meaning.Formula.Truth
 atom_read g root words.Atom.Falsity = Ok Meaning.Formula.Falsity
 atom_read g root (words.Atom.Path first names) =
-    known g first (λ c. given (categories_of g names) (codes "UnknownCategory") (λ cs. at_root root c (path_read g root cs)))
+    known g first (λ c.
+    given (categories_of g names) (codes "UnknownCategory") (λ cs. at_root root c (path_read g root cs)))
 atom_read g root (words.Atom.Reach first last) = ends_read g root first last (λ d. Ok (Meaning.Formula.Reach d))
 atom_read g root (words.Atom.Via first middle last) =
     known g first (λ c. known g middle (λ d. known g last (λ e. at_root root c (Ok (Meaning.Formula.Via d e)))))

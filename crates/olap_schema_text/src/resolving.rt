@@ -48,8 +48,9 @@ fn last_category(
     first: &[u8],
     last: &[u8],
 ) -> Result<CatId, Refusal<SchemaKind>>
-    ensures read { (next : ℕ → Result Meaning (Numbers ℕ)) → let read = ends_read (graph_seen known.now) root.0 first.now
-        last.now next in MatchResult result (λ d. read ≡ next d.0) (λ e. IsRefusedAs e read) }
+    ensures read { (next : ℕ → Result Meaning (Numbers ℕ)) →
+        let read = ends_read (graph_seen known.now) root.0 first.now last.now next in
+        MatchResult result (λ d. read ≡ next d.0) (λ e. IsRefusedAs e read) }
     ensures category { IfOk result (λ d. IsCategory (graph_seen known.now) d.0) }
 {
     let c = category(known, first)?;

@@ -15,6 +15,7 @@ returns-in_err-d c =
     let g = graph_seen c.args.known.now in
     let why : IsRefusedAs c.in_err-d.field-0.0 (ends_read g c.args.root.0 c.args.first.now c.args.last.now
     (λ d. if is_number g d
-    then given (number_of c.args.digits.now) (codes "BadNumber") (λ n. Ok (meaning.Formula.Compare d (op_of c.args.op) n))
+    then given (number_of c.args.digits.now) (codes "BadNumber")
+    (λ n. Ok (meaning.Formula.Compare d (op_of c.args.op) n))
     else Err (codes "WrongNames"))) = c.in_err-d.ensures.read _ in
     search rules

@@ -12,5 +12,6 @@ pub returns-in_err-d : goal.returns-in_err-d
 returns-in_err-d c =
     let g = graph_seen c.args.known.now in
     let why : IsRefusedAs c.in_err-d.field-0.0 (ends_read g c.args.root.0 c.args.first.now c.args.last.now
-    (λ d. if is_number g d then Err (codes "WrongNames") else Ok (meaning.Formula.Equals d c.args.text.now))) = c.in_err-d.ensures.read _ in
+    (λ d. if is_number g d then Err (codes "WrongNames")
+    else Ok (meaning.Formula.Equals d c.args.text.now))) = c.in_err-d.ensures.read _ in
     search rules
