@@ -1,6 +1,6 @@
 -- The places at which there may be more.
-use Rattle.std.proofs.Common.{◌≡◌, ℕ, zero, suc, ◌+◌, ◌<◌, ◌≤◌, List, [], ◌∷◌, ◌++◌, length, get_or, Bool, take, refl, ap, sym, subst, ◌∙◌, ◌⊎◌, inl, inr, arith, length-append}
-use Rattle.std.specs.Prelude.{All, AllPairs, Contains, MatchOption, None, Option, Some, slice_index}
+use Rattle.std.proofs.Common.{◌≡◌, ℕ, zero, suc, ◌+◌, ◌<◌, ◌≤◌, List, [], ◌∷◌, ◌++◌, length, get_or, Bool, true, false, take, refl, ap, sym, subst, ◌∙◌, ◌⊎◌, inl, inr, arith, length-append}
+use Rattle.std.specs.Prelude.{All, AllPairs, Contains, MatchOption, None, Option, Some, slice_index, slice_index_or}
 use Rattle.std.proofs.lemmas.List.{get_or_append_left, length-take-le, take-append-le, take_all}
 use Rattle.std.proofs.lemmas.List.Elements.{All-append, Contains-append_left, Contains-push, Contains-push_cases}
 use Rattle.std.proofs.lemmas.List.Quantifiers.{all_pairs_push}
@@ -13,7 +13,7 @@ use Rattle.olap_clauses.specs.Standing.{Agrees}
 use Rattle.olap_clauses.specs.Trails.{steps_of}
 use Rattle.olap_dimsat.specs.declared.branching.Branch.{Branch}
 use Rattle.olap_dimsat.specs.Branches.{AreBranches, IsBehind, IsBranch, IsOpen, IsTopped}
-use Rattle.olap_dimsat.specs.Following.{IsNext, IsRaised, IsRisen, NoneBeyond, NoneMore}
+use Rattle.olap_dimsat.specs.Following.{IsNext, IsRisen, NoneBeyond, NoneMore}
 use Rattle.olap_dimsat.specs.Pinned.{InRange, IsLonger, IsPinned, IsPlace, IsReady, IsSame, NoneAt}
 use Rattle.olap_dimsat.specs.Reads.{Reads}
 use Rattle.olap_dimsat.specs.Tasks.{Task, IsOne}
@@ -50,6 +50,16 @@ none_more_topped t from q w old after e ready i l follows topped f one s m =
 none_more_still : (t : Task) (p q : ℕ) (w y : Frozen) → q < p → IsSame p y w → NoneMore t q w → NoneMore t q y
 none_more_still t p q w y l same none f one s m =
     none f one (λ k h. s k h ∙ same k (omega arith)) (let e = same q l in omega arith)
+
+-- ---- notes
+
+-- one note more
+pub noted : (P : ℕ → Type 0) (notes : List Bool) (b : Bool) → ((q : ℕ) → slice_index_or notes q false ≡ true → P q)
+    → (b ≡ true → P (length notes)) → (q : ℕ) → slice_index_or (notes ++ b ∷ []) q false ≡ true → P q
+noted P [] b old next zero e = next e
+noted P [] b old next (suc q) e = absurd (let z : false ≡ true = e in cc)
+noted P (x ∷ notes) b old next zero e = old zero e
+noted P (x ∷ notes) b old next (suc q) e = noted (λ k. P (suc k)) notes b (λ k. old (suc k)) next q e
 
 -- ---- literals
 

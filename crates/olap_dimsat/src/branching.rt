@@ -1,5 +1,5 @@
 // The places of the best one's code at which there may be more, with what is decided before them.
-ghost use Rattle.std.specs.Prelude.{◌≡◌, ◌+◌, ◌<◌, ◌≤◌, ℕ, IfOk, true, slice_index};
+ghost use Rattle.std.specs.Prelude.{◌≡◌, ◌+◌, ◌<◌, ◌≤◌, ℕ, IfOk, false, length, true, slice_index, slice_index_or};
 ghost use Rattle.olap_ast.specs.Frozen.{code};
 ghost use Rattle.olap_clauses.specs.Engines.{trail_of, variables_of};
 ghost use Rattle.olap_clauses.specs.Trails.{steps_of};
@@ -15,6 +15,7 @@ use crate::settling::{keep, literal_at, number_at};
 use olap_base::{CatId, Memory};
 use olap_clauses::{Engine, Trail, Value};
 use olap_frozen::Frozen;
+use std::alloc::Global;
 
 /// A place at which there may be more.
 #[derive(Clone, Copy)]
@@ -71,80 +72,140 @@ fn is_topped(a: &Asker<'_>, best: &Frozen, trail: &Trail, p: u16) -> bool
     true
 }
 
-// Of the first places, the first from this one on at which one that agrees before it may have more than the best one.
-fn first_branch(engine: &mut Engine, a: &Asker<'_>, best: &Frozen, from: u16, apart: u16) -> u16
+// Whether the best one has the greatest number at this place.
+fn is_full(a: &Asker<'_>, best: &Frozen, p: u16) -> bool
+    requires task { IsTask (task_of a.now) }
+    requires best { IsFor (task_of a.now) best.now }
+    requires one { IsOne (task_of a.now) (chosen_of best.now.edges best.now.names) }
+    requires place { IsPlace (task_of a.now) p }
+    ensures { result ≡ true → NoneMore (task_of a.now) p (chosen_of best.now.edges best.now.names) }
+{
+    number_at(a, best, p) == most_at(a, p)
+}
+
+// For each of the first places whether none that agrees with the trail has more there than the best one.
+fn topped(
+    alloc: Global,
+    a: &Asker<'_>,
+    best: &Frozen,
+    trail: &Trail,
+    apart: u16,
+) -> Result<Vec<bool>, Memory>
+    requires task { IsTask (task_of a.now) }
+    requires best { IsFor (task_of a.now) best.now }
+    requires one { IsOne (task_of a.now) (chosen_of best.now.edges best.now.names) }
+    requires places { (q : ℕ) → q < apart → IsPlace (task_of a.now) q }
+    ensures topped { IfOk result (λ notes. (q : ℕ) → slice_index_or notes.items q false ≡ true
+        → IsTopped (task_of a.now) trail.now q (chosen_of best.now.edges best.now.names)) }
+    ensures count { IfOk result (λ notes. length notes.items ≡ apart) }
+{
+    let mut notes = Vec::new(alloc);
+    'places: for p in 0..apart {
+        notes.push(is_topped(a, best, trail, p))?;
+    }
+    Ok(notes)
+}
+
+// For each of the first places whether the clauses force that none that agrees before this one has more there.
+fn topped_behind(
+    alloc: Global,
+    engine: &mut Engine,
+    a: &Asker<'_>,
+    best: &Frozen,
+    from: u16,
+    apart: u16,
+) -> Result<Vec<bool>, Memory>
     requires task { IsTask (task_of a.now) }
     requires ready { IsReady (task_of a.now) engine.old }
     requires best { IsFor (task_of a.now) best.now }
     requires pinned { IsPinned (task_of a.now) from (chosen_of best.now.edges best.now.names) (trail_of engine.old) }
     requires places { (q : ℕ) → q < apart → IsPlace (task_of a.now) q }
-    requires from { from < apart }
-    ensures none { (q : ℕ) → from ≤ q → q < result
-        → NoneMore (task_of a.now) q (chosen_of best.now.edges best.now.names) }
+    ensures none { IfOk result (λ notes. (q : ℕ) → from ≤ q → slice_index_or notes.items q false ≡ true
+        → NoneMore (task_of a.now) q (chosen_of best.now.edges best.now.names)) }
+    ensures count { IfOk result (λ notes. length notes.items ≡ apart) }
     ensures trail { trail_of engine.new ≡ trail_of engine.old }
     ensures variables { variables_of engine.new ≡ variables_of engine.old }
     ensures ready { IsReady (task_of a.now) engine.new }
 {
-    let number = number_at(a, best, from);
-    let most = most_at(a, from);
-    if number >= most {
-        return from + 1;
-    }
     let stood = engine.trail().len();
     engine.force();
-    let mut p = from;
-    'places: while p < apart && is_topped(a, best, engine.trail(), p) {
-        p += 1;
-    }
+    let notes = topped(alloc, a, best, engine.trail(), apart);
     engine.undo(stood);
-    p
+    notes
 }
 
-// One place more, where it is known up to which place none has more. Up to which place it is known then.
-fn branch_next(
+// Decides that this place is as it is in the best one, and notes it unless it is known that none has more there.
+fn branch_at(
     engine: &mut Engine,
     a: &Asker<'_>,
     best: &Frozen,
     branches: &mut Vec<Branch>,
     p: u16,
-    known: u16,
-    apart: u16,
-) -> Result<u16, Memory>
+    known: bool,
+) -> Result<(), Memory>
     requires task { IsTask (task_of a.now) }
     requires ready { IsReady (task_of a.now) engine.old }
     requires best { IsFor (task_of a.now) best.now }
+    requires place { IsPlace (task_of a.now) p }
     requires pinned { IsPinned (task_of a.now) p (chosen_of best.now.edges best.now.names) (trail_of engine.old) }
     requires variables { variables_of engine.old ≡ a.now.layout.now.variables }
-    requires places { (q : ℕ) → q < apart → IsPlace (task_of a.now) q }
-    requires inside { p < apart }
-    requires known { (q : ℕ) → p ≤ q → q < known
-        → NoneMore (task_of a.now) q (chosen_of best.now.edges best.now.names) }
+    requires known { known ≡ true → NoneMore (task_of a.now) p (chosen_of best.now.edges best.now.names) }
     requires branches { AreBranches (task_of a.now) p (chosen_of best.now.edges best.now.names) (trail_of engine.old)
         branches.old.items }
     ensures pinned { IsPinned (task_of a.now) (p + 1) (chosen_of best.now.edges best.now.names) (trail_of engine.new) }
-    ensures known { IfOk result (λ known. (q : ℕ) → p < q → q < known
-        → NoneMore (task_of a.now) q (chosen_of best.now.edges best.now.names)) }
     ensures branches { IfOk result (λ _. AreBranches (task_of a.now) (p + 1)
         (chosen_of best.now.edges best.now.names) (trail_of engine.new) branches.new.items) }
     ensures variables { variables_of engine.new ≡ variables_of engine.old }
     ensures ready { IsReady (task_of a.now) engine.new }
 {
     let mark = engine.trail().len();
-    if p < known {
-        keep(engine, a, best, p);
-        return Ok(known);
-    }
-    let next = first_branch(engine, a, best, p, apart);
     keep(engine, a, best, p);
-    if p < next {
-        return Ok(next);
+    if known {
+        return Ok(());
     }
     branches.push(Branch { place: p, mark })?;
-    Ok(p)
+    Ok(())
+}
+
+// The same of each place from this one on.
+fn branch_behind(
+    engine: &mut Engine,
+    a: &Asker<'_>,
+    best: &Frozen,
+    branches: &mut Vec<Branch>,
+    from: u16,
+    apart: u16,
+    topped: &[bool],
+) -> Result<(), Memory>
+    requires task { IsTask (task_of a.now) }
+    requires ready { IsReady (task_of a.now) engine.old }
+    requires best { IsFor (task_of a.now) best.now }
+    requires pinned { IsPinned (task_of a.now) from (chosen_of best.now.edges best.now.names) (trail_of engine.old) }
+    requires variables { variables_of engine.old ≡ a.now.layout.now.variables }
+    requires places { (q : ℕ) → q < apart → IsPlace (task_of a.now) q }
+    requires from { from ≤ apart }
+    requires topped { (q : ℕ) → from ≤ q → slice_index_or topped.now q false ≡ true
+        → NoneMore (task_of a.now) q (chosen_of best.now.edges best.now.names) }
+    requires count { length topped.now ≡ apart }
+    requires branches { AreBranches (task_of a.now) from (chosen_of best.now.edges best.now.names)
+        (trail_of engine.old) branches.old.items }
+    ensures branches { IfOk result (λ _. AreBranches (task_of a.now) apart (chosen_of best.now.edges best.now.names)
+        (trail_of engine.new) branches.new.items) }
+    ensures variables { variables_of engine.new ≡ variables_of engine.old }
+    ensures ready { IsReady (task_of a.now) engine.new }
+{
+    'places: for p in from..apart {
+        let known = topped[usize::from(p)];
+        branch_at(engine, a, best, branches, p, known)?;
+    }
+    Ok(())
 }
 
 /// Decides from this place on that the first places are as they are in the best one, and notes where there may be more.
+///
+/// It takes memory for a note of each of them, and for a branch at each.
 pub(crate) fn branch_from(
+    alloc: Global,
     engine: &mut Engine,
     a: &Asker<'_>,
     best: &Frozen,
@@ -159,16 +220,18 @@ pub(crate) fn branch_from(
     requires variables { variables_of engine.old ≡ a.now.layout.now.variables }
     requires places { (q : ℕ) → q < apart → IsPlace (task_of a.now) q }
     requires from { from ≤ apart }
-    requires branches { AreBranches (task_of a.now) from (chosen_of best.now.edges best.now.names) (trail_of engine.old)
-        branches.old.items }
+    requires branches { AreBranches (task_of a.now) from (chosen_of best.now.edges best.now.names)
+        (trail_of engine.old) branches.old.items }
     ensures branches { IfOk result (λ _. AreBranches (task_of a.now) apart (chosen_of best.now.edges best.now.names)
         (trail_of engine.new) branches.new.items) }
     ensures variables { variables_of engine.new ≡ variables_of engine.old }
     ensures ready { IsReady (task_of a.now) engine.new }
 {
-    let mut known = from;
-    'places: for p in from..apart {
-        known = branch_next(engine, a, best, branches, p, known, apart)?;
+    if from >= apart {
+        return Ok(());
     }
-    Ok(())
+    let full = is_full(a, best, from);
+    branch_at(engine, a, best, branches, from, full)?;
+    let notes = topped_behind(alloc, engine, a, best, from + 1, apart)?;
+    branch_behind(engine, a, best, branches, from + 1, apart, &notes)
 }

@@ -1,4 +1,4 @@
-use Rattle.std.proofs.Common.{List, length, sym, subst, map, arith}
+use Rattle.std.proofs.Common.{List, sym, subst, map, arith}
 use Rattle.std.specs.Prelude.{IfSome}
 use Rattle.olap_ast.specs.Frozen.{Frozen}
 use Rattle.std.proofs.lemmas.List.{length-map}

@@ -1,10 +1,9 @@
 -- The last branch at which there is more is where the next one differs first.
-use Rattle.std.proofs.Common.{◌≡◌, ◌++◌, ◌∷◌, [], List, length, take, refl, sym, subst, ◌∙◌, arith}
+use Rattle.std.proofs.Common.{List, refl, sym, subst, ◌∙◌, arith}
 use Rattle.olap_clauses.specs.declared.trails.Step.{Step}
 use Rattle.olap_clauses.specs.Engines.{trail_of}
 use Rattle.olap_frozen.specs.declared.frozen.Frozen.{Frozen}
 use Rattle.olap_frozen.specs.Leaves.{chosen_of}
-use Rattle.olap_dimsat.specs.declared.branching.Branch.{Branch}
 use Rattle.olap_dimsat.specs.Asking.{task_of}
 use Rattle.olap_dimsat.specs.Branches.{AreBranches, IsOpen}
 use Rattle.olap_dimsat.specs.Following.{IsRisen, NoneMore}

@@ -1,5 +1,5 @@
 use Rattle.std.proofs.Common.{refl}
-use Rattle.olap_clauses.specs.Engines.{trail_of, variables_of}
+use Rattle.olap_clauses.specs.Engines.{trail_of}
 use Rattle.olap_frozen.specs.Leaves.{chosen_of}
 use Rattle.olap_dimsat.specs.Asking.{task_of}
 use Rattle.olap_dimsat.proofs.FollowingLemmas.{risen}
