@@ -98,11 +98,12 @@ all_before : (P : Branch → Type 0) (xs : List Branch) (y : Branch) → All P (
 all_before P xs y a k d h =
     subst P (get_or_append_left xs (y ∷ []) d k h) (a k d (let l = length-append xs (y ∷ []) in omega arith))
 
--- and of the last
+-- the last element is what was pushed
 at_last : (xs : List Branch) (y : Branch) (d : Branch) → get_or (xs ++ y ∷ []) (length xs) d ≡ y
 at_last [] y d = refl
 at_last (x ∷ xs) y d = at_last xs y d
 
+-- what holds of all holds of the last
 all_last : (P : Branch → Type 0) (xs : List Branch) (y : Branch) → All P (xs ++ y ∷ []) → P y
 all_last P xs y a =
     subst P (at_last xs y y) (a (length xs) y (let l = length-append xs (y ∷ []) in omega arith))
@@ -166,12 +167,14 @@ pub branches_more : (t : Task) (p : ℕ) (w : Frozen) (ss ts : List Step) (bs : 
 branches_more t p w ss ts bs b old longer pinned place mark = record {
   ordered = all_pairs_push IsBehind bs b old.ordered
       (λ k d h. let i = old.each k d h in (let l = i.place in omega arith, let l = i.mark in omega arith));
-  each = all_push (IsBranch t (p + 1) w ts) bs b (λ k d h. branch_still t p w ss ts (get_or bs k d) longer (old.each k d h)) (record {
-    place = omega arith;
-    mark = longer_mark ss ts b.mark longer (omega arith);
-    pinned = subst (λ m. IsPinned t m w (take b.mark ts)) (sym place)
-        (subst (IsPinned t p w) (sym (front_still ss ts b.mark longer (omega arith) ∙ take_all b.mark ss (omega arith))) pinned);
-  });
+  each = all_push (IsBranch t (p + 1) w ts) bs b
+      (λ k d h. branch_still t p w ss ts (get_or bs k d) longer (old.each k d h)) (record {
+        place = omega arith;
+        mark = longer_mark ss ts b.mark longer (omega arith);
+        pinned = subst (λ m. IsPinned t m w (take b.mark ts)) (sym place)
+            (subst (IsPinned t p w)
+            (sym (front_still ss ts b.mark longer (omega arith) ∙ take_all b.mark ss (omega arith))) pinned);
+      });
   rest = λ q h not. elim (at_or_below q p h) [
     | inl l ↦ old.rest q l (λ c i e. not c (Contains-append_left bs (b ∷ []) c i) e)
     | inr e ↦ absurd (not b (Contains-push bs b) (place ∙ sym e))
@@ -182,6 +185,7 @@ branches_more t p w ss ts bs b old longer pinned place mark = record {
 
 module _ (t : Task) (n : ℕ) (w : Frozen) (ss : List Step) (bs : List Branch) (b : Branch)
     (all : AreBranches t n w ss (bs ++ b ∷ [])) where
+  -- the last is a branch
   last_is : IsBranch t n w ss b
   last_is = all_last (IsBranch t n w ss) bs b all.each
 
@@ -189,6 +193,7 @@ module _ (t : Task) (n : ℕ) (w : Frozen) (ss : List Step) (bs : List Branch) (
   pub last_pinned : IsPinned t b.place w (take b.mark ss)
   last_pinned = last_is.pinned
 
+  -- it is at one of the first places
   pub last_place : b.place < n
   last_place = last_is.place
 
@@ -207,6 +212,7 @@ module _ (t : Task) (n : ℕ) (w : Frozen) (ss : List Step) (bs : List Branch) (
         (λ k h. same k (let g = behind.0 in omega arith));
   }
 
+  -- so are all before the last
   each_before : (p : ℕ) (y : Frozen) → b.place ≤ p → IsOne t y → IsSame b.place y w
       → All (IsBranch t p y (take b.mark ss)) bs
   each_before p y l one same k d h =

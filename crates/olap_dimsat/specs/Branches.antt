@@ -34,7 +34,7 @@ pub record AreBranches (t : Task) (p : ℕ) (w : Frozen) (steps : List Step) (br
   pub each : All (IsBranch t p w steps) branches
   pub rest : (q : ℕ) → q < p → ((b : Branch) → Contains branches b → b.place ≡ q → ⊥) → NoneMore t q w
 
--- the literals say that the places before p, of the first n, are w's, and each of them where there may be more is a branch
+-- the literals say that the places before p, of the first n, are w's, and have their branches
 pub record IsOpen (t : Task) (p n : ℕ) (w : Frozen) (steps : List Step) (branches : List Branch) : Type 0 where
   pub first : p ≤ n
   pub pinned : IsPinned t p w steps

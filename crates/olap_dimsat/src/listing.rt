@@ -88,8 +88,7 @@ fn rise(engine: &mut Engine, a: &Asker<'_>, leaf: &mut Leaf, best: &mut Frozen, 
     true
 }
 
-// Goes to the next one that differs at the first places. At which one it is the first that differs; none: there is no
-// next one.
+// Goes to the next one that differs at the first places. At which of them it differs first; none: there is no next one.
 fn next(
     engine: &mut Engine,
     a: &Asker<'_>,
@@ -103,8 +102,8 @@ fn next(
     requires best { IsFor (task_of a.now) best.old }
     requires one { IsOne (task_of a.now) (chosen_of best.old.edges best.old.names) }
     requires places { (q : ℕ) → q < apart → IsPlace (task_of a.now) q }
-    requires branches { AreBranches (task_of a.now) apart (chosen_of best.old.edges best.old.names) (trail_of engine.old)
-        branches.old.items }
+    requires branches { AreBranches (task_of a.now) apart (chosen_of best.old.edges best.old.names)
+        (trail_of engine.old) branches.old.items }
     ensures some { IfSome result (λ p. IsNext (task_of a.now) apart (chosen_of best.old.edges best.old.names)
         (chosen_of best.new.edges best.new.names)) }
     ensures branches { IfSome result (λ p. IsOpen (task_of a.now) p apart (chosen_of best.new.edges best.new.names)
