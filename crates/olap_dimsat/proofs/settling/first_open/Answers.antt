@@ -16,7 +16,7 @@ pub returns-clause-least : goal.returns-clause-least
 returns-clause-least c = λ q h l.
     let e = c.args.engine.now in
     let w = chosen_of c.args.best.now.edges c.args.best.now.names in
-    none_less_settled (task_of c.args.a.now) c.args.from q w (trail_of e) c.force.new.self.trail e c.requires.ready
+    none_less_settled (task_of c.args.a.now) c.args.from q w (trail_of e) c.force.new.self.solver.trail e c.requires.ready
     c.requires.pinned h c.force.ensures.follows (c.places.invariant q h l)
 
 pub returns-clause-ready : goal.returns-clause-ready
@@ -35,7 +35,7 @@ places-preserved c = λ q h l.
     let w = chosen_of c.args.best.now.edges c.args.best.now.names in
     elim (at_or_below q c.places.p l) [
       | inl b ↦ c.places.invariant q h b
-      | inr e ↦ subst (λ m. IsSettled t c.force.new.self.trail m w) (sym e)
+      | inr e ↦ subst (λ m. IsSettled t c.force.new.self.solver.trail m w) (sym e)
           (subst (λ (x : Trail). IsSettled t x c.places.p w) c.trail-in-places.ensures
           (c.is_settled.ensures c.if-is_settled.true))
     ]
