@@ -1,16 +1,15 @@
 -- What is known of variables, and of the literals of a clause.
 --     IsFalse, IsFalseBut          who is as the table says makes the literal false, or it is this one
---     forgotten, learned           a table that says nothing, and one that says one thing more
---     literal_false                a literal known false
+--     forgotten                    a table that says nothing
 --     none_true, one_true          what follows where the literals of a clause were tested
-use Rattle.std.proofs.Common.{◌≡◌, ◌≢◌, ℕ, ◌<◌, ◌≤◌, ◌⊎◌, inl, inr, Bool, List, length, get_or, set, take, ap, sym, ◌∙◌, subst, arith, Option, Some, None}
+use Rattle.std.proofs.Common.{◌≡◌, ℕ, ◌<◌, ◌≤◌, ◌⊎◌, inl, inr, Bool, List, length, get_or, take, sym, subst, arith, Option, None}
 use Rattle.std.specs.Prelude.{All}
-use Rattle.std.proofs.lemmas.Bool.{cases_eq, cases_lt}
-use Rattle.std.proofs.lemmas.List.{get_or_past, get_or-set_same, get_or-set_other, take_all}
+use Rattle.std.proofs.lemmas.Bool.{cases_lt}
+use Rattle.std.proofs.lemmas.List.{get_or_past, take_all}
 use Rattle.std.proofs.lemmas.List.Elements.{All-contains}
 use Rattle.olap_pool.specs.declared.literals.Lit.{Lit}
 use Rattle.olap_pool.specs.Literals.{Holds, Satisfies}
-use Rattle.olap_parities.specs.Known.{Fits, Knows, value_of}
+use Rattle.olap_parities.specs.Known.{Fits, Knows}
 
 -- who is as the table says makes the literal false
 abbrev pub IsFalse : List (Option Bool) → Lit → Type 0
@@ -27,24 +26,6 @@ forgotten values k h none v x = elim (cases_lt x k) [
   | inl less ↦ subst (λ (o : Option Bool). Fits o (v x)) (sym (none x less)) tt
   | inr past ↦ subst (λ (o : Option Bool). Fits o (v x)) (sym (get_or_past values x None (omega arith))) tt
 ]
-
--- a table that says one thing more
-pub learned : (v : ℕ → Bool) (values : List (Option Bool)) (x : ℕ) (b : Bool) → x < length values → Knows values v
-    → v x ≡ b → Knows (set values x (Some b)) v
-learned v values x b within knows e y = elim (cases_eq y x) [
-  | inl same ↦
-      subst (λ (o : Option Bool). Fits o (v y))
-      (sym (ap (λ z. get_or (set values x (Some b)) z None) same ∙ get_or-set_same values x (Some b) None within))
-      (ap v same ∙ e)
-  | inr ne ↦ subst (λ (o : Option Bool). Fits o (v y)) (sym (get_or-set_other values x y (Some b) None ne)) (knows y)
-]
-
--- a literal known false
-pub literal_false : (values : List (Option Bool)) (l : Lit) (known : Bool) → value_of values l.variable ≡ Some known
-    → known ≢ l.positive → IsFalse values l
-literal_false values l known e ne v knows holds =
-    let fits : v l.variable ≡ known = subst (λ (o : Option Bool). Fits o (v l.variable)) e (knows l.variable) in
-    ne (sym fits ∙ holds)
 
 -- a clause of which each literal is known false
 pub none_true : (values : List (Option Bool)) (clause : List Lit) (k : ℕ) → length clause ≤ k

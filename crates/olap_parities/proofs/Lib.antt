@@ -4,7 +4,6 @@ mod SumLemmas
 mod RowLemmas
 mod KnownLemmas
 mod FindingLemmas
-mod EliminatingLemmas
 mod ColumnLemmas
 mod ParityLemmas
 mod EntryLemmas

@@ -9,25 +9,6 @@ pub xor-false : (a : Bool) → xor a false ≡ a
 xor-false true = refl
 xor-false false = refl
 
--- a bit twice is nothing
-pub xor-self : (a : Bool) → xor a a ≡ false
-xor-self true = refl
-xor-self false = refl
-
--- a bit that is taken off again
-pub xor_off : (a b : Bool) → xor (xor a b) b ≡ a
-xor_off true true = refl
-xor_off true false = refl
-xor_off false true = refl
-xor_off false false = refl
-
--- sums in another order
-pub xor_assoc : (a b c : Bool) → xor (xor a b) c ≡ xor a (xor b c)
-xor_assoc true true true = refl
-xor_assoc true true false = refl
-xor_assoc true false c = refl
-xor_assoc false b c = refl
-
 -- two sums added part by part
 pub xor_parts : (a b c d : Bool) → xor (xor a b) (xor c d) ≡ xor (xor a c) (xor b d)
 xor_parts true true true true = refl

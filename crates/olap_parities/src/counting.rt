@@ -13,7 +13,7 @@ use std::alloc::{AllocError, Global};
 const LONGEST: usize = 40;
 
 /// So many clauses are gone through at most, once for each literal.
-const PATIENCE: usize = 2_000_000;
+const PATIENCE: usize = 1_000_000;
 
 /// So many variables and clauses a pool may have; of a larger one nothing is found.
 const LARGEST: usize = 20_000;
@@ -84,6 +84,8 @@ pub struct Counting {
     ids: Vec<u32>,
     entries: Vec<Entry>,
     grouping: Grouping,
+    /// So many clauses may still be gone through.
+    patience: usize,
 }
 
 impl Counting {
@@ -101,6 +103,7 @@ impl Counting {
             ids: Vec::with_capacity(alloc, LITERALS)?,
             entries: Vec::with_capacity(alloc, LITERALS)?,
             grouping: Grouping::new(alloc)?,
+            patience: 0,
         })
     }
 
@@ -118,16 +121,15 @@ impl Counting {
         ensures same { self.new.values.items ≡ self.old.values.items }
     {
         choose(pool, &self.values, size, &mut self.taken, &mut self.ids);
-        if self.ids.len() < 3
-            || self
-                .ids
-                .len()
-                .saturating_mul(size)
-                .saturating_mul(pool.len())
-                > PATIENCE
-        {
+        let cost = self
+            .ids
+            .len()
+            .saturating_mul(size)
+            .saturating_mul(pool.len());
+        if self.ids.len() < 3 || cost > self.patience {
             return false;
         }
+        self.patience -= cost;
         self.grouping
             .fill(pool, &self.values, &self.ids, &mut self.trial);
         is_crowded(
@@ -147,6 +149,7 @@ impl Counting {
         ensures { result ≡ true → (v : ℕ → Bool) → AreTrue v pool.now → ⊥ }
     {
         self.learn(pool);
+        self.patience = PATIENCE;
         'sizes: for k in 3..LONGEST {
             if self.is_overfull_at(pool, LONGEST - k + 2) {
                 return true;

@@ -1,5 +1,5 @@
-// Equations modulo 2 that stand in few clauses.
-use olap_parities::Parities;
+// Equations modulo 2 that stand in few clauses, and few clauses that are too many.
+use olap_parities::{Counting, Parities};
 use olap_pool::{Lit, Pool};
 use std::alloc::Global;
 use std::process::Abort;
@@ -95,4 +95,43 @@ fn what_is_known_counts(rt: HostRuntime) {
 fn right_sums_stay(rt: HostRuntime) {
     assert!(rt; derived(&rt, rt.alloc(), &RING[..4]).0);
     assert!(rt; derived(&rt, rt.alloc(), &PLACES[..12]).0);
+}
+
+// Four pigeons, each in one of three holes, and no two in one.
+const PIGEONS: [[i8; 3]; 22] = [
+    [-1, -4, 0],
+    [-1, -7, 0],
+    [-1, -10, 0],
+    [-4, -7, 0],
+    [-4, -10, 0],
+    [-7, -10, 0],
+    [-2, -5, 0],
+    [-2, -8, 0],
+    [-2, -11, 0],
+    [-5, -8, 0],
+    [-5, -11, 0],
+    [-8, -11, 0],
+    [-3, -6, 0],
+    [-3, -9, 0],
+    [-3, -12, 0],
+    [-6, -9, 0],
+    [-6, -12, 0],
+    [-9, -12, 0],
+    [1, 2, 3],
+    [4, 5, 6],
+    [7, 8, 9],
+    [10, 11, 12],
+];
+
+// Whether the clauses are found to be too many.
+fn is_overfull(rt: &impl Abort, alloc: Global, clauses: &[[i8; 3]]) -> bool {
+    let pool = pool_of(rt, alloc, clauses);
+    let mut counting = Counting::new(alloc, 13).expect(rt, "memory");
+    counting.is_overfull(&pool)
+}
+
+#[test]
+fn pigeons_are_counted(rt: HostRuntime) {
+    assert!(rt; is_overfull(&rt, rt.alloc(), &PIGEONS));
+    assert!(rt; !is_overfull(&rt, rt.alloc(), &PIGEONS[..21]));
 }
