@@ -4,3 +4,4 @@ mod AskedLemmas
 mod OneOutcome
 mod SomeOutcome
 mod SureLemmas
+mod Accepting

@@ -2,10 +2,16 @@
 --     AreCertificates    two texts that answer words which ask for a certificate
 --     OutcomeIsOne       words and files have one status at most, and one list of bytes but for certificates
 --     OutcomeExists      and they have them, where each file that the order comes to is held
-use Rattle.std.specs.Prelude.{◌≡◌, ◌⊎◌, ℕ, List, MatchOption}
+--     ProvedIsAccepted   what `prove` writes `verify` accepts
+use Rattle.std.specs.Prelude.{◌≡◌, ◌⊎◌, ◌≤◌, ◌∷◌, ℕ, List, MatchOption, Some, codes, length}
+use Rattle.olap_base.specs.Limits.{most_certificate_bytes, most_words}
 use Rattle.olap_outside.specs.Files.{Files}
 use Rattle.olap_order.specs.Order.{Order, Done, IsHeld, Told, Read}
+use Rattle.olap_order.specs.Outputs.{line}
 use Rattle.olap_order.specs.declared.status.Status.{Status}
+use Rattle.olap_order.specs.declared.status.Status.TheVariants.{Yes}
+use Rattle.olap_proof.specs.declared.forms.Form.{Form}
+use Rattle.olap_proof.specs.declared.forms.Form.TheVariants.{Long, Short}
 use Rattle.olap_reasoning.specs.Laws as reasoning
 use Rattle.olap_run.specs.Commands.{order_of}
 use Rattle.olap_run.specs.Outcome.{Outcome}
@@ -28,3 +34,22 @@ OutcomeIsOne = (words : List (List ℕ)) (files : Files) (s t : Status) (b c : L
 abbrev pub OutcomeExists : Type 0
 OutcomeExists = (words : List (List ℕ)) (files : Files) → IsHeld files (order_of words)
     → (status : Status) × (bytes : List ℕ) × Outcome words files status bytes
+
+-- the command that writes a certificate of that form
+abbrev pub proving : Form → List ℕ
+proving Long = codes "prove"
+proving Short = codes "prove-short"
+
+-- the command that judges one
+abbrev pub judging : Form → List ℕ
+judging Long = codes "verify"
+judging Short = codes "verify-short"
+
+-- what `prove` writes with status 0, if it fits a certificate's file, `verify` accepts from a file that holds it, by the
+-- same words
+abbrev pub ProvedIsAccepted : Type 0
+ProvedIsAccepted = (form : Form) (schema certificate target : List ℕ) (sources : List (List ℕ)) (files : Files)
+    (text : List ℕ) → length (judging form ∷ schema ∷ certificate ∷ target ∷ sources) ≤ most_words
+    → Outcome (proving form ∷ schema ∷ target ∷ sources) files Yes text
+    → files certificate ≡ Some text → length text ≤ most_certificate_bytes
+    → Outcome (judging form ∷ schema ∷ certificate ∷ target ∷ sources) files Yes (line (codes "accepted"))

@@ -1,5 +1,5 @@
-// Theorems over the definitions: each is the clause of a function that does nothing but call others.
-ghost use Rattle.olap_run.specs.Laws.{OutcomeExists, OutcomeIsOne};
+// Theorems over the definitions: each is the clause of a function that does nothing, but call others for theirs.
+ghost use Rattle.olap_run.specs.Laws.{OutcomeExists, OutcomeIsOne, ProvedIsAccepted};
 
 use olap_schema_text::{read_questions_are_valid, read_schemas_are_readable};
 
@@ -29,3 +29,10 @@ pub fn outcome_exists()
     read_schemas_are_readable();
     read_questions_are_valid();
 }
+
+/// What `prove` and `prove-short` write with status 0, `verify` and `verify-short` accept, from a file that holds it,
+/// for the same schema, target and sources, if it fits a certificate's file (which what `prove` hands out does, by its
+/// clause `short`), and the command line, which has a word more then, has no more than it may.
+pub fn proved_is_accepted()
+    ensures { ProvedIsAccepted }
+{}

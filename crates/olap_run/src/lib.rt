@@ -11,7 +11,7 @@ mod laws;
 mod surely;
 mod top;
 
-pub use laws::{outcome_exists, outcome_is_one};
+pub use laws::{outcome_exists, outcome_is_one, proved_is_accepted};
 pub use olap_order::Status;
 pub use surely::olap_surely;
 pub use top::olap;
