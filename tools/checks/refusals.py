@@ -48,7 +48,7 @@ FULL = {
 # The one file that has each of these for another end.
 LOOKS = {
     ("olap_cli/src/main.rt", r"\bErrorKind::OutOfMemory\b"),
-    ("olap_clauses/src/engine.rt", r"\b(usize|isize|[ui](64|128))::MAX\b"),
+    ("olap_clauses/src/effort.rt", r"\b(usize|isize|[ui](64|128))::MAX\b"),
 }
 
 
