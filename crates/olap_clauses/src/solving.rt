@@ -242,7 +242,9 @@ impl Solver {
     }
 
     /// The clauses.
-    pub(crate) fn pool(&self) -> &Pool {
+    pub(crate) fn pool(&self) -> &Pool
+        ensures { result.now ≡ self.now.pool }
+    {
         &self.pool
     }
 
