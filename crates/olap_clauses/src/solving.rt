@@ -145,8 +145,7 @@ impl Solver {
         })
     }
 
-    /// Copies the clauses of another solver that were given, and those that it learned on few levels, where this one has
-    /// none.
+    /// Copies what another solver was given, and what it learned on few levels, where this one has no clauses.
     pub(crate) fn fill_from(&mut self, other: &Solver)
         ensures trail { self.new.trail ≡ self.old.trail }
         ensures clauses { (v : ℕ → Bool) → AreTrue v other.now.pool → AreTrue v self.old.pool → AreTrue v self.new.pool }
@@ -191,8 +190,7 @@ impl Solver {
         broken.is_none()
     }
 
-    /// Puts what stands in the place of each clause that it makes true, and takes out of the others
-    /// what it makes false.
+    /// Puts what stands in the place of each clause that it makes true, and takes out of the others what it makes false.
     fn rewrite(&mut self)
         ensures clauses { (v : ℕ → Bool) → Agrees v (trail_of self.old) → AreTrue v self.old.pool
             → AreTrue v self.new.pool }
