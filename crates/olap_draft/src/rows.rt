@@ -19,7 +19,7 @@ pub(crate) struct Rows {
 }
 
 /// One of the three lists of sets.
-#[derive(Clone, Copy, PartialEq, Eq)]
+#[derive(Clone, Copy)]
 enum List {
     Drawn,
     Led,
@@ -30,7 +30,7 @@ enum List {
 #[derive(Clone, Copy)]
 struct Kept {
     list: List,
-    c: CatId,
+    category: CatId,
     set: Categories,
 }
 
@@ -226,7 +226,12 @@ impl Rows {
             if of.has(c.0) {
                 let set = self.set(list, c);
                 // There is room for it, so it isn't refused.
-                let _pushed = self.kept.push(Kept { list, c, set });
+                let kept = Kept {
+                    list,
+                    category: c,
+                    set,
+                };
+                let _pushed = self.kept.push(kept);
             }
         }
     }
@@ -249,9 +254,9 @@ impl Rows {
             }
             let kept = self.kept[i];
             match kept.list {
-                List::Drawn => put(&mut self.drawn, kept.c, kept.set),
-                List::Led => put(&mut self.led, kept.c, kept.set),
-                List::Open => put(&mut self.open, kept.c, kept.set),
+                List::Drawn => put(&mut self.drawn, kept.category, kept.set),
+                List::Led => put(&mut self.led, kept.category, kept.set),
+                List::Open => put(&mut self.open, kept.category, kept.set),
             }
         }
     }
@@ -261,9 +266,9 @@ impl Rows {
         let mut touched = self.known.minus(self.kept_known);
         'kept: for i in 0..self.kept.len() {
             let kept = self.kept[i];
-            let now = self.set(kept.list, kept.c);
+            let now = self.set(kept.list, kept.category);
             if !now.is_subset(&kept.set) || !kept.set.is_subset(&now) {
-                touched = with(touched, kept.c);
+                touched = with(touched, kept.category);
             }
         }
         touched

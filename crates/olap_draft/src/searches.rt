@@ -124,7 +124,8 @@ impl<'a> Search<'a> {
 
     // ---- leaves
 
-    /// Finds the variables whose decisions the line needs: the latest are left out first, several at a time.
+    /// Finds the variables whose decisions the line needs, while there is work left: the latest are left out first,
+    /// several at a time.
     fn find_needed(&mut self, line: Line) -> Result<(), AllocError> {
         let task = self.task;
         let count = self.shape.decided.count();
@@ -132,7 +133,7 @@ impl<'a> Search<'a> {
         let mut size = count / 2;
         self.needed.clear();
         'parts: for _ in 0..MOST_PARTS {
-            if end == 0 {
+            if end == 0 || self.shape.is_spent() {
                 break;
             }
             size = size.clamp(1, end);
@@ -168,6 +169,9 @@ impl<'a> Search<'a> {
                 None => break,
             };
             self.find_needed(line)?;
+            if self.shape.is_spent() {
+                return Err(Refusal::Kind(GivenUp));
+            }
             if best.is_none() || self.needed.len() < self.reason.len() {
                 swap(&mut self.reason, &mut self.needed);
                 best = Some(line);
@@ -237,7 +241,7 @@ impl<'a> Search<'a> {
             if self.shape.is_closed(self.task) {
                 return true;
             }
-            if !self.force_once() {
+            if self.shape.is_spent() || !self.force_once() {
                 return false;
             }
         }
