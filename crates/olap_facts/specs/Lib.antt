@@ -2,7 +2,5 @@
 pub mod Seen
 pub mod FactText
 pub mod Kinds
-pub mod FactReading
-pub mod Batches
 pub mod Feeding
 pub mod Laws

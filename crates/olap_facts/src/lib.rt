@@ -2,14 +2,13 @@
 //!
 //! A contract sees a `Facts` as the definition's list of facts (`facts_of` of `specs/Seen.antt`). What a
 //! text stands for, or where its first fault is, is the function `facts_read` of `specs/FactText.antt`. A
-//! `FactReader` hands out the same facts one at a time, or a batch at a time. Views aren't known here.
+//! `FactFeed` hands out the facts of a text that comes in pieces. Views aren't known here.
 #![tactic(auto)]
 
 mod feeding;
 mod fronts;
 mod kinds;
 mod laws;
-mod readers;
 mod reading;
 mod settings;
 mod tables;
@@ -17,6 +16,5 @@ mod tables;
 pub use feeding::FactFeed;
 pub use kinds::FactKind;
 pub use laws::{bottom_is_decided, read_facts_fit};
-pub use readers::FactReader;
 pub use reading::{is_at_bottom, read_facts};
 pub use tables::{Fact, Facts};

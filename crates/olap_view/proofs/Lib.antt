@@ -10,7 +10,6 @@ pub mod FittingLemmas
 mod SummaryTableLemmas
 mod TallyLemmas
 mod MergingLemmas
-pub mod RollingUpLemmas
 mod RollerLemmas
 mod StoredNumbersLemmas
 mod StoredRowsLemmas

@@ -1,42 +1,89 @@
--- The text is read whole, or what stops it refuses it.
-use Rattle.std.proofs.Common.{◌<◌, ◌∙◌, List, length, map, ap, arith, refl, sym, subst, true}
-use Rattle.std.specs.Prelude.{All, Ok}
-use Rattle.std.proofs.lemmas.List.{length-map}
+-- The facts of the one piece and the last, or what refuses the text.
+use Rattle.std.proofs.Common.{◌≡◌, ◌∙◌, [], List, Option, map, ap, sym, subst}
+use Rattle.std.specs.Prelude.{Ok, Result, Some}
 use Rattle.std.proofs.lemmas.Result.{err_from_is_err_and}
-use Rattle.olap_base.specs.Limits.{most_listed_facts}
-use Rattle.olap_base.specs.Views.{IsFactTable}
-use Rattle.olap_records.specs.Records.{records_of}
-use Rattle.olap_facts.specs.FactReading.{reading}
+use Rattle.olap_base.specs.Views.{Fact, IsFactTable}
+use Rattle.olap_base.specs.declared.refusals.Fault.{Fault}
+use Rattle.olap_facts.specs.declared.kinds.FactKind.{FactKind}
+use Rattle.olap_base.specs.Refusing.{IsRefusedBy}
 use Rattle.olap_facts.specs.Seen.{fact_of}
 use Rattle.olap_facts.specs.declared.tables.Fact as told
-use Rattle.olap_facts.proofs.BatchLemmas.{at-start, read-all, refused-by}
-use Rattle.olap_facts.proofs.TableLemmas.{table-members}
+use Rattle.olap_facts.proofs.WholeLemmas.{IsListed, last-listed, none-listed, read-by, refused-whole, table-at}
 use Rattle.olap_facts.proofs.reading.read_facts.Goals as goal
+use Rattle.olap_facts.proofs.reading.read_facts.Goals.{in-Some+in_ok-push, in_default}
 
-pub returns : goal.returns
-returns c =
+pub returns-in_err-take-clause-read : goal.returns-in_err-take-clause-read
+returns-in_err-take-clause-read c =
+    let f = c.new-feed.ensures in
+    let stop = err_from_is_err_and c.from_residual.result c.from_residual.ensures.1 in
+    rw (stop.1, stop.2) (refused-whole c.records_are_those_at_the_end.ensures c.args.graph.now c.args.instance.now
+    c.new-feed.result f.graph f.instance f.most c.args.text.now c.without_mark.result.now c.without_mark.ensures
+    c.in_err-take.field-0.0 (c.in_err-take.ensures.feeds [] [] f.fed))
+
+pub returns-in_err-last-clause-read : goal.returns-in_err-last-clause-read
+returns-in_err-last-clause-read c =
+    let f = c.new-feed.ensures in
+    let piece = c.without_mark.result.now in
+    let new = c.take.new.self in
+    let same = c.in_ok-take.ensures.same in
+    let stop = err_from_is_err_and c.from_residual-in_err-last.result c.from_residual-in_err-last.ensures.1 in
+    rw (stop.1, stop.2) (subst (λ (t : Result (List Fact) (Fault FactKind)). IsRefusedBy c.in_err-last.field-0.0 t)
+    (read-by c.records_are_those_at_the_end.ensures c.args.graph.now c.args.instance.now new (same.graph ∙ f.graph)
+    (same.instance ∙ f.instance) (same.most ∙ f.most) c.args.text.now piece c.without_mark.ensures)
+    (c.in_err-last.ensures.reads piece (map fact_of c.take.new.batch.items) (c.in_ok-take.ensures.feeds [] [] f.fed)))
+
+pub returns-clause-read : goal.returns-clause-read
+returns-clause-read c =
     let g = c.args.graph.now in
     let i = c.args.instance.now in
-    let records = records_of c.args.text.now in
-    let r = reading g i records most_listed_facts 0 true in
-    let facts = c.fill-filled.new.batch.items in
-    let filled = c.in_ok-filled.ensures.reads records true (at-start r c.new.result.left refl c.new.ensures) in
-    let few = c.in_ok-filled.ensures.few in
-    let same = sym c.from_vec.ensures in
-    record {
-      read = read-all r (map fact_of facts) c.fill-filled.new.rows.left _ filled refl
-          (omega (arith, length-map facts fact_of, few))
-          ∙ ap (λ (fs : List told.Fact). Ok (map fact_of fs)) same;
-      members = subst (λ (fs : List told.Fact). All (λ f. f.member.0 < length i) fs) same
-          (table-members g i facts c.in_ok-filled.ensures.table);
-      few = omega (arith, few, ap length same);
-      table = subst (λ (fs : List told.Fact). IsFactTable g i (map fact_of fs)) same c.in_ok-filled.ensures.table;
-    }
+    let f = c.new-feed.ensures in
+    let new = c.take.new.self in
+    let same = c.in_ok-take.ensures.same in
+    let before = c.take.new.batch.items in
+    let table = table-at g i c.new-feed.result f.graph f.instance (map fact_of before) c.in_ok-take.ensures.table in
+    let listed : IsListed g i before c.in_ok-last.field-0 c.match-branch-3.facts.items =
+    elim c.match-branch-3.branch [
+      | in-Some+in_ok-push w ↦
+          let e = c.in_ok-last.ensures in
+          let last : c.in_ok-last.field-0 ≡ Some w.in-Some.last = w.in-Some.is in
+          let same-items : w.push.new.self.items ≡ c.match-branch-3.facts.items = cc in
+          subst (λ (o : Option told.Fact). IsListed g i before o c.match-branch-3.facts.items) (sym last)
+          (last-listed g i before table new (same.graph ∙ f.graph) (same.instance ∙ f.instance) w.in-Some.last
+          c.match-branch-3.facts.items (sym same-items ∙ w.in_ok-push.ensures.items) (rw last at e.member)
+          (rw last at e.bottom))
+      | in_default w ↦
+          let same-items : before ≡ c.match-branch-3.facts.items = cc in
+          subst (λ (fs : List told.Fact). IsListed g i before c.in_ok-last.field-0 fs) same-items
+          (none-listed g i before table c.in_ok-last.field-0 w.in_default.not-Some)
+    ] in
+    let piece = c.without_mark.result.now in
+    let read = c.in_ok-last.ensures.reads piece (map fact_of before) (c.in_ok-take.ensures.feeds [] [] f.fed) in
+    sym (read-by c.records_are_those_at_the_end.ensures g i new (same.graph ∙ f.graph) (same.instance ∙ f.instance)
+    (same.most ∙ f.most) c.args.text.now piece c.without_mark.ensures)
+    ∙ read ∙ ap Ok (sym listed.all) ∙ ap (λ (fs : List told.Fact). Ok (map fact_of fs)) (sym c.from_vec.ensures)
 
-pub returns-in_err-filled-clause-read : goal.returns-in_err-filled-clause-read
-returns-in_err-filled-clause-read c =
-    let records = records_of c.args.text.now in
-    let r = reading c.args.graph.now c.args.instance.now records most_listed_facts 0 true in
-    let stop = err_from_is_err_and c.from_residual.result c.from_residual.ensures.1 in
-    let stopped = c.in_err-filled.ensures.reads records true (at-start r c.new.result.left refl c.new.ensures) in
-    rw (stop.1, stop.2) (refused-by r _ _ stopped)
+pub returns-clause-table : goal.returns-clause-table
+returns-clause-table c =
+    let g = c.args.graph.now in
+    let i = c.args.instance.now in
+    let f = c.new-feed.ensures in
+    let new = c.take.new.self in
+    let same = c.in_ok-take.ensures.same in
+    let before = c.take.new.batch.items in
+    let table = table-at g i c.new-feed.result f.graph f.instance (map fact_of before) c.in_ok-take.ensures.table in
+    let listed : IsListed g i before c.in_ok-last.field-0 c.match-branch-3.facts.items =
+    elim c.match-branch-3.branch [
+      | in-Some+in_ok-push w ↦
+          let e = c.in_ok-last.ensures in
+          let last : c.in_ok-last.field-0 ≡ Some w.in-Some.last = w.in-Some.is in
+          let same-items : w.push.new.self.items ≡ c.match-branch-3.facts.items = cc in
+          subst (λ (o : Option told.Fact). IsListed g i before o c.match-branch-3.facts.items) (sym last)
+          (last-listed g i before table new (same.graph ∙ f.graph) (same.instance ∙ f.instance) w.in-Some.last
+          c.match-branch-3.facts.items (sym same-items ∙ w.in_ok-push.ensures.items) (rw last at e.member)
+          (rw last at e.bottom))
+      | in_default w ↦
+          let same-items : before ≡ c.match-branch-3.facts.items = cc in
+          subst (λ (fs : List told.Fact). IsListed g i before c.in_ok-last.field-0 fs) same-items
+          (none-listed g i before table c.in_ok-last.field-0 w.in_default.not-Some)
+    ] in
+    subst (λ (fs : List told.Fact). IsFactTable g i (map fact_of fs)) (sym c.from_vec.ensures) listed.table
