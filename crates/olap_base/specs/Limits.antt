@@ -33,11 +33,11 @@ most_text_bytes = 255
 abbrev pub most_members : ℕ
 most_members = 16777215
 
--- facts of a file that is rolled up
+-- facts of a file
 abbrev pub most_facts : ℕ
 most_facts = 4294967295
 
--- facts of a file that is read into a list
+-- facts of a text that is read into a list
 abbrev pub most_listed_facts : ℕ
 most_listed_facts = 1048576
 
@@ -68,10 +68,6 @@ most_instance_bytes = 4294967296
 -- bytes of a file of stored views
 abbrev pub most_store_bytes : ℕ
 most_store_bytes = 17179869184
-
--- bytes of a file of facts
-abbrev pub most_facts_bytes : ℕ
-most_facts_bytes = 67108864
 
 -- words of a command line, the command counted
 abbrev pub most_words : ℕ

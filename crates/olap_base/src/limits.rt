@@ -24,10 +24,10 @@ pub const MOST_TEXT_BYTES: usize = 255;
 /// Members of an instance, `all` counted.
 pub const MOST_MEMBERS: usize = 16_777_215;
 
-/// Facts of a file that is rolled up.
+/// Facts of a file.
 pub const MOST_FACTS: u64 = 4_294_967_295;
 
-/// Facts of a file that is read into a list.
+/// Facts of a text that is read into a list.
 pub const MOST_LISTED_FACTS: u64 = 1_048_576;
 
 /// Views of a store.
@@ -50,9 +50,6 @@ pub const MOST_INSTANCE_BYTES: u64 = 4_294_967_296;
 
 /// Bytes of a file of stored views.
 pub const MOST_STORE_BYTES: u64 = 17_179_869_184;
-
-/// Bytes of a file of facts.
-pub const MOST_FACTS_BYTES: u64 = 67_108_864;
 
 /// Words of a command line, the command counted.
 pub const MOST_WORDS: usize = 64;

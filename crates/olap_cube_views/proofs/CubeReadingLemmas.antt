@@ -3,11 +3,10 @@
 --     members_more     one field more; members_stop where it has a fault; members_end all of them
 --     header_is        whether the first record is the header
 --     told_cause       a record's fault is the text's first
---     cube_rolled_up   a view of all facts of a text
 --     cube_facts_more, cube_table_more, cube_table_members   a fact table that grows
 --     same_length      lists with equal images have one length
 use Rattle.std.proofs.Common.{◌≡◌, ◌↔◌, ℕ, suc, ◌+◌, ◌≤◌, List, [], ◌∷◌, ◌++◌, length, get_or, map, drop, Bool, true, IsTrue, Option, Some, None, refl, sym, ap, subst, ◌∙◌, inl, inr, arith, append_assoc, append-nil}
-use Rattle.std.specs.Prelude.{All, Err, Ok, if◌then◌else◌}
+use Rattle.std.specs.Prelude.{All}
 use Rattle.std.specs.Bool.{one_answer}
 use Rattle.std.specs.Cmp.Lexicographic.{pointwise}
 use Rattle.std.specs.Option.{option_or}
@@ -22,15 +21,13 @@ use Rattle.olap_instance.specs.Made.{IsMadeFor}
 use Rattle.olap_records.specs.Faults.{first_fault}
 use Rattle.olap_records.proofs.Seeing.{HasSeen, see-fault}
 use Rattle.olap_facts.specs.declared.kinds.FactKind.{FactKind}
-use Rattle.olap_facts.specs.declared.kinds.FactKind.TheVariants as kinds
 use Rattle.olap_base.specs.declared.refusals.Fault.{Fault}
 use Rattle.olap_base.specs.declared.refusals.Refusal.{Refusal}
 use Rattle.olap_base.specs.declared.refusals.Refusal.TheVariants as refusal
-use Rattle.olap_cube.specs.CubeViews.{CubeFact, CubeView, IsCubeFactTable, cube_direct_view}
+use Rattle.olap_cube.specs.CubeViews.{CubeFact, IsCubeFactTable}
 use Rattle.olap_cube.specs.Tuples.{IsBottomTuple}
-use Rattle.olap_cube_views.specs.CubeFactText.{body_read, cube_fact_fault, cube_fact_read, has_header, member_fault, member_number, members_fault, members_read, or_read}
+use Rattle.olap_cube_views.specs.CubeFactText.{cube_fact_fault, cube_fact_read, member_fault, member_number, members_fault, members_read}
 use Rattle.olap_cube_views.specs.CubeRefusals.{IsFaultCause, IsToldAt}
-use Rattle.olap_cube_views.specs.CubeRollingUp.{IsCubeRolledUp}
 use Rattle.olap_cube_views.specs.CubeTallies.{AreMembers}
 use Rattle.olap_cube_views.specs.Dimensions.{AreMadeFor}
 use Rattle.olap_cube_views.specs.Seen.{cube_fact_of, members_of}
@@ -166,18 +163,6 @@ pub cube_table_members : (gs : List Graph) (is : List Instance) (fs : List told.
     → IsCubeFactTable gs is (map cube_fact_of fs) → All (λ f. AreMembers is (members_of f.members)) fs
 cube_table_members gs is fs t k d h = bottom_members gs is (members_of (get_or fs k d).members)
     (t (cube_fact_of (get_or fs k d)) (Contains-map cube_fact_of fs (get_or fs k d) (Contains-get_or fs k d h)))
-
--- a view of all facts of a text
-pub cube_rolled_up : (gs : List Graph) (is : List Instance) (records left : List (List (List ℕ))) (target : List ℕ)
-    (view : CubeView) → has_header (length is) records ≡ true → left ≡ drop 1 records
-    → first_fault (cube_fact_fault gs is) [] left ≡ None
-    → view ≡ cube_direct_view is (map (cube_fact_read is) left) target → IsCubeRolledUp gs is records target view
-cube_rolled_up gs is records left target view h e none v = record {
-  facts = map (cube_fact_read is) left;
-  read = ap (λ b. if b then body_read gs is (drop 1 records) else Err (record { at = 1; kind = kinds.BadHeader })) h
-      ∙ ap (body_read gs is) (sym e) ∙ ap (λ o. or_read o (Ok (map (cube_fact_read is) left))) none;
-  direct = v;
-}
 
 -- lists with equal images have one length
 pub same_length : {A B C : Type 0} (f : A → C) (h : B → C) (xs : List A) (ys : List B) → map f xs ≡ map h ys

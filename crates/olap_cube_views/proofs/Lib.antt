@@ -9,3 +9,5 @@ mod CubeTallyLemmas
 mod ReferenceLemmas
 mod CubeReadingLemmas
 mod CubePrintingLemmas
+mod CubeCountingLemmas
+mod CubeFeedLemmas

@@ -1,8 +1,12 @@
 -- What references point to, and what else stands for the items of a list.
 --     pointed_at     what a reference points to, at a place
 --     pointed_from   from a place on
+--     column_from    the instances of columns
 --     mapped_more    what stands for the items of a list, which gets one item more
 use Rattle.std.proofs.Common.{◌≡◌, ℕ, ◌+◌, ◌<◌, Bor, List, ◌∷◌, [], ◌++◌, length, get_or, map, drop, take, sym, ap, ◌∙◌, arith}
+use Rattle.olap_base.specs.Instance.{Instance}
+use Rattle.olap_view.specs.Columns.{Ascent, ascent}
+use Rattle.olap_cube_views.specs.Dimensions.{instances_in}
 use Rattle.std.proofs.lemmas.List.{drop_more, get_or-map, length-map, map-append, take_more}
 
 -- the reference at k points to what stands there, whatever is said to stand past the end
@@ -26,3 +30,14 @@ pub mapped_more : {X Y : Type 0} (f : X → Y) (old new : List X) (x : X) (ys : 
 mapped_more {X} {Y} f old new x ys k d h e o p =
     ap (map f) e ∙ map-append f old (x ∷ []) ∙ ap (λ (t : List Y). t ++ f x ∷ []) o
     ∙ ap (λ (y : Y). take k ys ++ y ∷ []) p ∙ sym (take_more ys k d h)
+
+-- the instances of the columns from the k-th on
+pub column_from : (columns : List Ascent) (k : ℕ) (i : Instance) → k < length columns
+    → i ≡ (get_or columns k (ascent [] 0)).instance
+    → drop k (instances_in columns) ≡ i ∷ drop (k + 1) (instances_in columns)
+column_from columns k i h e =
+    let n = length-map columns (λ (a : Ascent). a.instance) in
+    let there : k < length (instances_in columns) = omega arith in
+    drop_more (instances_in columns) k [] there
+    ∙ ap (λ (j : Instance). j ∷ drop (k + 1) (instances_in columns))
+    (get_or-map (λ (a : Ascent). a.instance) columns k (ascent [] 0) [] h ∙ sym e)

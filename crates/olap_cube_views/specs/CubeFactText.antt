@@ -55,18 +55,24 @@ abbrev pub members_read : List Instance → List (List ℕ) → List ℕ
 members_read (i ∷ is) (f ∷ fields) = member_number i f ∷ members_read is fields
 members_read _ _ = []
 
--- the fault of a record whose members have none: the last field spells no value, or there are too many facts before
-abbrev pub value_fault : List (List (List ℕ)) → List ℕ → Option FactKind
-value_fault before f =
+-- the fault of a record whose members have none, where there may be so many facts: the last field spells no value, or
+-- there are as many before
+abbrev pub value_fault_within : ℕ → List (List (List ℕ)) → List ℕ → Option FactKind
+value_fault_within most before f =
     if is_none (value_of f) then Some kind.BadNumber
-    else if nat_le most_listed_facts (length before) then Some kind.TooManyFacts
+    else if nat_le most (length before) then Some kind.TooManyFacts
     else None
 
--- the first check that a record fails, after the records before it
-abbrev pub cube_fact_fault : List Graph → List Instance → List (List (List ℕ)) → List (List ℕ) → Option FactKind
-cube_fact_fault gs is before r =
+-- the first check that a record fails, after the records before it, where there may be so many facts
+abbrev pub cube_fact_fault_within : ℕ → List Graph → List Instance → List (List (List ℕ)) → List (List ℕ)
+    → Option FactKind
+cube_fact_fault_within most gs is before r =
     if not (length r == length is + 1) then Some kind.FieldCount
-    else option_or (members_fault gs is r) (value_fault before (field r (length is)))
+    else option_or (members_fault gs is r) (value_fault_within most before (field r (length is)))
+
+-- the same for a file that is read into a list
+abbrev pub cube_fact_fault : List Graph → List Instance → List (List (List ℕ)) → List (List ℕ) → Option FactKind
+cube_fact_fault = cube_fact_fault_within most_listed_facts
 
 -- a record's fact: the members that it names, and the value that it spells
 abbrev pub cube_fact_read : List Instance → List (List ℕ) → CubeFact
@@ -81,18 +87,25 @@ abbrev pub or_read : Option (ℕ × FactKind) → Result (List CubeFact) (Fault 
 or_read None after = after
 or_read (Some p) after = Err (record { at = p.0 + 2; kind = p.1 })
 
--- the records after the header
-abbrev pub body_read : List Graph → List Instance → List (List (List ℕ)) → Result (List CubeFact) (Fault FactKind)
-body_read gs is rows = or_read (first_fault (cube_fact_fault gs is) [] rows) (Ok (map (cube_fact_read is) rows))
+-- the records after the header, where there may be so many facts
+abbrev pub body_read_within : ℕ → List Graph → List Instance → List (List (List ℕ))
+    → Result (List CubeFact) (Fault FactKind)
+body_read_within most gs is rows =
+    or_read (first_fault (cube_fact_fault_within most gs is) [] rows) (Ok (map (cube_fact_read is) rows))
 
 -- the first record is the header
 abbrev pub has_header : ℕ → List (List (List ℕ)) → Bool
 has_header k [] = false
 has_header k (top ∷ rows) = pointwise bytes_eq top (header k)
 
--- what the records of a text stand for
+-- what the records of a text stand for, where there may be so many facts
+abbrev pub cube_facts_read_within : ℕ → List Graph → List Instance → List (List (List ℕ))
+    → Result (List CubeFact) (Fault FactKind)
+cube_facts_read_within most gs is records =
+    if has_header (length is) records then body_read_within most gs is (drop 1 records)
+    else Err (record { at = 1; kind = kind.BadHeader })
+
+-- the same for a file that is read into a list
 abbrev pub cube_facts_read : List Graph → List Instance → List (List (List ℕ))
     → Result (List CubeFact) (Fault FactKind)
-cube_facts_read gs is records =
-    if has_header (length is) records then body_read gs is (drop 1 records)
-    else Err (record { at = 1; kind = kind.BadHeader })
+cube_facts_read = cube_facts_read_within most_listed_facts

@@ -14,14 +14,14 @@ use Rattle.std.specs.Ordering.{nat_cmp}
 use Rattle.std.specs.declared.cmp.Ordering.{Ordering}
 use Rattle.olap_base.specs.Graph.{Graph}
 use Rattle.olap_base.specs.Instance.{Instance, IsMember}
-use Rattle.olap_base.specs.Limits.{most_count}
+use Rattle.olap_base.specs.Limits.{most_count, most_facts}
 use Rattle.olap_base.specs.Summaries.{Summary, total}
 use Rattle.olap_cube.specs.CubeViews.{CubeFact, CubeRow, total_of_cube_facts}
 use Rattle.olap_cube.specs.Tuples.{IsTupleOf, TupleReaches}
 use Rattle.olap_view.specs.Columns.{Ascent}
 use Rattle.olap_view.specs.Bounds.{IsUpTo}
 use Rattle.olap_cube.specs.Limits.{most_dimensions}
-use Rattle.olap_cube_views.specs.CubeFactText.{cube_facts_read}
+use Rattle.olap_cube_views.specs.CubeFactText.{cube_facts_read_within}
 use Rattle.olap_cube_views.specs.Dimensions.{categories_in, instances_in}
 use Rattle.olap_cube_views.specs.Seen.{entry_of}
 use Rattle.olap_cube_views.specs.declared.views.CubeRow as told_row
@@ -113,7 +113,7 @@ pub record CubeStandsFor (t : CubeTallied) (facts : List CubeFact) : Type 0 wher
 -- the records stand for facts, and it stands for those
 pub record HasTallied (gs : List Graph) (is : List Instance) (records : List (List (List ℕ))) (t : CubeTallied) : Type 0 where
   pub facts : List CubeFact
-  pub read : cube_facts_read gs is records ≡ Ok facts
+  pub read : cube_facts_read_within most_facts gs is records ≡ Ok facts
   pub stands : CubeStandsFor t facts
 
 -- it stands for some fact table whose values are of 64 bits

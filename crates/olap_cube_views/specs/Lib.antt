@@ -6,6 +6,7 @@ pub mod Seen
 pub mod CubeFactText
 pub mod CubeRefusals
 pub mod CubeRollingUp
+pub mod CubeFeeding
 pub mod CubeViewText
 -- The inside: what a map of summaries by tuples holds.
 pub mod CubeTallies

@@ -117,7 +117,7 @@ pub fn print_cube_view(alloc: Global, legals: &Legals, view: &CubeView) -> Resul
     text(alloc, &instances, view)
 }
 
-/// The text of a view that `cube_roll_up` made of these columns, as `print_cube_view` has it. `Memory`: out of memory.
+/// The text of a view that a `CubeRoller` made of these columns, as `print_cube_view` has it. `Memory`: out of memory.
 pub fn print_rolled_up(
     alloc: Global,
     columns: &TargetColumns,

@@ -26,7 +26,7 @@ use olap_records::Rows;
 use std::alloc::Global;
 
 /// Reads the first record, and says whether it is the header for so many dimensions.
-pub(crate) fn begins(rows: &mut Rows, dimensions: usize) -> Result<bool, Memory>
+fn begins(rows: &mut Rows, dimensions: usize) -> Result<bool, Memory>
     requires few { dimensions ≤ most_dimensions }
     ensures header { IfOk result (λ b. b ≡ has_header dimensions rows.old.left) }
     ensures left { IfOk result (λ b. IsTrue b → rows.new.left ≡ drop 1 rows.old.left) }
@@ -50,7 +50,7 @@ fn is_header(rows: &Rows, dimensions: usize) -> bool
 }
 
 /// The member of a bottom category that a field names.
-fn member(graph: &Graph, instance: &Instance, field: &[u8]) -> Result<MemberId, FactKind>
+pub(crate) fn member(graph: &Graph, instance: &Instance, field: &[u8]) -> Result<MemberId, FactKind>
     requires made { IsMadeFor graph.now instance.now }
     ensures member { MatchResult result
         (λ m. (member_fault graph.now instance.now field.now ≡ None)
@@ -98,7 +98,7 @@ fn members(
 }
 
 /// The fact of the record that was read last, after this many facts.
-pub(crate) fn fact(
+fn fact(
     alloc: Global,
     graphs: &[&Graph],
     instances: &[&Instance],

@@ -118,7 +118,8 @@ impl<'a> CubeTally<'a> {
 
     /// How many facts were added.
     pub(crate) fn added(&self) -> u64
-        ensures { result ≡ self.now.added }
+        ensures count { result ≡ self.now.added }
+        ensures few { result ≤ most_count }
     {
         self.added
     }

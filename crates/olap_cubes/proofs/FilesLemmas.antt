@@ -10,7 +10,7 @@ use Rattle.std.specs.Result.{IsErrAnd}
 use Rattle.olap_base.specs.declared.ids.Memory.{Memory}
 use Rattle.olap_outside.specs.Files.{Files}
 use Rattle.olap_outside.specs.declared.outside.Library.{Ghosts as Library}
-use Rattle.olap_order.specs.Judged.{IsLater, Judged, Replies}
+use Rattle.olap_order.specs.Judged.{IsLater, Judged}
 use Rattle.olap_order.specs.Order.{Order, Done, Told, Read, ReadsNoFile, and_then}
 use Rattle.olap_order.specs.Refusals.{IsOutOfMemory}
 use Rattle.olap_order.specs.Taken.{ComesOut, ComesOutTold, FileStep, NoAnswer}

@@ -1,5 +1,6 @@
 -- Lemmas.
 mod FilesLemmas
+mod RollingLemmas
 mod DimensionLemmas
 mod NameLemmas
 mod WordLemmas

@@ -12,7 +12,7 @@ use Rattle.std.specs.Cmp.Lexicographic.{pointwise}
 use Rattle.std.specs.List.{list_any}
 use Rattle.olap_base.specs.Bytes.{comma}
 use Rattle.olap_base.specs.Instance.{Instance}
-use Rattle.olap_base.specs.Limits.{most_facts_bytes}
+use Rattle.olap_base.specs.Limits.{most_facts}
 use Rattle.olap_ast.specs.Schema.{Schema}
 use Rattle.olap_graph.specs.Lookups.{category_named}
 use Rattle.olap_grammar.specs.Words.{pieces_of}
@@ -20,9 +20,9 @@ use Rattle.olap_records.specs.Records.{records_of}
 use Rattle.olap_facts.specs.Kinds.{name_of_kind as fact_kind}
 use Rattle.olap_cube.specs.CubeSummarizable.{graphs_of}
 use Rattle.olap_cube.specs.CubeViews.{CubeFact}
-use Rattle.olap_cube_views.specs.CubeFactText.{cube_facts_read}
-use Rattle.olap_order.specs.Order.{Order, Done, and_then, ok_or, refused}
-use Rattle.olap_order.specs.Steps.{fault_text, meaning_or_fault, schema_file, text_file}
+use Rattle.olap_cube_views.specs.CubeFactText.{cube_facts_read_within}
+use Rattle.olap_order.specs.Order.{Order, Done, Read, and_then, ok_or, refused}
+use Rattle.olap_order.specs.Steps.{fault_text, meaning_or_fault, schema_file}
 use Rattle.olap_reading.specs.Steps.{legal_file}
 
 -- ---- files, one of each dimension
@@ -45,12 +45,11 @@ legal_files dimension earlier (s ∷ schemas) (file ∷ files) =
     legal_files (suc dimension) (earlier ++ i ∷ []) schemas files)
 legal_files dimension earlier schemas files = Done earlier
 
--- the facts at tuples of these instances' members in a file
+-- the facts at tuples of these instances' members in a file of any length
 abbrev pub cube_facts_file : List Schema → List Instance → List ℕ → Order (List CubeFact)
-cube_facts_file schemas is file =
-    and_then (text_file (codes "facts") most_facts_bytes file) (λ text.
+cube_facts_file schemas is file = Read file (λ text.
     meaning_or_fault (codes "facts") (codes "record") fact_kind
-    (cube_facts_read (graphs_of schemas) is (records_of text)))
+    (cube_facts_read_within most_facts (graphs_of schemas) is (records_of text)))
 
 -- ---- words
 

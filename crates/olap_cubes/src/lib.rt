@@ -10,6 +10,7 @@ mod dimensions;
 mod judging;
 mod laws;
 mod naming;
+mod rolling;
 mod summarizing;
 mod viewing;
 mod words;

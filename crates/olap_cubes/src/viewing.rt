@@ -1,16 +1,12 @@
 // The command `cubeview`: the direct view of a target, a category of each dimension.
-ghost use Rattle.std.specs.Prelude.{◌≡◌, All, Err, IfErr, IfOk, MatchResult, length};
+ghost use Rattle.std.specs.Prelude.{◌≡◌, All, Err, IfOk, MatchResult, length};
 ghost use Rattle.olap_cube.specs.CubeSummarizable.{graphs_of};
 ghost use Rattle.olap_cube.specs.CubeViews.{cube_direct_view};
-ghost use Rattle.olap_cube_views.specs.CubeFactText.{cube_facts_read};
-ghost use Rattle.olap_base.specs.Refusing.{IsRefusedBy};
-ghost use Rattle.olap_cube_views.specs.CubeRollingUp.{IsCubeRolledUp};
 ghost use Rattle.olap_cube_views.specs.CubeTallies.{AreMembers};
 ghost use Rattle.olap_cube_views.specs.CubeViewText.{cube_view_text};
-ghost use Rattle.olap_cube_views.specs.Dimensions.{AreMadeFor, categories_in, graphs_of as graphs_at, instances_in};
+ghost use Rattle.olap_cube_views.specs.Dimensions.{AreMadeFor, categories_in, instances_in};
 ghost use Rattle.olap_cube_views.specs.Seen.{cube_view_of};
 ghost use Rattle.olap_dimensions.specs.Dimensions.{schemas_of};
-ghost use Rattle.olap_records.specs.Records.{records_of};
 ghost use Rattle.olap_order.specs.Judged.{Judged};
 ghost use Rattle.olap_order.specs.Order.{Told, and_then};
 ghost use Rattle.olap_order.specs.Taken.{FileStep};
@@ -25,48 +21,15 @@ ghost use Rattle.olap_view.specs.Seen.{ids};
 
 use crate::dimensions::{columns_in, schemas_in};
 use crate::naming::tuple_at;
-use olap_base::{CatId, Fault, MOST_FACTS_BYTES, Memory, Refusal};
-use olap_cube_views::{CubeView, TargetColumns, cube_roll_up, print_rolled_up};
+use crate::rolling::{Unrolled, rolled_up};
+use olap_base::{CatId, Refusal};
+use olap_cube_views::{CubeView, TargetColumns, print_rolled_up};
 use olap_dimensions::Cube;
-use olap_facts::FactKind;
-use olap_graph::Graph;
-use olap_order::{Reply, Status, Stop, read_file, refuse_long, refuse_part, yes};
+use olap_order::{Reply, Status, Stop, refuse_part, yes};
 use olap_outside::Library;
 use std::alloc::Global;
 
-/// The graphs of the dimensions, in order.
-fn graphs(alloc: Global, cube: &Cube) -> Result<Vec<&Graph>, Memory>
-    ensures { IfOk result (λ graphs. graphs_at graphs.items ≡ graphs_of (schemas_of cube.now)) }
-{
-    let mut graphs = Vec::new(alloc);
-    'dimensions: for k in 0..cube.len() {
-        graphs.push(cube.schema(k).graph())?;
-    }
-    Ok(graphs)
-}
-
-/// The direct view of the columns' categories from the facts of a text, or the text's first fault.
-fn rolled_up(
-    alloc: Global,
-    cube: &Cube,
-    columns: &TargetColumns,
-    text: &[u8],
-) -> Result<CubeView, Refusal<Fault<FactKind>>>
-    requires made { AreMadeFor (graphs_of (schemas_of cube.now)) (instances_in columns.now) }
-    ensures view { IfOk result (λ v. IsCubeRolledUp (graphs_of (schemas_of cube.now))
-        (instances_in columns.now) (records_of text.now) (categories_in columns.now)
-        (cube_view_of v)) }
-    ensures members { IfOk result (λ v.
-        All (λ r. AreMembers (instances_in columns.now) r.members) (cube_view_of v).rows) }
-    ensures err { IfErr result (λ e. IsRefusedBy e
-        (cube_facts_read (graphs_of (schemas_of cube.now)) (instances_in columns.now)
-        (records_of text.now))) }
-{
-    let graphs = graphs(alloc, cube)?;
-    cube_roll_up(alloc, &graphs, columns, text)
-}
-
-/// The direct view of the columns' categories from the facts in a file.
+/// The direct view of the columns' categories from the facts in a file, which may be of any length.
 fn view_in<L: Library>(
     alloc: Global,
     cube: &Cube,
@@ -84,15 +47,20 @@ fn view_in<L: Library>(
     ensures members { IfOk result (λ v.
         All (λ r. AreMembers (instances_in columns.now) r.members) (cube_view_of v).rows) }
 {
-    let Some(text) = read_file(alloc, file, MOST_FACTS_BYTES, lib)? else {
-        return Err(refuse_long(alloc, "facts"));
+    let Ok(()) = lib.open_file(file) else {
+        return Err(Stop::Read);
     };
-    match rolled_up(alloc, cube, columns, &text) {
+    match rolled_up(alloc, cube, columns, lib) {
         Ok(view) => Ok(view),
-        Err(Refusal::Kind(Fault { at, kind })) => {
-            Err(refuse_part(alloc, "facts", "record", at, kind.name()))
-        }
-        Err(Refusal::Memory(memory)) => Err(Stop::Memory(memory)),
+        Err(Unrolled::Failed) => Err(Stop::Read),
+        Err(Unrolled::Refused(Refusal::Kind(fault))) => Err(refuse_part(
+            alloc,
+            "facts",
+            "record",
+            fault.at,
+            fault.kind.name(),
+        )),
+        Err(Unrolled::Refused(Refusal::Memory(memory))) => Err(Stop::Memory(memory)),
     }
 }
 

@@ -5,7 +5,7 @@ use Rattle.olap_base.specs.Graph.{Graph}
 use Rattle.olap_cube_views.specs.Dimensions.{graphs_of as graphs_at}
 use Rattle.olap_dimensions.specs.Dimensions.{schemas_of}
 use Rattle.olap_cubes.proofs.DimensionLemmas.{graphs_all, graphs_more}
-use Rattle.olap_cubes.proofs.viewing.graphs.Goals as goal
+use Rattle.olap_cubes.proofs.rolling.graphs.Goals as goal
 
 pub dimensions-preserved : goal.dimensions-preserved
 dimensions-preserved c =

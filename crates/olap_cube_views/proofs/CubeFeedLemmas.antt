@@ -1,0 +1,118 @@
+-- A roller of a cube's facts after a part of a piece, and at the end of its text.
+--     stands-on          a record more, or none
+--     whole-is           a text in two parts
+--     no-cut, one-cut    what the splitter says of the rest of a piece
+--     taken-none, taken-one   the facts after it
+--     own, back          what the text is taken against
+--     last-taken         the last record, which the text's end ends
+use Rattle.std.proofs.Common.{◌≡◌, ◌+◌, ◌-◌, ◌∷◌, ◌++◌, ◌∙◌, Bool, true, false, ℕ, List, [], length, take, drop, refl, sym, ap, subst, append_assoc, take-add}
+use Rattle.std.specs.Prelude.{MatchResult, Result, Ok, Err, ⊤}
+use Rattle.std.proofs.lemmas.List.{append-nil, take-append-drop}
+use Rattle.olap_base.proofs.ListLemmas.{rest_is}
+use Rattle.olap_base.specs.Graph.{Graph}
+use Rattle.olap_base.specs.Instance.{Instance}
+use Rattle.olap_base.specs.Limits.{most_facts}
+use Rattle.olap_base.specs.Refusing.{IsRefusedBy}
+use Rattle.olap_base.specs.declared.refusals.Fault.{Fault}
+use Rattle.olap_base.specs.declared.refusals.Refusal.{Refusal}
+use Rattle.olap_records.specs.Standing.{Standing, at_start, behind, records_fed, records_if, standing}
+use Rattle.olap_records.proofs.JoinLemmas.{fed-more}
+use Rattle.olap_facts.specs.declared.kinds.FactKind.{FactKind}
+use Rattle.olap_cube_views.specs.CubeFactText.{cube_facts_read_within}
+use Rattle.olap_cube_views.specs.CubeFeeding.{CubeRolling, HasCounted, HasTakenFacts, cube_fed_read, cube_rolling}
+use Rattle.olap_cube_views.specs.CubeTallies.{CubeTallied, HasTallied}
+use Rattle.olap_cube_views.proofs.CubeCountingLemmas.{all-counted}
+
+-- some records more
+pub stands-on : (fed piece : List ℕ) (at n : ℕ) (done rs : List (List (List ℕ))) (s new : Standing)
+    → standing at_start (fed ++ take at piece) ≡ behind done s
+    → standing s (take n (drop at piece)) ≡ behind rs new
+    → standing at_start (fed ++ take (at + n) piece) ≡ behind (done ++ rs) new
+stands-on fed piece at n done rs s new a b =
+    ap (λ xs. standing at_start (fed ++ xs)) (take-add at n piece)
+    ∙ ap (standing at_start) (sym (append_assoc fed (take at piece) (take n (drop at piece))))
+    ∙ fed-more (fed ++ take at piece) (take n (drop at piece)) done rs s new a b
+
+-- a text in two parts
+pub whole-is : (fed piece more : List ℕ) (m : ℕ)
+    → (fed ++ piece) ++ more ≡ (fed ++ take m piece) ++ (drop m piece ++ more)
+whole-is fed piece more m =
+    ap (λ xs. (fed ++ xs) ++ more) (sym (take-append-drop m piece))
+    ∙ ap (λ xs. xs ++ more) (sym (append_assoc fed (take m piece) (drop m piece)))
+    ∙ append_assoc (fed ++ take m piece) (drop m piece) more
+
+-- what the splitter says of the rest of a piece, without or with a record
+module _ (piece : List ℕ) (at n : ℕ) (found : Bool) (row : List (List ℕ)) (s new : Standing)
+    (h : standing s (take n (take (length piece - at) (drop at piece))) ≡ behind (records_if found row) new)
+  where
+    pub no-cut : found ≡ false → standing s (take n (drop at piece)) ≡ behind [] new
+    no-cut e =
+        ap (λ xs. standing s (take n xs)) (sym (rest_is at piece)) ∙ h
+        ∙ ap (λ b. behind (records_if b row) new) e
+
+    pub one-cut : found ≡ true → standing s (take n (drop at piece)) ≡ behind (row ∷ []) new
+    one-cut e =
+        ap (λ xs. standing s (take n xs)) (sym (rest_is at piece)) ∙ h
+        ∙ ap (λ b. behind (records_if b row) new) e
+
+module _ (gs : List Graph) (is : List Instance) (target fed : List ℕ) (r : CubeRolling)
+    (h : HasTakenFacts gs is target fed r) where
+  -- no record more
+  pub taken-none : (more : List ℕ) (new : Standing) → standing at_start more ≡ behind h.done new
+      → HasTakenFacts gs is target more (cube_rolling r.graphs r.begun new r.tally)
+  taken-none more new e = record {
+    graphs = h.graphs;
+    instances = h.instances;
+    target_is = h.target_is;
+    done = h.done;
+    facts = h.facts;
+    stands_at = e;
+    counted = h.counted;
+    stands_for = h.stands_for;
+  }
+
+  -- a record more
+  pub taken-one : (more : List ℕ) (row : List (List ℕ)) (new : Standing) (tally : CubeTallied)
+      → standing at_start more ≡ behind (h.done ++ row ∷ []) new → tally.instances ≡ r.tally.instances
+      → tally.target ≡ r.tally.target → HasCounted gs is (h.done ++ row ∷ []) tally
+      → HasTakenFacts gs is target more (cube_rolling r.graphs true new tally)
+  taken-one more row new tally e i t c = record {
+    graphs = h.graphs;
+    instances = i ∙ h.instances;
+    target_is = t ∙ h.target_is;
+    done = h.done ++ row ∷ [];
+    facts = c.facts;
+    stands_at = e;
+    counted = c.counted;
+    stands_for = c.stands_for;
+  }
+
+-- the last record, which the text's end ends
+pub last-taken : (gs : List Graph) (is : List Instance) (fed : List ℕ) (done : List (List (List ℕ)))
+    (row : List (List ℕ)) (tally : CubeTallied) → records_fed fed ≡ done ++ row ∷ []
+    → (result : Result ⊤ (Refusal (Fault FactKind))) → MatchResult result
+    (λ _. HasCounted gs is (done ++ row ∷ []) tally)
+    (λ e. (left : List (List (List ℕ)))
+    → IsRefusedBy e (cube_facts_read_within most_facts gs is ((done ++ row ∷ []) ++ left)))
+    → MatchResult result (λ _. HasTallied gs is (records_fed fed) tally) (λ e. IsRefusedBy e (cube_fed_read gs is fed))
+last-taken gs is fed done row tally all (Ok x) h = record {
+  facts = h.facts;
+  read = ap (cube_facts_read_within most_facts gs is) all
+      ∙ all-counted gs is (done ++ row ∷ []) h.facts (h.counted.going refl);
+  stands = h.stands_for;
+}
+last-taken gs is fed done row tally all (Err e) h =
+    subst (λ (rs : List (List (List ℕ))). IsRefusedBy e (cube_facts_read_within most_facts gs is rs))
+    (append-nil (done ++ row ∷ []) ∙ sym all) (h [])
+
+-- a roller's graphs and instances are those that its text was taken against
+module _ (gs : List Graph) (is : List Instance) (target fed : List ℕ) (r : CubeRolling) (js : List Instance)
+    (same : r.tally.instances ≡ js) (h : HasTakenFacts gs is target fed r) where
+  -- taken against the roller's own
+  pub own : HasTakenFacts r.graphs js target fed r
+  own = subst (λ hs. HasTakenFacts hs js target fed r) (sym h.graphs)
+      (subst (λ ks. HasTakenFacts gs ks target fed r) (sym h.instances ∙ same) h)
+
+  -- and back
+  pub back : (P : List Graph → List Instance → Type 0) → P r.graphs js → P gs is
+  back P p = subst (λ ks. P gs ks) (sym same ∙ h.instances) (subst (λ hs. P hs js) h.graphs p)

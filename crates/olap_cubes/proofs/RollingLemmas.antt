@@ -1,0 +1,72 @@
+-- A file of a cube's facts that is read piece by piece.
+--     IsSoFar     a roller has taken the bytes so far
+--     no-memory   out of memory
+--     fault-out   the first fault of the facts in a file
+use Rattle.std.proofs.Common.{◌≡◌, ◌≤◌, ℕ, List, Option, None, Some, Result, [], length, refl, ap}
+use Rattle.std.specs.Prelude.{IfErr, Ok, Err, codes}
+use Rattle.std.specs.Result.{IsErrAnd}
+use Rattle.std.specs.Io.KnownBytes.{Consumes}
+use Rattle.olap_base.specs.Graph.{Graph}
+use Rattle.olap_base.specs.Instance.{Instance}
+use Rattle.olap_base.specs.Limits.{most_facts}
+use Rattle.olap_base.specs.declared.ids.Memory.{Memory}
+use Rattle.olap_base.specs.declared.refusals.Fault.{Fault}
+use Rattle.olap_base.specs.declared.refusals.Refusal.TheVariants as refusal
+use Rattle.olap_ast.specs.Schema.{Schema}
+use Rattle.olap_records.specs.Records.{records_of}
+use Rattle.olap_records.specs.Standing.{unmarked}
+use Rattle.olap_cube.specs.CubeSummarizable.{graphs_of}
+use Rattle.olap_cube_views.specs.CubeFactText.{cube_facts_read_within}
+use Rattle.olap_cube_views.specs.CubeFeeding.{CubeRolling, HasTakenFacts}
+use Rattle.olap_facts.specs.Kinds.{name_of_kind}
+use Rattle.olap_facts.specs.declared.kinds.FactKind.{FactKind}
+use Rattle.olap_outside.specs.Files.{Opens}
+use Rattle.olap_outside.specs.declared.outside.Library.{Ghosts as Library}
+use Rattle.olap_order.specs.Judged.{IsLater}
+use Rattle.olap_order.specs.Refusals.{IsRefusal}
+use Rattle.olap_order.specs.Steps.{meaning_or_fault, part_text}
+use Rattle.olap_order.specs.Taken.{FileStep}
+use Rattle.olap_order.specs.declared.replies.Stop.{Stop}
+use Rattle.olap_reading.specs.Rest.{IsOfRest}
+use Rattle.olap_reading.proofs.ReadingLemmas.{fault_read}
+use Rattle.olap_reading.proofs.RollingLemmas.{content}
+use Rattle.olap_cubes.specs.Rest.{IsOutOfMemory, IsWhyUnrolled}
+use Rattle.olap_cubes.specs.Steps.{cube_facts_file}
+use Rattle.olap_cubes.specs.declared.rolling.Unrolled.{Unrolled}
+use Rattle.olap_cubes.specs.declared.rolling.Unrolled.TheVariants as unrolled
+
+-- these bytes were taken off the front of what was left, the last so many at once, and the roller has taken them
+pub record IsSoFar (old new : Option (List ℕ)) (count : ℕ) (gs : List Graph) (is : List Instance) (target : List ℕ)
+    (r : CubeRolling) : Type 0 where
+  pub text : List ℕ
+  pub parts : Consumes old new text
+  pub long : count ≡ 65536 → 3 ≤ length text
+  pub taken : HasTakenFacts gs is target (unmarked text) r
+
+-- out of memory tells nothing of the file
+memory-at : (gs : List Graph) (is : List Instance) (rest : Option (List ℕ)) (m : Memory)
+    → IsWhyUnrolled gs is rest (unrolled.Refused (refusal.Memory m))
+memory-at gs is None m = record { text = []; told = tt; so = tt }
+memory-at gs is (Some whole) m = record { text = whole; told = refl; so = tt }
+
+pub no-memory : {X : Type 0} (gs : List Graph) (is : List Instance) (rest : Option (List ℕ))
+    (result : Result X Unrolled) → IsErrAnd result IsOutOfMemory → IfErr result (IsWhyUnrolled gs is rest)
+no-memory gs is rest (Ok x) e = absurd e
+no-memory gs is rest (Err unrolled.Failed) e = absurd e
+no-memory gs is rest (Err (unrolled.Refused (refusal.Kind f))) e = absurd e
+no-memory gs is rest (Err (unrolled.Refused (refusal.Memory m))) e = memory-at gs is rest m
+
+module _ {D : Type 0} {L : Library D} {old new : D} (schemas : List Schema) (is : List Instance) (file : List ℕ)
+    (rest : Option (List ℕ)) (opens : Opens (L.contents old) file rest) (same : L.contents new ≡ L.contents old)
+    (later : IsLater L old new) where
+  -- the first fault of the facts in the file
+  pub fault-out : (fault : Fault FactKind)
+      → IsOfRest rest (λ text. cube_facts_read_within most_facts (graphs_of schemas) is (records_of text) ≡ Err fault)
+      → (stop : Stop) → IsRefusal (part_text (codes "facts") (codes "record") fault.at (name_of_kind fault.kind)) stop
+      → FileStep L old new (cube_facts_file schemas is file) (λ facts. facts) (Err stop)
+  fault-out fault h stop e =
+      fault_read file (λ t. meaning_or_fault (codes "facts") (codes "record") name_of_kind
+      (cube_facts_read_within most_facts (graphs_of schemas) is (records_of t))) h.text
+      (part_text (codes "facts") (codes "record") fault.at (name_of_kind fault.kind))
+      (ap (meaning_or_fault (codes "facts") (codes "record") name_of_kind) h.so)
+      (content (L.contents old) file rest h.text opens h.told) later same stop e
