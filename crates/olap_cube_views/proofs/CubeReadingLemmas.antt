@@ -5,7 +5,7 @@
 --     told_cause       a record's fault is the text's first
 --     cube_facts_more, cube_table_more, cube_table_members   a fact table that grows
 --     same_length      lists with equal images have one length
-use Rattle.std.proofs.Common.{◌≡◌, ◌↔◌, ℕ, suc, ◌+◌, ◌≤◌, List, [], ◌∷◌, ◌++◌, length, get_or, map, drop, Bool, true, IsTrue, Option, Some, None, refl, sym, ap, subst, ◌∙◌, inl, inr, arith, append_assoc, append-nil}
+use Rattle.std.proofs.Common.{◌≡◌, ◌↔◌, ℕ, suc, ◌+◌, ◌≤◌, List, [], ◌∷◌, ◌++◌, length, get_or, map, drop, Bool, IsTrue, Option, Some, None, refl, sym, ap, subst, ◌∙◌, inl, inr, arith, append_assoc, append-nil}
 use Rattle.std.specs.Prelude.{All}
 use Rattle.std.specs.Bool.{one_answer}
 use Rattle.std.specs.Cmp.Lexicographic.{pointwise}
@@ -26,7 +26,7 @@ use Rattle.olap_base.specs.declared.refusals.Refusal.{Refusal}
 use Rattle.olap_base.specs.declared.refusals.Refusal.TheVariants as refusal
 use Rattle.olap_cube.specs.CubeViews.{CubeFact, IsCubeFactTable}
 use Rattle.olap_cube.specs.Tuples.{IsBottomTuple}
-use Rattle.olap_cube_views.specs.CubeFactText.{cube_fact_fault, cube_fact_read, member_fault, member_number, members_fault, members_read}
+use Rattle.olap_cube_views.specs.CubeFactText.{cube_fact_read, member_fault, member_number, members_fault, members_read}
 use Rattle.olap_cube_views.specs.CubeRefusals.{IsFaultCause, IsToldAt}
 use Rattle.olap_cube_views.specs.CubeTallies.{AreMembers}
 use Rattle.olap_cube_views.specs.Dimensions.{AreMadeFor}

@@ -1,9 +1,8 @@
 -- One field more, which names a member of a bottom category or has a fault.
-use Rattle.std.proofs.Common.{◌≡◌, ◌+◌, ◌∷◌, [], Bor, List, ℕ, drop, length, refl, sym, ap, subst, take, ◌∙◌, arith}
-use Rattle.std.proofs.lemmas.List.{drop_more, get_or-map, length-map, length-set, map-append, take_more_set}
+use Rattle.std.proofs.Common.{◌≡◌, ◌+◌, ◌∷◌, [], Bor, List, ℕ, drop, length, sym, ap, subst, take, ◌∙◌, arith}
+use Rattle.std.proofs.lemmas.List.{drop_more, length-map, length-set, map-append, take_more_set}
 use Rattle.std.proofs.lemmas.Result.{err_from_is_err_and}
 use Rattle.olap_base.specs.Graph.{Graph}
-use Rattle.olap_base.specs.Instance.{Instance}
 use Rattle.olap_base.specs.declared.ids.MemberId.{MemberId}
 use Rattle.olap_cube.specs.Tuples.{IsBottomTuple}
 use Rattle.olap_view.specs.Columns.{Ascent}

@@ -1,5 +1,5 @@
 -- The view of the tally is that of the text, or its first fault.
-use Rattle.std.proofs.Common.{List, ℕ, ap, sym, subst, ◌∙◌}
+use Rattle.std.proofs.Common.{List, ap, sym, subst, ◌∙◌}
 use Rattle.std.proofs.lemmas.Result.{err_from_is_err_and}
 use Rattle.olap_base.specs.Instance.{Instance}
 use Rattle.olap_base.specs.Refusing.{IsRefusedBy}

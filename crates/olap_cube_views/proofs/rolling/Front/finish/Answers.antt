@@ -1,5 +1,5 @@
 -- A last record, or none.
-use Rattle.std.proofs.Common.{◌≡◌, ◌∷◌, ◌++◌, ◌∙◌, [], List, ap, sym}
+use Rattle.std.proofs.Common.{◌∷◌, ◌∙◌, [], ap}
 use Rattle.std.proofs.lemmas.List.{append-nil}
 use Rattle.olap_base.specs.Limits.{most_facts}
 use Rattle.olap_records.proofs.JoinLemmas.{end-behind}
