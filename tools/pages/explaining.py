@@ -5,6 +5,7 @@ from __future__ import annotations
 import csv
 import io
 import re
+import sys
 from typing import Iterator
 
 from . import form, manual, program
@@ -34,11 +35,15 @@ def files_of(words: list[str]) -> list[str]:
     return ["K", *schemas, *([*instances, "facts"] if words[0] == "cubeview" else [])]
 
 
-def content(words: list[str], what: str) -> str:
+def file_of(words: list[str], what: str) -> str:
     names = files_of(words)
     if what not in names or len(words) <= names.index(what) + 1:
         raise Fault(f"these words name no {what}: {' '.join(words)}", 2)
-    file = words[names.index(what) + 1]
+    return words[names.index(what) + 1]
+
+
+def content(words: list[str], what: str) -> str:
+    file = file_of(words, what)
     try:
         with open(file, "rb") as source:
             return source.read(program.most_bytes(what)).decode(errors="replace")
@@ -49,6 +54,32 @@ def content(words: list[str], what: str) -> str:
 def records(text: str) -> list[list[str]]:
     csv.field_size_limit(len(text) + 1)
     return [row for row in csv.reader(io.StringIO(text[text.startswith("\ufeff") :], newline="")) if row]
+
+
+class Facts:
+    """The first record of a file of facts, however long it is, and the one of this number; and how many there are up to it."""
+
+    def __init__(self, words: list[str], number: int) -> None:
+        self.kept: dict[int, list[str]] = {}
+        self.count = 0
+        csv.field_size_limit(sys.maxsize)
+        file = file_of(words, "facts")
+        try:
+            with open(file, encoding="utf-8-sig", errors="replace", newline="") as source:
+                for row in filter(None, csv.reader(source)):
+                    if self.count in (0, number - 1):
+                        self.kept[self.count] = row
+                    self.count += 1
+                    if self.count >= number:
+                        break
+        except OSError as error:
+            raise Fault(f"{file}: {error.strerror}", 4) from None
+
+    def __len__(self) -> int:
+        return self.count
+
+    def __getitem__(self, place: int) -> list[str]:
+        return self.kept[place]
 
 
 def shown(label: str, text: str) -> str:
@@ -83,7 +114,7 @@ def of_form(bad: form.Bad | None) -> Iterator[str]:
 
 
 def of_record(words: list[str], what: str, number: int, kind: str) -> Iterator[str]:
-    rows = records(content(words, what))
+    rows = Facts(words, number) if what == "facts" else records(content(words, what))
     if 1 <= number <= len(rows):
         yield shown(f"record {number}", " | ".join(rows[number - 1]))
     elif rows:
@@ -96,7 +127,7 @@ def of_record(words: list[str], what: str, number: int, kind: str) -> Iterator[s
     yield from told(manual.sentence(kind, "record"))
 
 
-def cause(words: list[str], what: str, rows: list[list[str]], number: int, kind: str) -> Iterator[str]:
+def cause(words: list[str], what: str, rows: list[list[str]] | Facts, number: int, kind: str) -> Iterator[str]:
     """The field that is at fault, where the record alone doesn't show it."""
     row = rows[number - 1] if number <= len(rows) else []
     if kind == "UnknownCategory":

@@ -24,7 +24,7 @@ TOP = Path(__file__).resolve().parents[2]
 BUILT = TOP / "crates" / "olap_cli" / "out" / "olap_cli"
 UNPROVED = TOP / "olap-unproved"  # the script that builds the program without its proofs
 MOST_BYTES = 67_108_864  # of a file, but for those of these kinds
-MOST_OF_KIND = {"instance": 4_294_967_296, "store": 17_179_869_184}
+MOST_OF_KIND = {"instance": 4_294_967_296, "store": 17_179_869_184, "facts": sys.maxsize}
 PIECE = 1 << 20  # bytes that are copied at a time
 
 
@@ -78,7 +78,8 @@ def output_of(words: Sequence[str | Path], folder: Path | None = None, seconds: 
 
 
 def most_bytes(kind: str) -> int:
-    """The most bytes of a file of this kind, as `schema 2`. The program refuses a longer one, so no more than one byte beyond is read."""
+    """The most bytes of a file of this kind, as `schema 2`; facts may have any number. The program refuses a longer one, so no more
+    than one byte beyond is read."""
     return MOST_OF_KIND.get(kind.split(" ")[0], MOST_BYTES)
 
 

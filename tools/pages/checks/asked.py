@@ -255,7 +255,7 @@ SAID = (
     ("schema line 1 UnknownCategory", "known on this line"), ("store record 1 UnknownCategory", "the schema has no category"),
     ("store record 1 DuplicateView", "begun twice"), ("word 5 DuplicateView", "an earlier category of store"),
     ("schema line 1 RootIsAll", "the root of a constraint"), ("word 3 RootIsAll", "the root of implies"),
-    ("facts TooLong", "too many bytes"),
+    ("instance TooLong", "too many bytes"),
     ("schema line 1 BadForm", "none of the forms"), ("word 3 BadForm", "joined by commas"), ("frozen TooMany", "than are listed"),
     ("needs TooMany", "constraints or nodes"), ("shapes TooMany", "more shapes than are listed"),
 )  # fmt: skip
