@@ -2,7 +2,7 @@
 
 A quote is a block that begins with three backticks and `antt`. Its parts, which a blank line or a remark ends, are looked up
 one by one; the line that gives a function's type may be left out. And each name in the last column of the tables of
-docs/DEFINITIONS.md is a definition, or a file of some crate's specs/. A quoted clause is an indented line that begins with
+docs/DEFINITIONS.md and docs/DEFINITIONS-TEXTS.md is a definition, or a file of some crate's specs/. A quoted clause is an indented line that begins with
 `ensures`; what stands in it before ` ..` is looked up in the sources.
 """
 
@@ -44,9 +44,9 @@ def missing_clauses(text):
 
 
 def faults():
-    document = sources.TOP / "docs" / "DEFINITIONS.md"
-    for name in unknown_names(document.read_text()):
-        yield document, f"no such definition: {name}"
+    for document in sorted(sources.TOP.glob("docs/DEFINITIONS*.md")):
+        for name in unknown_names(document.read_text()):
+            yield document, f"no such definition: {name}"
     defined = [plain(file.read_text()) for file in sources.CRATES.glob("*/specs/**/*.antt")]
     for document in documents():
         for clause in missing_clauses(document.read_text()):
