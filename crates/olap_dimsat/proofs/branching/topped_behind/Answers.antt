@@ -19,7 +19,7 @@ returns-clause-none c =
     let e = c.args.engine.now in
     let w = chosen_of c.args.best.now.edges c.args.best.now.names in
     IfOk-weaker c.topped-notes.result _ _ (λ notes h q l b.
-    none_more_topped t c.args.from q w (trail_of e) c.force.new.self.trail e c.requires.ready c.requires.pinned l
+    none_more_topped t c.args.from q w (trail_of e) c.force.new.self.solver.trail e c.requires.ready c.requires.pinned l
     c.force.ensures.follows (subst (λ (x : Trail). IsTopped t x q w) c.trail-2.ensures (h q b)))
     c.topped-notes.ensures.topped
 
