@@ -19,14 +19,13 @@ use Rattle.olap_order.specs.declared.status.Status.{Status}
 use Rattle.olap_order.specs.declared.status.Status.TheVariants.{Refused, Yes}
 use Rattle.olap_proof.specs.declared.forms.Form.{Form}
 use Rattle.olap_proof.specs.declared.forms.Form.TheVariants.{Long, Short}
-use Rattle.olap_reasoning.specs.Commands.{prove_order}
+use Rattle.olap_reasoning.specs.Commands.{sources_order}
 use Rattle.olap_reasoning.specs.Questions as reasoning
 use Rattle.olap_reasoning.specs.Questions.{ByProof}
 use Rattle.olap_run.specs.Commands.{order_named, usage}
 use Rattle.olap_run.specs.Laws.{ProvedIsAccepted, proving}
 use Rattle.olap_run.specs.Questions.{IsAnswer, Question, OfReasoning, OfVerdicts}
 use Rattle.olap_schema_text.specs.Judging.{schema_read}
-use Rattle.olap_schema_text.specs.Kinds.{name_of_kind as schema_kind}
 use Rattle.olap_verdicts.specs.Commands.{verify_order}
 use Rattle.olap_verdicts.specs.Questions as verdicts
 use Rattle.olap_verdicts.specs.Questions.{ByCertificate}
@@ -145,9 +144,9 @@ meant_or_refused label part name (Err fault) = refusal_is_none
 -- a schema, or a refusal
 schema_or_refused : (label file : List ℕ) → TellsNoYes (schema_file label file)
 schema_or_refused label file = none_of_both (text_file label most_schema_bytes file)
-    (λ text. meaning_or_fault label (codes "line") schema_kind (schema_read text))
+    (λ text. meaning_or_fault label (codes "line") (λ name. name) (schema_read text))
     (λ text. tested_is_none (nat_lt most_schema_bytes (length text)) (label ++ codes " TooLong") text)
-    (λ text. meant_or_refused label (codes "line") schema_kind (schema_read text))
+    (λ text. meant_or_refused label (codes "line") (λ name. name) (schema_read text))
 
 -- a category is named whichever word it is
 same_named : (files : Files) (o : Option ℕ) (c : ℕ) (why other : List ℕ) → ComesOut files (ok_or o why) c
@@ -209,7 +208,7 @@ module _ (form : Form) (schema target : List ℕ) (sources : List (List ℕ)) wh
       Done (ByProof form s c cs)))
 
   -- it tells no yes
-  proof_or_refused : TellsNoYes (prove_order form schema target sources)
+  proof_or_refused : TellsNoYes (sources_order (ByProof form) schema target sources)
   proof_or_refused = none_of_both (schema_file (codes "schema") schema) sources_of
       (schema_or_refused (codes "schema") schema)
       (λ s. none_of_both (category_word s.graph 3 target)
@@ -271,12 +270,13 @@ module _ (form : Form) (schema target : List ℕ) (sources : List (List ℕ)) wh
         go (inr other) = absurd (cc)
 
     -- what the order of `prove` writes, that of `verify` accepts
-    accepted : Gives IsAnswer files (and_then (prove_order form schema target sources) (λ q. Done (OfReasoning q))) Yes
+    accepted : Gives IsAnswer files
+        (and_then (sources_order (ByProof form) schema target sources) (λ q. Done (OfReasoning q))) Yes
         text
         → Gives IsAnswer files (and_then (verify_order form schema certificate target sources)
         (λ q. Done (OfVerdicts q))) Yes (line (codes "accepted"))
     accepted g =
-        let asked = came IsAnswer files (prove_order form schema target sources) (λ q. Done (OfReasoning q)) text
+        let asked = came IsAnswer files (sources_order (ByProof form) schema target sources) (λ q. Done (OfReasoning q)) text
         proof_or_refused g in
         let read = both_came files (schema_file (codes "schema") schema) sources_of asked.0 asked.1 in
         let s = read.0 in
