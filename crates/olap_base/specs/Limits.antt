@@ -7,15 +7,19 @@ most_categories = 256
 
 -- edges of a schema
 abbrev pub most_edges : ℕ
-most_edges = 256
+most_edges = 1024
 
 -- constraints of a schema
 abbrev pub most_constraints : ℕ
-most_constraints = 64
+most_constraints = 1024
 
--- nodes of the formulas of all constraints together; of a question's formula by itself
+-- nodes of a formula, of a constraint or of a question
 abbrev pub most_nodes : ℕ
 most_nodes = 4096
+
+-- nodes of the formulas of all constraints together
+abbrev pub most_schema_nodes : ℕ
+most_schema_nodes = 65536
 
 -- levels of a formula, where a leaf has one; open brackets of a formula's text
 abbrev pub most_depth : ℕ

@@ -4,13 +4,16 @@
 pub const MOST_CATEGORIES: usize = 256;
 
 /// Edges of a schema.
-pub const MOST_EDGES: usize = 256;
+pub const MOST_EDGES: usize = 1024;
 
 /// Constraints of a schema.
-pub const MOST_CONSTRAINTS: usize = 64;
+pub const MOST_CONSTRAINTS: usize = 1024;
 
-/// Nodes of the formulas of all constraints together; of a question's formula by itself.
+/// Nodes of a formula, of a constraint or of a question.
 pub const MOST_NODES: usize = 4096;
+
+/// Nodes of the formulas of all constraints together.
+pub const MOST_SCHEMA_NODES: usize = 65_536;
 
 /// Levels of a formula, where a leaf has one; open brackets of a formula's text.
 pub const MOST_DEPTH: u16 = 64;

@@ -83,10 +83,11 @@ without_is_readable s k l r =
             let few = length-remove s.constraints k l in
             let fit = r.valid.constraints_fit in
             omega arith;
-        nodes_fit =
+        nodes_fit = λ c h. r.valid.nodes_fit c (left c h);
+        all_nodes_fit =
             let few = fewer_nodes (λ (c : Constraint). node_count c.formula) s.constraints k
             (record { root = 0; formula = Truth }) l in
-            let fit = r.valid.nodes_fit in
+            let fit = r.valid.all_nodes_fit in
             omega arith;
         depth_fits = λ c h. r.valid.depth_fits c (left c h);
         constants_fit =
