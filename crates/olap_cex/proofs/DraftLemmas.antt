@@ -246,7 +246,8 @@ module _ (g : Graph) (found : Found) (ok : IsFoundFor g found) (hier : IsHierarc
         let e = made.name_there g r es choice name c p in
         let there = category_of (instance_of g r es name) (made.place g r es choice c) in
         subst (λ t. IsTrue (is_utf8 t)) e
-        (name_is_utf8 (is_number g there) s ok.question there (name_of (instance_of g r es name) (made.place g r es choice c))
+        (name_is_utf8 (is_number g there) s ok.question there
+        (name_of (instance_of g r es name) (made.place g r es choice c))
         (ok.utf8 there) (stands.named (made.place g r es choice c) m.0 (λ z. declared (sym m.1 ∙ z))))
 
     -- where the category's names are numbers, its name is a numeral

@@ -130,7 +130,8 @@ module _ (s : Schema) (q : Formula) (r : ℕ) (k : Candidates) (f : Frozen) (val
     | yes z ↦ subst (λ n. IsTrue (is_utf8 n))
         (sym (t.stands_for.legal.is_instance.all_name x ((t.stands_for.legal.is_instance.all_is_last x h).0 z)))
         all_utf8
-    | no n ↦ name_is_utf8 (is_number s.graph (category_of i x)) s q (category_of i x) (name_of i x) (utf8 (category_of i x))
+    | no n ↦ name_is_utf8 (is_number s.graph (category_of i x)) s q (category_of i x) (name_of i x)
+        (utf8 (category_of i x))
         (t.stands_for.named x h n)
   ]
 

@@ -230,7 +230,8 @@ module _ (i : Instance) (n : ℕ) (edges : List Bool) (bounded : IsBounded i n) 
 
 -- ---- reports, whatever the constraints are
 
-module _ (i : Instance) (n : ℕ) (edges : List Bool) (bounded : IsBounded i n) (g : Graph) (t : IsTableOf g n edges) where
+module _ (i : Instance) (n : ℕ) (edges : List Bool) (bounded : IsBounded i n) (g : Graph)
+    (t : IsTableOf g n edges) where
   -- of the first parent without an edge
   pub report1 : (x k : ℕ) (y : MemberId) → IsFirstUnlinked i n edges x k → y.0 ≡ slice_index (parents_of i x) k
       → IsFirstBreach g i (Connectivity (member x) y)

@@ -51,7 +51,8 @@ pub record IsFirstReport (s : Schema) (i : Instance) (v : Violation) : Type 0 wh
 
 -- it tells the first violation of the laws, whatever the constraints are
 abbrev pub IsFirstBreach : Graph → Instance → Violation → Type 0
-IsFirstBreach g i v = (constraints : List Constraint) → IsFirstReport (record { graph = g; constraints = constraints }) i v
+IsFirstBreach g i v = (constraints : List Constraint)
+    → IsFirstReport (record { graph = g; constraints = constraints }) i v
 
 -- the instance is handed back, with its first violation, or memory ran out
 abbrev pub IsRefused : Schema → Instance → Refusal Illegal → Type 0

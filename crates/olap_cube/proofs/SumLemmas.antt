@@ -72,14 +72,16 @@ module _ (schemas : List Schema) (c : List ℕ) (sources : List (List ℕ)) (cho
         legal = l;
         facts = facts;
         direct = ap only_cube_sum views.0;
-        views = differs up.0 ways.0 (λ e. b.bad (one_time (λ t. TupleReachesVia is b.roots t c) sources ways.0 e ways.1))
+        views = differs up.0 ways.0
+            (λ e. b.bad (one_time (λ t. TupleReachesVia is b.roots t c) sources ways.0 e ways.1))
             (ap only_cube_sum views.1);
       }
     where
       differs : (y : List ℕ) (n : ℕ) → n ≢ 1
           → only_cube_sum (cube_rows_from_views is c (cube_direct_views is (one_cube_fact b.roots) sources))
           ≡ only_cube_sum (cons_option (cube_row_at y (ones n)) [])
-          → only_cube_sum (cube_rows_from_views is c (cube_direct_views is (one_cube_fact b.roots) sources)) ≡ Some (pos 1)
+          → only_cube_sum (cube_rows_from_views is c (cube_direct_views is (one_cube_fact b.roots) sources))
+          ≡ Some (pos 1)
           → ⊥
       differs y n other told e = elim (ℕ_discrete n 0) [
         | yes z ↦ let q : None ≡ Some (pos 1) = sym (told ∙ no_ones y n z) ∙ e in cc

@@ -89,8 +89,10 @@ module _ (is : List Instance) (n : ℕ) (rows : List told.CubeRow) (k : ℕ) (d 
   row_stands = subst (AreMembers is) same_members at_members
 
   -- by the instances a row has the fields that it has by the target
-  pub row_fields : fields_in is (cube_row_of (length is) (get_or rows k d)) ≡ fields_in is (cube_row_of n (get_or rows k d))
-  row_fields = ap (λ (ys : List ℕ). fields_in is (record { members = ys; summary = summary_of (get_or rows k d).summary }))
+  pub row_fields : fields_in is (cube_row_of (length is) (get_or rows k d))
+      ≡ fields_in is (cube_row_of n (get_or rows k d))
+  row_fields = ap (λ (ys : List ℕ). fields_in is
+      (record { members = ys; summary = summary_of (get_or rows k d).summary }))
       (sym same_members)
 
 -- four items after others, each the same as another

@@ -222,7 +222,8 @@ pub fact_apart : (columns : List Ascent) (rows : List told_row.CubeRow) (f : Cub
 fact_apart columns rows f none n facts s = stands_apart (tallied columns rows n) facts f s none
 
 -- where the same stands at each key, a tally stands for the same facts
-pub stands_same : (t : CubeTallied) (entries : List Entry) → ((q : List ℕ) → summary_at entries q ≡ summary_at t.entries q)
+pub stands_same : (t : CubeTallied) (entries : List Entry)
+    → ((q : List ℕ) → summary_at entries q ≡ summary_at t.entries q)
     → (facts : List CubeFact) → CubeStandsFor t facts → CubeStandsFor (record t { entries = entries }) facts
 stands_same t entries h facts s = record {
   added = s.added;

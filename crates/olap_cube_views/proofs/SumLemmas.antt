@@ -72,16 +72,20 @@ summary_found (e ∷ es) s q =
         ≡ lookup (is_at (key_cmp q)) (e ∷ es)
     go Less h =
         ap (λ b. cond b (Some e.1) None ⊕ lookup (is_at (key_cmp q)) es) (ap is_eq h)
-        ∙ sym (rows.not_head key_cmp nat_list_cmp_total exact_bytes (λ (y : List ℕ). y) (λ (y : List ℕ) (x : Summary). (y, x))
+        ∙ sym (rows.not_head key_cmp nat_list_cmp_total exact_bytes (λ (y : List ℕ). y)
+        (λ (y : List ℕ) (x : Summary). (y, x))
         (λ (p : List ℕ × Summary). p) q e es (ap is_eq h))
     go Equal h = ap (λ b. cond b (Some e.1) None ⊕ lookup (is_at (key_cmp q)) es) (ap is_eq h)
-        ∙ ap (λ t. Some e.1 ⊕ t) (rows.past key_cmp nat_list_cmp_total exact_bytes (λ (y : List ℕ). y) (λ (y : List ℕ) (x : Summary). (y, x))
+        ∙ ap (λ t. Some e.1 ⊕ t)
+        (rows.past key_cmp nat_list_cmp_total exact_bytes (λ (y : List ℕ). y) (λ (y : List ℕ) (x : Summary). (y, x))
         (λ (p : List ℕ × Summary). p) q e es s h)
-        ∙ sym (rows.at_head key_cmp nat_list_cmp_total exact_bytes (λ (y : List ℕ). y) (λ (y : List ℕ) (x : Summary). (y, x))
+        ∙ sym (rows.at_head key_cmp nat_list_cmp_total exact_bytes (λ (y : List ℕ). y)
+        (λ (y : List ℕ) (x : Summary). (y, x))
         (λ (p : List ℕ × Summary). p) q e es h)
     go Greater h =
         ap (λ b. cond b (Some e.1) None ⊕ lookup (is_at (key_cmp q)) es) (ap is_eq h)
-        ∙ sym (rows.not_head key_cmp nat_list_cmp_total exact_bytes (λ (y : List ℕ). y) (λ (y : List ℕ) (x : Summary). (y, x))
+        ∙ sym (rows.not_head key_cmp nat_list_cmp_total exact_bytes (λ (y : List ℕ). y)
+        (λ (y : List ℕ) (x : Summary). (y, x))
         (λ (p : List ℕ × Summary). p) q e es (ap is_eq h))
 
 -- ---- how many values entries are of
@@ -155,7 +159,8 @@ less_than p q h n = go (key_cmp p q) refl
     go : (r : Ordering) → key_cmp p q ≡ r → key_cmp p q ≡ Less
     go Less e = e
     go Equal e = absurd (n (exact_bytes p q e))
-    go Greater e = absurd (let b : is_lt (key_cmp q p) ≡ true = ap is_lt (nat_list_cmp_total.antisymm q p ∙ ap ordering_reverse e) in cc)
+    go Greater e = absurd
+        (let b : is_lt (key_cmp q p) ≡ true = ap is_lt (nat_list_cmp_total.antisymm q p ∙ ap ordering_reverse e) in cc)
 
 -- ---- joining side by side
 
@@ -284,7 +289,8 @@ module _ (old now : List Entry) (last next n : ℕ) (j : IsJoined old now last n
           (subst (λ (f : Entry). Rise (keys_of (take last now)) f.0) (sym top_is)
           (subst (λ (f : Entry). Rise (keys_of (take last now)) f.0) (sym is) j.rises));
       each = subst (All IsOwn) (sym front) (All-push IsOwn (take last now) e
-          (subst (All IsOwn) (take-take last (last + 1) now (omega arith)) (All-take IsOwn last (take (last + 1) now) j.each))
+          (subst (All IsOwn) (take-take last (last + 1) now (omega arith))
+          (All-take IsOwn last (take (last + 1) now) j.each))
           own_e);
       all = ap counted front ∙ sum_by_push (λ (f : Entry). f.1.count) (take last now) e
           ∙ (let a = ap counted now_more ∙ sum_by_push (λ (f : Entry). f.1.count) (take last now) y in
@@ -410,7 +416,11 @@ step_joined old now last next n d r j h w key is =
     (joined_on (entries_of old) (entries_of now) last next n j here w (entry_of r)
     (is
     ∙ ap (λ (e : Entry). (e.0, joined e.1 (entry_of (get_or now next d)).1)) (sym ly)
-    ∙ ap (λ (e : Entry). ((get_or (entries_of now) last nothing).0, joined (get_or (entries_of now) last nothing).1 e.1))
+    ∙ ap (λ (e : Entry). (
+      (get_or (entries_of now) last nothing).0,
+      joined
+          (get_or (entries_of now) last nothing).1 e.1,
+    ))
     (sym lx))
     (ap (λ (e : Entry). e.0) ly ∙ key ∙ ap (λ (e : Entry). e.0) (sym lx)))
 

@@ -54,7 +54,8 @@ pub record Counted (gs : List Graph) (is : List Instance) (begun : Bool) (done :
   pub going : begun ≡ true → IsGoing gs is done facts
 
 -- the header was found among these records, and the tally stands for the facts of the others
-pub record HasCounted (gs : List Graph) (is : List Instance) (done : List (List (List ℕ))) (tally : CubeTallied) : Type 0
+pub record HasCounted (gs : List Graph) (is : List Instance) (done : List (List (List ℕ))) (tally : CubeTallied)
+    : Type 0
   where
     pub facts : List CubeFact
     pub counted : Counted gs is true done facts
@@ -78,7 +79,8 @@ abbrev pub cube_rolling : List Graph → Bool → Standing → CubeTallied → C
 cube_rolling gs begun stands tally = record { graphs = gs; begun = begun; stands = stands; tally = tally }
 
 -- what is true of every roller: it reads against the instances that its tally adds up on, for the same categories
-pub record IsCubeRoller (gs : List Graph) (is : List Instance) (categories : List ℕ) (tally : CubeTallied) : Type 0 where
+pub record IsCubeRoller (gs : List Graph) (is : List Instance) (categories : List ℕ) (tally : CubeTallied)
+    : Type 0 where
   pub made : AreMadeFor gs is
   pub same : tally.instances ≡ is
   pub target_same : tally.target ≡ categories

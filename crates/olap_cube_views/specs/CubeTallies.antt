@@ -111,7 +111,8 @@ pub record CubeStandsFor (t : CubeTallied) (facts : List CubeFact) : Type 0 wher
   pub keys : (q : List ℕ) → IsSome (summary_at t.entries q) → IsKeyOf t.instances t.target q
 
 -- the records stand for facts, and it stands for those
-pub record HasTallied (gs : List Graph) (is : List Instance) (records : List (List (List ℕ))) (t : CubeTallied) : Type 0 where
+pub record HasTallied (gs : List Graph) (is : List Instance) (records : List (List (List ℕ))) (t : CubeTallied)
+    : Type 0 where
   pub facts : List CubeFact
   pub read : cube_facts_read_within most_facts gs is records ≡ Ok facts
   pub stands : CubeStandsFor t facts

@@ -50,8 +50,8 @@ fn draft_of(alloc: Global, asked: &Asked) -> Result<Vec<u8>, Refusal<GivenUp>> {
 /// bottom category.
 ///
 /// `GivenUp`: for some bottom category no tree was found, or it has more than four million lines; it may be that there
-/// is none. `Memory`: out of memory, or the text is longer than a certificate's file may be, or the search has taken more
-/// than `MOST_WORK` steps, over all bottom categories, and found no tree.
+/// is none. `Memory`: out of memory, or the text is longer than a certificate's file may be, or the search has taken
+/// more than `MOST_WORK` steps, over all bottom categories, and found no tree.
 pub fn draft<'a>(
     alloc: Global,
     schema: &'a Schema,

@@ -89,8 +89,8 @@ impl<'a> Search<'a> {
         }
     }
 
-    /// Appends the lines of the tree that it finds below the root, after so much work on others. `Memory` also if it finds
-    /// none, and the work is more than it may be.
+    /// Appends the lines of the tree that it finds below the root, after so much work on others. `Memory` also if it
+    /// finds none, and the work is more than it may be.
     pub(crate) fn push_tree(
         &mut self,
         constraints: &[Constraint],

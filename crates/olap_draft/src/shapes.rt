@@ -9,7 +9,8 @@ use olap_graph::{Categories, Graph};
 use olap_proof::{Form, Line};
 use std::alloc::{AllocError, Global};
 
-/// How many steps a search may take, over all bottom categories. A step is a look at a line, an edge or a part of a formula.
+/// How many steps a search may take, over all bottom categories. A step is a look at a line, an edge or a part of a
+/// formula.
 pub(crate) const MOST_WORK: usize = 1 << 26;
 
 /// What a decision has changed: categories of which something is known that wasn't, and whether an edge is present.

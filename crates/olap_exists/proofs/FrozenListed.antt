@@ -119,10 +119,12 @@ module _ (exist : FreshNamesExist) (s : Schema) (q : Formula) (r : ℕ) (k : Can
   code_fits f h =
       let m : length f.edges + length f.names ≡ length s.graph.edges + length s.graph.names =
       (let a = h.edge_count in let b = h.name_count in omega arith) in
-      fits_code (length s.graph.edges + length s.graph.names) bound f.edges f.names m (two_below (λ c. length (k.texts (suc c))) (length s.graph.names))
+      fits_code (length s.graph.edges + length s.graph.names) bound f.edges f.names m
+      (two_below (λ c. length (k.texts (suc c))) (length s.graph.names))
       (fits_names bound f.names (λ c l.
       let i = h.in_range c l in
-      let b = names_below (λ c. length (k.texts (suc c))) (length s.graph.names) c (let n = h.name_count in omega arith) in
+      let b = names_below (λ c. length (k.texts (suc c))) (length s.graph.names) c
+      (let n = h.name_count in omega arith) in
       omega (arith, i, b)))
 
   codes_listed : AllLists IsCode

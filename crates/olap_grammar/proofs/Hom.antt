@@ -243,7 +243,8 @@ module _ {A B L M : Type 0} (m : Making A L) (n : Making B M) (h : A → B) (k :
 -- ---- clipping
 
 -- a tree that is too deep isn't built
-deep : (d : ℕ) (f : Form) → nat_le d most_depth ≡ false → kept d f ≡ (suc most_depth, (shapes.Form.Of shapes.Atom.Truth))
+deep : (d : ℕ) (f : Form) → nat_le d most_depth ≡ false → kept d f
+    ≡ (suc most_depth, (shapes.Form.Of shapes.Atom.Truth))
 deep d f e = rw e refl
 
 -- nor are parts
@@ -317,7 +318,8 @@ mores f fs = go (nat_le (depth_of f) most_depth) (nat_le (depth_of_all fs) most_
         (l ∙ sym (deep_terms (max (depth_of f) (depth_of_all fs)) (shapes.Forms.More f fs)
         (too_deep (depth_of_all fs) (max (depth_of f) (depth_of_all fs)) (omega arith) u)))
     go false true e u =
-        let l = deep_terms (max (suc most_depth) (depth_of_all fs)) (shapes.Forms.More (shapes.Form.Of shapes.Atom.Truth) fs)
+        let l = deep_terms (max (suc most_depth) (depth_of_all fs))
+        (shapes.Forms.More (shapes.Form.Of shapes.Atom.Truth) fs)
         (over (max (suc most_depth) (depth_of_all fs)) (omega arith)) in
         rw (e, u)
         (l ∙ sym (deep_terms (max (depth_of f) (depth_of_all fs)) (shapes.Forms.More f fs)

@@ -123,7 +123,8 @@ settles a k n f (Left j g ∷ s) b l m h r = go (nat_le k (level j)) refl
       opened = o.5;
     }))
   where
-    go : (t : Bool) → nat_le k (level j) ≡ t → (k ≤ level j → IsReached a k (settled trees k (words.Form.Joined j g f) s) b)
+    go : (t : Bool) → nat_le k (level j) ≡ t
+        → (k ≤ level j → IsReached a k (settled trees k (words.Form.Joined j g f) s) b)
         → IsReached a k (cond t (settled trees k (words.Form.Joined j g f) s) (f, Left j g ∷ s)) b
     go true e ih = ih (true_le k (level j) e)
     go false e ih = (loosened a k n f _ b l r, false_lt k (level j) e)

@@ -48,6 +48,7 @@ by_tests w t f o a p q r s =
 
 -- so is what a test finds that asks for each of them
 pub reserved_is : (w : List ℕ) (b : Bool)
-    → b ≡ (bytes_eq w (codes "true") || bytes_eq w (codes "false") || bytes_eq w (codes "one") || bytes_eq w (codes "all"))
+    → b ≡ (bytes_eq w (codes "true") || bytes_eq w (codes "false")
+    || bytes_eq w (codes "one") || bytes_eq w (codes "all"))
     → IsTrue b ↔ Contains reserved w
 reserved_is w b e = rw e (by_tests w _ _ _ _ refl refl refl refl)

@@ -66,7 +66,8 @@ module _ {Q R : Type 0} (answers : Q → Status → List ℕ → Type 0) (progra
       }
 
   -- what a family answers is what the program answers
-  pub joined : {D : Type 0} {L : Library D} {old new : D} {order : Option (Order Q)} (result : Option (Result Reply Stop))
+  pub joined : {D : Type 0} {L : Library D} {old new : D} {order : Option (Order Q)}
+      (result : Option (Result Reply Stop))
       → FamilyJudged answers L old new order result → FamilyJudged program L old new (asking of order) result
   joined None j = record { none = λ is. ap (asking of) (j.none is); unasked = j.unasked; some = tt }
   joined (Some result) j = record {

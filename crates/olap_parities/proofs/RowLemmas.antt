@@ -105,7 +105,8 @@ module _ (words : List ℕ) (n : ℕ) (within : n / 64 < length words) where
   pub sum_turned : (w : ℕ → Bool)
       → sum_of w (set words (n / 64) (turned words n)) ≡ xor (sum_of w words) (w n)
   sum_turned w =
-      ap (λ m. sum_below w (is_bit_one (set words (n / 64) (turned words n))) (64 * m)) (length-set words (n / 64) (turned words n))
+      ap (λ m. sum_below w (is_bit_one (set words (n / 64) (turned words n))) (64 * m))
+      (length-set words (n / 64) (turned words n))
       ∙ sum-same w _ (λ i. xor (is_bit_one words i) (eqb i n)) bit_turned (64 * length words)
       ∙ sum-xor w (is_bit_one words) (λ i. eqb i n) (64 * length words)
       ∙ ap (xor (sum_of w words)) (sum-one w n (64 * length words) (omega arith))

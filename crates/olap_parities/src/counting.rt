@@ -142,9 +142,9 @@ impl Counting {
         )
     }
 
-    /// Whether clauses are found that are more than the sets in which all their literals lie, where two literals of a set
-    /// are never both true, by what follows from the one with unit clauses alone. If so, no valuation makes all clauses
-    /// true.
+    /// Whether clauses are found that are more than the sets in which all their literals lie, where two literals of a
+    /// set are never both true, by what follows from the one with unit clauses alone. If so, no valuation makes all
+    /// clauses true.
     pub fn is_overfull(&mut self, pool: &Pool) -> bool
         ensures { result ≡ true → (v : ℕ → Bool) → AreTrue v pool.now → ⊥ }
     {

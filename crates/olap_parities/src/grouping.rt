@@ -1,4 +1,5 @@
-// Which literals exclude each other, and into which sets they are put. All of it is a hint: it is tested where it is used.
+// Which literals exclude each other, and into which sets they are put. All of it is a hint: it is tested where it is
+// used.
 use crate::entries::{Entry, assume};
 use crate::values::{is_false, value};
 use olap_pool::{Lit, Pool};

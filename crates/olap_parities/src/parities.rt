@@ -227,8 +227,8 @@ fn read(
     write_rows(index, leaders, columns, pool, values, rows);
 }
 
-/// Eliminates either way, and hands out what the rows with two variables at most say. False: no valuation makes all rows
-/// add up to nothing.
+/// Eliminates either way, and hands out what the rows with two variables at most say. False: no valuation makes all
+/// rows add up to nothing.
 fn reduce(columns: &Columns, rows: &mut [Row<WORDS>], pivots: &mut [bool], into: &mut Pool) -> bool
     ensures none { result ≡ false → (v : ℕ → Bool) → AreZero v columns.now rows.old → ⊥ }
     ensures kept { (v : ℕ → Bool) → AreZero v columns.now rows.old → AreTrue v into.old → AreTrue v into.new }
@@ -254,8 +254,8 @@ pub struct Parities {
 }
 
 impl Parities {
-    /// Room for the parities of a pool with so many variables: at most some 5 MB, and hardly any for a pool of more than
-    /// 150,000 variables or clauses, of which nothing is derived. No later call takes memory.
+    /// Room for the parities of a pool with so many variables: at most some 5 MB, and hardly any for a pool of more
+    /// than 150,000 variables or clauses, of which nothing is derived. No later call takes memory.
     pub fn new(alloc: Global, variables: u32, pool: &Pool) -> Result<Parities, AllocError> {
         let is_large = variables as usize > LARGEST || pool.len() > LARGEST;
         let variables = if is_large { 0 } else { variables as usize };
@@ -279,8 +279,9 @@ impl Parities {
     }
 
     /// Adds what the parities that stand in the clauses come to: variables that have one value, and pairs that are the
-    /// same or each other's negation, as clauses of one literal and of two, as far as there is room. False: no valuation
-    /// makes all clauses true. Only the first clauses are looked at, as many as the pool had when the room was taken.
+    /// same or each other's negation, as clauses of one literal and of two, as far as there is room. False: no
+    /// valuation makes all clauses true. Only the first clauses are looked at, as many as the pool had when the room
+    /// was taken.
     pub fn derive(&mut self, pool: &Pool, into: &mut Pool) -> bool
         ensures none { result ≡ false → (v : ℕ → Bool) → AreTrue v pool.now → ⊥ }
         ensures kept { (v : ℕ → Bool) → AreTrue v pool.now → AreTrue v into.old → AreTrue v into.new }

@@ -1,5 +1,5 @@
-// Sets of variables, and the clauses that stand over each. All of it is a hint: what is found by it is tested where it is
-// used.
+// Sets of variables, and the clauses that stand over each. All of it is a hint: what is found by it is tested where
+// it is used.
 ghost use Rattle.std.specs.Prelude.{◌≡◌, ◌≤◌};
 
 use crate::values::{is_false, value};

@@ -33,10 +33,11 @@ module _ (views : List View) (P : ℕ → Type 0) (d : (m : ℕ) → Dec (P m)) 
     where
       kept : rows_in views m ≤ rows_in views n → (j : ℕ) → j < suc n → P j → IsNoDearer views m j
       kept l j h q = elim (same_or_below j n h) [
-        | inl e ↦ subst (λ x. IsNoDearer views m x) (sym e) (elim (equal_or_less (rows_in views m) (rows_in views n) l) [
-          | inl less ↦ inl less
-          | inr same ↦ inr (same, (let w = b.below in omega (arith, w)))
-        ])
+        | inl e ↦ subst (λ x. IsNoDearer views m x) (sym e)
+            (elim (equal_or_less (rows_in views m) (rows_in views n) l) [
+              | inl less ↦ inl less
+              | inr same ↦ inr (same, (let w = b.below in omega (arith, w)))
+            ])
         | inr below ↦ b.cheapest j below q
       ]
 

@@ -107,7 +107,8 @@ dec_shortcut g = dec_iff (λ t. record {
   record { child = h.child; parent = h.parent },
   h.edge,
   (record { child = h.child; parent = h.through }, h.first, (refl, h.rest)),
-)) (dec_some (λ (e : Edge). (f : Edge) × Contains g.edges f × ((f.child ≡ e.child) × Climb (HasEdge g) f.parent e.parent))
+)) (dec_some (λ (e : Edge). (f : Edge) × Contains g.edges f
+    × ((f.child ≡ e.child) × Climb (HasEdge g) f.parent e.parent))
     (λ e. dec_some (λ (f : Edge). (f.child ≡ e.child) × Climb (HasEdge g) f.parent e.parent)
     (λ f. dec_and (ℕ_discrete f.child e.child) (dec_climb g f.parent e.parent)) g.edges) g.edges)
 

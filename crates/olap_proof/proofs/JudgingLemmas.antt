@@ -106,7 +106,8 @@ module _ (f : Form) (s : Schema) (q : Formula) (k : Candidates) where
         parts = refl;
         run = none;
         too_early = λ e h. cc;
-        stuck = λ line later end e run. none_there (line, later, e, steps line end (first_step f s q k run line [] refl));
+        stuck = λ line later end e run. none_there
+            (line, later, e, steps line end (first_step f s q k run line [] refl));
       })
         where
           steps : (line : List ℕ) (end : List Open) → FirstStep f s q k line [] (o ∷ os) end

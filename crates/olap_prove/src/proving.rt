@@ -81,8 +81,8 @@ fn certificate(
 /// form, and else `No` with the counterexample that `summarizable` gives.
 ///
 /// `DuplicateSource`: exactly if a source stands twice. `Memory`: out of memory, or the certificate that was found is
-/// longer than a file of one may be: what is given out fits; or none was found with the steps that a draft may take. The
-/// target may be a source, and either may be `All`. Most certificates are short.
+/// longer than a file of one may be: what is given out fits; or none was found with the steps that a draft may take.
+/// The target may be a source, and either may be `All`. Most certificates are short.
 pub fn prove(
     alloc: Global,
     schema: &Schema,

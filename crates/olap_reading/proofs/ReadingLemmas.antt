@@ -64,5 +64,6 @@ pub fault_told : {T : Type 0} (label file : List ℕ) (most : ℕ) (next : List 
     → FileStep L old new (and_then (text_file label most file) next) meaning (Err stop)
 fault_told label file most next text why e few =
     let short : nat_lt most (length text) ≡ false = grind (arith, nat_tests, few) in
-    fault_read file (λ t. and_then (if nat_lt most (length t) then refused (label ++ codes " TooLong") else Done t) next)
+    fault_read file (λ t. and_then
+    (if nat_lt most (length t) then refused (label ++ codes " TooLong") else Done t) next)
     text why (rw short e)

@@ -51,7 +51,8 @@ pub record IsSoFar (old new : Option (List ℕ)) (count : ℕ) (g : Graph) (i : 
   pub taken : HasTaken g i categories (unmarked text) r
 
 -- a piece more
-pub parts-more : (o m n : Option (List ℕ)) (xs ys : List ℕ) → Consumes o m xs → Consumes m n ys → Consumes o n (xs ++ ys)
+pub parts-more : (o m n : Option (List ℕ)) (xs ys : List ℕ) → Consumes o m xs → Consumes m n ys
+    → Consumes o n (xs ++ ys)
 parts-more None m n xs ys h t = tt
 parts-more (Some a) None n xs ys h t = absurd h
 parts-more (Some a) (Some b) None xs ys h t = absurd t

@@ -65,7 +65,8 @@ words_are s i (Shortcut x k) = refl
 words_are s i (Unmet k x) = refl
 
 -- what a check answers is whether there is a violation, and the first one
-pub judged_is : (s : Schema) (i : Instance) → IsInstance i → IsMadeFor s.graph i → (r : Result Instance (Refusal Illegal))
+pub judged_is : (s : Schema) (i : Instance) → IsInstance i → IsMadeFor s.graph i
+    → (r : Result Instance (Refusal Illegal))
     → IfOk r (λ l. IsLegal s i)
     → IfErr r (IsRefused s i) → MatchResult r (λ l. first_violation s i ≡ None) (λ e. IsBrokenBy s i e)
 judged_is s i v m (Ok l) ok err = first_violation_none s i ok

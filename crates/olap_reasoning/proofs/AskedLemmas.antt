@@ -56,7 +56,8 @@ module _ (readable : ReadSchemasAreReadable) (questions : ReadQuestionsAreValid)
   pub asked_named : (name : List ℕ) (words : List (List ℕ)) → MayCome IsAsked (order_named name words)
   asked_named name words =
       may_either IsAsked _ _ _ (may_one IsAsked format_order of_format words)
-      (may_either IsAsked _ _ _ (may_two IsAsked (category_order BySatisfiable) (of_category BySatisfiable (λ s c v. v)) words)
+      (may_either IsAsked _ _ _
+      (may_two IsAsked (category_order BySatisfiable) (of_category BySatisfiable (λ s c v. v)) words)
       (may_either IsAsked _ _ _ (may_three IsAsked implies_order of_implies words)
       (may_either IsAsked _ _ _ (may_two_or_more IsAsked (sources_order BySummarizable)
       (of_sources BySummarizable (λ s c cs v. v)) words)

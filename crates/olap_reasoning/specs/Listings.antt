@@ -39,7 +39,8 @@ abbrev pub finding_text : Graph → Finding → List ℕ
 finding_text g (Unsatisfiable c) = line (codes "unsatisfiable " ++ name_of_category g c)
 finding_text g (Redundant n) = line (codes "redundant " ++ decimal n)
 finding_text g (Unused e) =
-    line (codes "unused " ++ (name_of_category g (edge_at g e).child ++ space ∷ name_of_category g (edge_at g e).parent))
+    line (codes "unused "
+    ++ (name_of_category g (edge_at g e).child ++ space ∷ name_of_category g (edge_at g e).parent))
 
 -- the line of each finding, and how many they are
 pub record ListsFindings (s : Schema) (bytes : List ℕ) : Type 0 where

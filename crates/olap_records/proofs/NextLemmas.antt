@@ -26,7 +26,8 @@ module _ (t : Standing) (piece : List ℕ) (i : ℕ) (l : i < length piece)
   done-by : (b : Action) → a ≡ b → standing t (take (i + 1) piece)
       ≡ after_action (stand_by [] false fields field p) (state_of q) (action_of b) (get_or piece i 0)
   done-by b e =
-      stepped ∙ ap (λ (x : Action). after_action (stand_by [] false fields field p) (state_of q) (action_of x) (get_or piece i 0)) e
+      stepped ∙ ap (λ (x : Action). after_action (stand_by [] false fields field p) (state_of q) (action_of x)
+      (get_or piece i 0)) e
 
   pub skipped : a ≡ action.Skip → standing t (take (i + 1) piece) ≡ stand_by [] false fields field q
   skipped e = done-by action.Skip e

@@ -3,7 +3,8 @@
 //! A contract sees `Rows` as the record read last and the records still to come, `Splitter` as the record found last
 //! and where it stands in its text, and `Printer` as the text printed so far; no clause speaks of the CSV library.
 //! `first_fault` of `specs/Faults.antt` says for every reader of records which fault comes first, and `all_read` and
-//! `table_read` of `specs/Tables.antt` what a table stands for, or its first fault. What a field means isn't known here.
+//! `table_read` of `specs/Tables.antt` what a table stands for, or its first fault. What a field means isn't known
+//! here.
 #![tactic(auto)]
 
 mod cutting;

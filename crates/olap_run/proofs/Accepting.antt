@@ -128,7 +128,8 @@ different_or_refused : (twice : List ℕ) (g : Graph) (at : ℕ) (earlier : List
     → TellsNoYes (different_words twice g at earlier names)
 different_or_refused twice g at earlier [] = tt
 different_or_refused twice g at earlier (name ∷ names) =
-    none_of_both (another_word twice g at earlier name) (λ c. different_words twice g (suc at) (earlier ++ c ∷ []) names)
+    none_of_both (another_word twice g at earlier name)
+    (λ c. different_words twice g (suc at) (earlier ++ c ∷ []) names)
     (none_of_both (category_word g at name)
     (λ c. cond (list_any (λ d. d == c) earlier) (refused (fault_text (codes "word") at twice)) (Done c))
     (named_or_refused (category_named g name) (fault_text (codes "word") at (codes "UnknownCategory")))
@@ -182,8 +183,10 @@ held_text : (files : Files) (label file text : List ℕ) (most : ℕ) → files 
     → ComesOut files (text_file label most file) text
 held_text files label file text most held short =
     subst (λ (o : Option (List ℕ)). MatchOption o ⊥
-    (λ t. ComesOut files (cond (nat_lt most (length t)) (refused (label ++ codes " TooLong")) (Done t)) text)) (sym held)
-    (subst (λ b. ComesOut files (cond b (refused (label ++ codes " TooLong")) (Done text)) text) (sym (le-ltb most (length text) short)) refl)
+    (λ t. ComesOut files (cond (nat_lt most (length t)) (refused (label ++ codes " TooLong")) (Done t)) text))
+    (sym held)
+    (subst (λ b. ComesOut files (cond b (refused (label ++ codes " TooLong")) (Done text)) text)
+    (sym (le-ltb most (length text) short)) refl)
 
 -- ---- the orders
 
@@ -276,7 +279,8 @@ module _ (form : Form) (schema target : List ℕ) (sources : List (List ℕ)) wh
         → Gives IsAnswer files (and_then (verify_order form schema certificate target sources)
         (λ q. Done (OfVerdicts q))) Yes (line (codes "accepted"))
     accepted g =
-        let asked = came IsAnswer files (sources_order (ByProof form) schema target sources) (λ q. Done (OfReasoning q)) text
+        let asked = came IsAnswer files (sources_order (ByProof form) schema target sources)
+        (λ q. Done (OfReasoning q)) text
         proof_or_refused g in
         let read = both_came files (schema_file (codes "schema") schema) sources_of asked.0 asked.1 in
         let s = read.0 in

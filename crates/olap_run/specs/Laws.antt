@@ -45,8 +45,8 @@ abbrev pub judging : Form → List ℕ
 judging Long = codes "verify"
 judging Short = codes "verify-short"
 
--- what `prove` writes with status 0, if it fits a certificate's file, `verify` accepts from a file that holds it, by the
--- same words
+-- what `prove` writes with status 0, if it fits a certificate's file, `verify` accepts from a file that holds it, by
+-- the same words
 abbrev pub ProvedIsAccepted : Type 0
 ProvedIsAccepted = (form : Form) (schema certificate target : List ℕ) (sources : List (List ℕ)) (files : Files)
     (text : List ℕ) → length (judging form ∷ schema ∷ certificate ∷ target ∷ sources) ≤ most_words

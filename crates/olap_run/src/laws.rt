@@ -17,7 +17,8 @@ pub fn outcome_is_one()
     read_questions_are_valid();
 }
 
-/// The words and the files have a status and bytes that are the outcome, where each file that the order comes to is held.
+/// The words and the files have a status and bytes that are the outcome, where each file that the order comes to is
+/// held.
 pub fn outcome_exists()
     ensures { OutcomeExists }
 {

@@ -2,8 +2,8 @@
 //!
 //! A command is first an *order*: files that are read in order, each before what is asked next is known, and in the end
 //! a question, or what is told in its place. Families of commands have their orders and questions, each in a crate of
-//! its own. `specs/Outcome.antt` says which status and bytes the words and the files have. The code goes along the order
-//! with everything in memory, and then writes. It knows no real file, and no command by name.
+//! its own. `specs/Outcome.antt` says which status and bytes the words and the files have. The code goes along the
+//! order with everything in memory, and then writes. It knows no real file, and no command by name.
 #![tactic(auto)]
 
 mod judging;

@@ -36,7 +36,8 @@ module _ (readable : ReadSchemasAreReadable) where
 
   -- and of whatever words
   pub asked_named : (name : List ℕ) (words : List (List ℕ)) → MayCome IsAsked (order_named name words)
-  asked_named name words = may_either IsAsked (bytes_eq name (codes "verify")) (by_three_or_more (verify_order Long) words)
+  asked_named name words = may_either IsAsked (bytes_eq name (codes "verify"))
+      (by_three_or_more (verify_order Long) words)
       (if bytes_eq name (codes "verify-short") then by_three_or_more (verify_order Short) words else None)
       (may_three_or_more IsAsked (verify_order Long) (verify_comes Long) words)
       (may_either IsAsked (bytes_eq name (codes "verify-short")) (by_three_or_more (verify_order Short) words) None

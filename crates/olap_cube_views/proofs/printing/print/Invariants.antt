@@ -10,6 +10,7 @@ abbrev pub invariant-rows : goal.invariant-rows
 invariant-rows l = record {
   text : l.out.text
       ≡ text_of_rows (header (length (instances_of l.instances))
-      ∷ map (fields_in (instances_of l.instances)) (cube_rows_of (length l.view.target) (take l.row-index l.row-items)));
+      ∷ map (fields_in (instances_of l.instances))
+      (cube_rows_of (length l.view.target) (take l.row-index l.row-items)));
   width : l.out.width ≡ length l.instances + 4;
 }

@@ -42,7 +42,8 @@ returns-in-Err-clause-counts c = λ done facts h s left.
     let going = h.going c.if-not-begun.false in
     let size = sym (length-map going.rows (cube_fact_read is)) ∙ sym (ap length going.facts_are) ∙ sym s.added
     ∙ sym c.added-before.ensures.count in
-    fact-fault (graphs_of c.args.graphs.now) is done facts c.args.row.now.row going c.added-before.result size c.in-Err.kind
+    fact-fault (graphs_of c.args.graphs.now) is done facts c.args.row.now.row going c.added-before.result size
+    c.in-Err.kind
     (c.in-Err.ensures.fact going.rows size) left
 
 pub add-requires-clause-members : goal.add-requires-clause-members
@@ -50,7 +51,8 @@ add-requires-clause-members c =
     let gs = graphs_of c.args.graphs.now in
     let is = instances_in c.args.columns.now in
     let ms = c.in-Ok.fact.members in
-    subst (λ (js : List Instance). AreMembers js (members_of (take c.len-dimensions.result ms))) (sym c.requires.instances)
+    subst (λ (js : List Instance). AreMembers js (members_of (take c.len-dimensions.result ms)))
+    (sym c.requires.instances)
     (bottom_members gs is (members_of (take c.len-dimensions.result ms))
     (subst (λ k. IsBottomTuple gs is (members_of (take k ms))) (sym c.len-dimensions.ensures.count)
     c.in-Ok.ensures.bottom))

@@ -33,7 +33,8 @@ returns-then-not-is_empty-clause-same c = λ q.
     let sorted = c.sort_unstable_by_key.new.self.items in
     let cut : c.truncate.new.self.items ≡ take c.join_neighbours-count.result c.join_neighbours-count.new.rows =
     c.truncate.ensures.items ∙ ap (take c.join_neighbours-count.result)
-    (with_items_is c.sort_unstable_by_key.new.self c.join_neighbours-count.new.rows (c.join_neighbours-count.ensures.size ∙ c.as_mut_slice.ensures.len)) in
+    (with_items_is c.sort_unstable_by_key.new.self c.join_neighbours-count.new.rows
+    (c.join_neighbours-count.ensures.size ∙ c.as_mut_slice.ensures.len)) in
     ap (λ (rs : List told.CubeRow). summary_at (entries_of rs) q) cut
     ∙ c.join_neighbours-count.ensures.same q
     ∙ ap (λ (rs : List told.CubeRow). summary_at (entries_of rs) q) c.as_mut_slice.ensures.value
@@ -46,7 +47,8 @@ returns-then-not-is_empty-clause-within c = λ n w.
     let sorted = c.sort_unstable_by_key.new.self.items in
     let cut : c.truncate.new.self.items ≡ take c.join_neighbours-count.result c.join_neighbours-count.new.rows =
     c.truncate.ensures.items ∙ ap (take c.join_neighbours-count.result)
-    (with_items_is c.sort_unstable_by_key.new.self c.join_neighbours-count.new.rows (c.join_neighbours-count.ensures.size ∙ c.as_mut_slice.ensures.len)) in
+    (with_items_is c.sort_unstable_by_key.new.self c.join_neighbours-count.new.rows
+    (c.join_neighbours-count.ensures.size ∙ c.as_mut_slice.ensures.len)) in
     subst (λ (rs : List told.CubeRow). IsWithin n (entries_of rs)) (sym cut)
     (c.join_neighbours-count.ensures.within n
     (subst (λ (rs : List told.CubeRow). IsWithin n (entries_of rs)) (sym c.as_mut_slice.ensures.value)

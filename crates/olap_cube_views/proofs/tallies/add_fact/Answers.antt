@@ -22,7 +22,8 @@ returns-in-Some-clause-stands c =
     let reached = c.in-Some.ensures.some in
     let fits : SFits w64 c.args.value = search rules in
     on_ok c.add.result _ _
-    (λ (h : (q : List ℕ) → summary_at (entries_of new) q ≡ summary_at (entries_of old ++ (c.in-Some.key.places, of_value _) ∷ []) q).
+    (λ (h : (q : List ℕ) → summary_at (entries_of new) q
+    ≡ summary_at (entries_of old ++ (c.in-Some.key.places, of_value _) ∷ []) q).
     fact_joined columns old new (fact_at c.args.members.now c.args.value) reached.0 c.in-Some.key.places
     (c.in-Some.key.places, of_value _) c.requires.few reached.1 reached.2
     (ap (λ v. (c.in-Some.key.places, of_value v)) (to_z-of_z w64 c.args.value fits)) h)
@@ -31,7 +32,8 @@ returns-in-Some-clause-stands c =
 pub returns-in-None-clause-stands : goal.returns-in-None-clause-stands
 returns-in-None-clause-stands c =
     let columns = c.args.columns.now in
-    fact_apart columns c.args.sums.now.rows.items (fact_at c.args.members.now c.args.value) (c.in-None.ensures.none refl)
+    fact_apart columns c.args.sums.now.rows.items (fact_at c.args.members.now c.args.value)
+    (c.in-None.ensures.none refl)
 
 pub returns-in-None-clause-within : goal.returns-in-None-clause-within
 returns-in-None-clause-within c = λ n w. within_more n (entries_of c.args.sums.now.rows.items) w

@@ -18,7 +18,8 @@ returns-then-not-is_wanted-clause-says c =
     c.requires.says
     (λ w. let z : false ≡ true = sym c.if-not-is_wanted.true
     ∙ (rw (to_z-of_z w64 c.args.n c.ranges.n) at c.is_wanted.ensures).1
-    (subst (λ names. Wants (op_of c.args.op) c.args.n c.args.want (get_or names c.args.j [])) (sym c.others.ensures.list) w)
+    (subst (λ names. Wants (op_of c.args.op) c.args.n c.args.want (get_or names c.args.j []))
+    (sym c.others.ensures.list) w)
     in cc)
 
 pub returns-clause-says : goal.returns-clause-says

@@ -25,7 +25,8 @@ returns c =
     let s = schema_of c.args.schema.now in
     let all = c.in_ok-findings.findings in
     record {
-      replies = findings_listed s (map finding_of all) c.in_ok-findings.ensures.findings c.yes.result c.yes.ensures.status
+      replies = findings_listed s
+          (map finding_of all) c.in_ok-findings.ensures.findings c.yes.result c.yes.ensures.status
           (c.yes.ensures.bytes ∙ c.in_ok-text.ensures
           ∙ (λ i. flat_map (finding_text s.graph) (map finding_of (c.items.ensures i)) ++ line (codes "findings "
           ++ decimal (length (c.items.ensures i))))

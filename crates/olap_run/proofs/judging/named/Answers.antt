@@ -22,7 +22,8 @@ returns-in-Some g c =
     record {
       judged = or_this (option_or (asking OfTotals (totals.order_named name words))
           (option_or (asking OfPlans (plans.order_named name words))
-          (option_or (asking OfVerdicts (verdicts.order_named name words)) (asking OfCubes (cubes.order_named name words)))))
+          (option_or (asking OfVerdicts (verdicts.order_named name words))
+          (asking OfCubes (cubes.order_named name words)))))
           (joined IsReasoningAnswer IsAnswer OfReasoning (λ q status bytes a. a) (Some c.in-Some.result)
           c.in-Some.ensures.judged);
     }
@@ -32,9 +33,11 @@ returns-in-Some-judge g c =
     let name = c.args.name.now in
     let words = texts c.args.words.now in
     record {
-      judged = or_next (joined IsReasoningAnswer IsAnswer OfReasoning (λ q status bytes a. a) None c.in_default.ensures.judged)
+      judged = or_next (joined IsReasoningAnswer IsAnswer OfReasoning
+          (λ q status bytes a. a) None c.in_default.ensures.judged)
           (or_this (option_or (asking OfPlans (plans.order_named name words))
-          (option_or (asking OfVerdicts (verdicts.order_named name words)) (asking OfCubes (cubes.order_named name words))))
+          (option_or (asking OfVerdicts (verdicts.order_named name words))
+          (asking OfCubes (cubes.order_named name words))))
           (joined IsTotalsAnswer IsAnswer OfTotals (λ q status bytes a. a) (Some c.in-Some-judge.result)
           c.in-Some-judge.ensures.judged));
     }
@@ -44,16 +47,20 @@ returns-in-Some-judge-2 g c =
     let name = c.args.name.now in
     let words = texts c.args.words.now in
     record {
-      judged = or_next (joined IsReasoningAnswer IsAnswer OfReasoning (λ q status bytes a. a) None c.in_default.ensures.judged)
-          (or_next (joined IsTotalsAnswer IsAnswer OfTotals (λ q status bytes a. a) None c.in_default-judge.ensures.judged)
-          (or_this (option_or (asking OfVerdicts (verdicts.order_named name words)) (asking OfCubes (cubes.order_named name words)))
+      judged = or_next (joined IsReasoningAnswer IsAnswer OfReasoning
+          (λ q status bytes a. a) None c.in_default.ensures.judged)
+          (or_next (joined IsTotalsAnswer IsAnswer OfTotals
+          (λ q status bytes a. a) None c.in_default-judge.ensures.judged)
+          (or_this (option_or (asking OfVerdicts (verdicts.order_named name words))
+          (asking OfCubes (cubes.order_named name words)))
           (joined IsPlansAnswer IsAnswer OfPlans (λ q status bytes a. a) (Some c.in-Some-judge-2.result)
           c.in-Some-judge-2.ensures.judged)));
     }
 
 pub returns-in-Some-judge-3 : goal.returns-in-Some-judge-3
 returns-in-Some-judge-3 g c = record {
-  judged = or_next (joined IsReasoningAnswer IsAnswer OfReasoning (λ q status bytes a. a) None c.in_default.ensures.judged)
+  judged = or_next (joined IsReasoningAnswer IsAnswer OfReasoning
+      (λ q status bytes a. a) None c.in_default.ensures.judged)
       (or_next (joined IsTotalsAnswer IsAnswer OfTotals (λ q status bytes a. a) None c.in_default-judge.ensures.judged)
       (or_next (joined IsPlansAnswer IsAnswer OfPlans (λ q status bytes a. a) None c.in_default-judge-2.ensures.judged)
       (or_this (asking OfCubes (cubes.order_named c.args.name.now (texts c.args.words.now)))
@@ -63,9 +70,11 @@ returns-in-Some-judge-3 g c = record {
 
 pub returns : goal.returns
 returns g c = record {
-  judged = or_next (joined IsReasoningAnswer IsAnswer OfReasoning (λ q status bytes a. a) None c.in_default.ensures.judged)
+  judged = or_next (joined IsReasoningAnswer IsAnswer OfReasoning
+      (λ q status bytes a. a) None c.in_default.ensures.judged)
       (or_next (joined IsTotalsAnswer IsAnswer OfTotals (λ q status bytes a. a) None c.in_default-judge.ensures.judged)
       (or_next (joined IsPlansAnswer IsAnswer OfPlans (λ q status bytes a. a) None c.in_default-judge-2.ensures.judged)
-      (or_next (joined IsVerdictsAnswer IsAnswer OfVerdicts (λ q status bytes a. a) None c.in_default-judge-3.ensures.judged)
+      (or_next (joined IsVerdictsAnswer IsAnswer OfVerdicts
+      (λ q status bytes a. a) None c.in_default-judge-3.ensures.judged)
       (joined IsCubesAnswer IsAnswer OfCubes (λ q status bytes a. a) c.judge-5.result c.judge-5.ensures.judged))));
 }

@@ -21,7 +21,8 @@ returns-then-is_empty c =
     ∙ ap (λ (xs : List Break). breaks_text i (map break_seen xs)) c.deref.ensures.value in
     record {
       replies = told_none i found (breaks g i c.args.target.0 sources) c.yes.result told
-          (subst (λ n. (n == 0) ≡ true) c.in_ok-found.found.ok.0 (sym c.is_empty.ensures ∙ c.if-is_empty.true)) c.yes.ensures.status text;
+          (subst (λ n. (n == 0) ≡ true) c.in_ok-found.found.ok.0 (sym c.is_empty.ensures ∙ c.if-is_empty.true))
+          c.yes.ensures.status text;
     }
 
 pub returns : goal.returns
@@ -36,5 +37,6 @@ returns c =
     ∙ ap (λ (xs : List Break). breaks_text i (map break_seen xs)) c.deref.ensures.value in
     record {
       replies = told_some i found (breaks g i c.args.target.0 sources) c.no.result told
-          (subst (λ n. (n == 0) ≡ false) c.in_ok-found.found.ok.0 (sym c.is_empty.ensures ∙ c.if-is_empty.false)) c.no.ensures.status text;
+          (subst (λ n. (n == 0) ≡ false) c.in_ok-found.found.ok.0 (sym c.is_empty.ensures ∙ c.if-is_empty.false))
+          c.no.ensures.status text;
     }

@@ -28,7 +28,8 @@ returns-then-len-gt-MOST_STORE_BYTES c =
     ∙ ap (λ (h : Graph). store_text h c.instance.result.now views) c.graph.ensures
     ∙ ap (λ (j : Instance). store_text graph j views) c.instance.ensures in
     let long = subst (λ (xs : List ℕ). most_store_bytes < length xs) text
-    (subst (λ n. most_store_bytes < n) (c.len.ensures ∙ c.into_bytes-bytes.result.ok.0) c.if-len-gt-MOST_STORE_BYTES.true) in
+    (subst (λ n. most_store_bytes < n)
+    (c.len.ensures ∙ c.into_bytes-bytes.result.ok.0) c.if-len-gt-MOST_STORE_BYTES.true) in
     record {
       replies = long_is_refused graph i views (lt-ltb most_store_bytes (length (store_text graph i views)) long)
           c.refuse_long.result c.refuse_long.ensures.refused;
@@ -43,7 +44,8 @@ returns c =
     ∙ ap (λ (h : Graph). store_text h c.instance.result.now views) c.graph.ensures
     ∙ ap (λ (j : Instance). store_text graph j views) c.instance.ensures in
     let short = subst (λ (xs : List ℕ). length xs ≤ most_store_bytes) text
-    (subst (λ n. n ≤ most_store_bytes) (c.len.ensures ∙ c.into_bytes-bytes.result.ok.0) c.if-len-gt-MOST_STORE_BYTES.false) in
+    (subst (λ n. n ≤ most_store_bytes)
+    (c.len.ensures ∙ c.into_bytes-bytes.result.ok.0) c.if-len-gt-MOST_STORE_BYTES.false) in
     record {
       replies = short_is_told graph i views (le-ltb most_store_bytes (length (store_text graph i views)) short)
           c.yes.result c.yes.ensures.status (c.yes.ensures.bytes ∙ text);

@@ -44,20 +44,23 @@ holding-returns-in-Path-clause-places t c =
 pub holding-returns-in-Via-clause-places : goal.holding-returns-in-Via-clause-places
 holding-returns-in-Via-clause-places t c =
     let b = c.args.self.now in
-    select_part (length b.part.now) (TrueAt b.instance.now b.part.now) (members c.look_up-in-Via.result) (sym c.in-Via.is)
+    select_part (length b.part.now) (TrueAt b.instance.now b.part.now) (members c.look_up-in-Via.result)
+    (sym c.in-Via.is)
     c.look_up-in-Via.ensures.places
 
 pub holding-returns-in-Equals-clause-places : goal.holding-returns-in-Equals-clause-places
 holding-returns-in-Equals-clause-places t c =
     let b = c.args.self.now in
-    select_part (length b.part.now) (TrueAt b.instance.now b.part.now) (members c.look_up-in-Equals.result) (sym c.in-Equals.is)
+    select_part (length b.part.now) (TrueAt b.instance.now b.part.now) (members c.look_up-in-Equals.result)
+    (sym c.in-Equals.is)
     c.look_up-in-Equals.ensures.places
 
 pub holding-returns-in-Compare-clause-places : goal.holding-returns-in-Compare-clause-places
 holding-returns-in-Compare-clause-places t c =
     let b = c.args.self.now in
     let fits : SFits w64 c.in-Compare.n = search rules in
-    select_part (length b.part.now) (TrueAt b.instance.now b.part.now) (members c.look_up-in-Compare.result) (sym c.in-Compare.is)
+    select_part (length b.part.now) (TrueAt b.instance.now b.part.now) (members c.look_up-in-Compare.result)
+    (sym c.in-Compare.is)
     (rw (to_z-of_z w64 c.in-Compare.n fits) at c.look_up-in-Compare.ensures.places)
 
 pub holding-returns-in-Not-clause-places : goal.holding-returns-in-Not-clause-places

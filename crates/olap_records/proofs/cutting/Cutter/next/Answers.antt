@@ -35,7 +35,8 @@ bytes-preserved-in-Copy c =
       part = inv.part;
       from = omega (arith, inv.from, bounds.0);
       at = bounds.1;
-      stands = copied-run t piece i c.bytes-test.true fields (partial ++ (field ++ between from i piece)) s.place s.whole
+      stands = copied-run t piece i c.bytes-test.true fields
+          (partial ++ (field ++ between from i piece)) s.place s.whole
           inv.part inv.stands p.result.0 p.result.1 p.ensures.place p.ensures.action c.in-Copy.is end bounds.0
           c.run_end-at.ensures.runs
           ∙ ap (λ xs. stand_by [] false fields xs p.result.0)
@@ -58,11 +59,14 @@ bytes-preserved-in-Skip c =
       part = inv.part;
       from = omega arith;
       at = omega (arith, c.bytes-test.true);
-      stands = skipped (stand_of [] c.args.self.now) piece i c.bytes-test.true fields (partial ++ (s.field.items ++ rest))
+      stands = skipped (stand_of [] c.args.self.now) piece i c.bytes-test.true fields
+          (partial ++ (s.field.items ++ rest))
           s.place s.whole inv.part inv.stands p.result.0 p.result.1 p.ensures.place p.ensures.action c.in-Skip.is
           ∙ ap (λ xs. stand_by [] false fields xs p.result.0)
-          (sym (copied-at-hand partial s.field.items rest new (i + 1) piece c.in_ok-extend_from_slice-in-Skip.ensures.items))
-          ∙ ap (λ w. stand_by [] w fields (partial ++ (new ++ between (i + 1) (i + 1) piece)) p.result.0) (sym inv.part);
+          (sym (copied-at-hand partial s.field.items rest new
+          (i + 1) piece c.in_ok-extend_from_slice-in-Skip.ensures.items))
+          ∙ ap (λ w. stand_by [] w fields (partial ++ (new ++ between (i + 1) (i + 1) piece)) p.result.0)
+          (sym inv.part);
     }
 
 pub bytes-preserved : goal.bytes-preserved
