@@ -10,9 +10,10 @@ use Rattle.olap_records.specs.Faults.{first_fault, or_after}
 use Rattle.olap_facts.specs.declared.kinds.FactKind.{FactKind}
 use Rattle.olap_facts.specs.declared.kinds.FactKind.TheVariants as kind
 use Rattle.olap_cube.specs.CubeViews.{CubeFact}
-use Rattle.olap_cube_views.specs.CubeFactText.{cube_fact_fault_within, cube_fact_read, cube_facts_read_within, has_header, header, or_read}
+use Rattle.olap_cube_views.specs.CubeFactText.{cube_fact_fault_within, cube_fact_read, cube_facts_read_within, header}
 use Rattle.olap_cube_views.specs.CubeFeeding.{Counted, IsFresh, IsGoing}
 use Rattle.olap_cube_views.proofs.CubeReadingLemmas.{header_is}
+use Rattle.olap_records.specs.Tables.{begins_with, or_read}
 
 module _ (gs : List Graph) (is : List Instance) (done : List (List (List ℕ))) (facts : List CubeFact)
     (row : List (List ℕ)) where
@@ -39,7 +40,7 @@ module _ (gs : List Graph) (is : List Instance) (done : List (List (List ℕ))) 
       → (left : List (List (List ℕ))) → cube_facts_read_within most_facts gs is ((done ++ row ∷ []) ++ left)
       ≡ Err (record { at = 1; kind = kind.BadHeader })
   header-fault h b d e left =
-      let no : has_header (length is) (row ∷ left) ≡ false = sym (header_is row (header (length is)) b d) ∙ e in
+      let no : begins_with (header (length is)) (row ∷ left) ≡ false = sym (header_is row (header (length is)) b d) ∙ e in
       rw h.none (rw no refl)
 
   module _ (h : IsGoing gs is done facts) where

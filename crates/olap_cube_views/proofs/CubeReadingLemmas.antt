@@ -26,7 +26,8 @@ use Rattle.olap_base.specs.declared.refusals.Refusal.{Refusal}
 use Rattle.olap_base.specs.declared.refusals.Refusal.TheVariants as refusal
 use Rattle.olap_cube.specs.CubeViews.{CubeFact, IsCubeFactTable}
 use Rattle.olap_cube.specs.Tuples.{IsBottomTuple}
-use Rattle.olap_cube_views.specs.CubeFactText.{cube_fact_read, member_fault, member_number, members_fault, members_read}
+use Rattle.olap_cube_views.specs.CubeFactText.{cube_fact_read, member_fault, members_fault, members_read}
+use Rattle.olap_instance.specs.Members.{member_number}
 use Rattle.olap_cube_views.specs.CubeRefusals.{IsFaultCause, IsToldAt}
 use Rattle.olap_cube_views.specs.CubeTallies.{AreMembers}
 use Rattle.olap_cube_views.specs.Dimensions.{AreMadeFor}

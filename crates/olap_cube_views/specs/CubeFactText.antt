@@ -14,6 +14,8 @@ use Rattle.olap_base.specs.Limits.{most_listed_facts}
 use Rattle.olap_base.specs.Naming.{place_of}
 use Rattle.olap_base.specs.declared.refusals.Fault.{Fault}
 use Rattle.olap_records.specs.Faults.{field, first_fault}
+use Rattle.olap_records.specs.Tables.{or_read, table_read}
+use Rattle.olap_instance.specs.Members.{member_named, member_number}
 use Rattle.olap_numerals.specs.Values.{value_of}
 use Rattle.olap_facts.specs.FactText.{is_bottom}
 use Rattle.olap_facts.specs.declared.kinds.FactKind.{FactKind}
@@ -29,14 +31,6 @@ abbrev pub header : ℕ → List (List ℕ)
 header k = member_columns k ++ codes "value" ∷ []
 
 -- ---- a record
-
--- the member that a field names, if there is one
-abbrev pub member_named : Instance → List ℕ → Option ℕ
-member_named i f = place_of f (map (λ m. m.id) i)
-
--- that member, or else the first
-abbrev pub member_number : Instance → List ℕ → ℕ
-member_number i f = unwrap_or (member_named i f) 0
 
 -- a field that names a member of a bottom category has no fault
 abbrev pub member_fault : Graph → Instance → List ℕ → Option FactKind
@@ -81,29 +75,16 @@ cube_fact_read is r =
 
 -- ---- all of them
 
--- the fault, if there is one, at its record, of which the header is the first; else what comes after it
-abbrev pub or_read : Option (ℕ × FactKind) → Result (List CubeFact) (Fault FactKind)
-    → Result (List CubeFact) (Fault FactKind)
-or_read None after = after
-or_read (Some p) after = Err (record { at = p.0 + 2; kind = p.1 })
-
 -- the records after the header, where there may be so many facts
 abbrev pub body_read_within : ℕ → List Graph → List Instance → List (List (List ℕ))
     → Result (List CubeFact) (Fault FactKind)
 body_read_within most gs is rows =
     or_read (first_fault (cube_fact_fault_within most gs is) [] rows) (Ok (map (cube_fact_read is) rows))
 
--- the first record is the header
-abbrev pub has_header : ℕ → List (List (List ℕ)) → Bool
-has_header k [] = false
-has_header k (top ∷ rows) = pointwise bytes_eq top (header k)
-
 -- what the records of a text stand for, where there may be so many facts
 abbrev pub cube_facts_read_within : ℕ → List Graph → List Instance → List (List (List ℕ))
     → Result (List CubeFact) (Fault FactKind)
-cube_facts_read_within most gs is records =
-    if has_header (length is) records then body_read_within most gs is (drop 1 records)
-    else Err (record { at = 1; kind = kind.BadHeader })
+cube_facts_read_within most gs is = table_read (header (length is)) kind.BadHeader (body_read_within most gs is)
 
 -- the same for a file that is read into a list
 abbrev pub cube_facts_read : List Graph → List Instance → List (List (List ℕ))

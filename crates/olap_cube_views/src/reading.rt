@@ -9,12 +9,14 @@ ghost use Rattle.olap_cube.specs.Tuples.{IsBottomTuple};
 ghost use Rattle.olap_instance.specs.Made.{IsMadeFor};
 ghost use Rattle.olap_records.specs.Faults.{first_fault};
 ghost use Rattle.olap_records.specs.Records.{records_of};
-ghost use Rattle.olap_cube_views.specs.CubeFactText.{cube_fact_fault, cube_fact_read, cube_facts_read, has_header, header, member_fault, member_number, members_fault, members_read};
+ghost use Rattle.olap_instance.specs.Members.{member_number};
+ghost use Rattle.olap_cube_views.specs.CubeFactText.{cube_fact_fault, cube_fact_read, cube_facts_read, header, member_fault, members_fault, members_read};
 ghost use Rattle.olap_cube_views.specs.CubeTallies.{AreMembers};
 ghost use Rattle.olap_cube_views.specs.CubeRefusals.{IsFaultCause, IsToldAt};
 ghost use Rattle.olap_cube.specs.Limits.{most_dimensions};
 ghost use Rattle.olap_cube_views.specs.Dimensions.{AreMadeFor, graphs_of, instances_of};
 ghost use Rattle.olap_cube_views.specs.Seen.{cube_fact_of, cube_facts_of, members_of};
+ghost use Rattle.olap_records.specs.Tables.{begins_with};
 
 use crate::{CubeFact, CubeFacts, Legals};
 use olap_base::{Fault, List, MOST_LISTED_FACTS, MemberId, Memory, Refusal};
@@ -28,7 +30,7 @@ use std::alloc::Global;
 /// Reads the first record, and says whether it is the header for so many dimensions.
 fn begins(rows: &mut Rows, dimensions: usize) -> Result<bool, Memory>
     requires few { dimensions ≤ most_dimensions }
-    ensures header { IfOk result (λ b. b ≡ has_header dimensions rows.old.left) }
+    ensures header { IfOk result (λ b. b ≡ begins_with (header dimensions) rows.old.left) }
     ensures left { IfOk result (λ b. IsTrue b → rows.new.left ≡ drop 1 rows.old.left) }
 {
     let found = rows.advance()?;

@@ -7,11 +7,12 @@ use Rattle.olap_base.specs.Graph.{Graph}
 use Rattle.olap_base.specs.Instance.{Instance}
 use Rattle.olap_base.specs.Views.{Fact}
 use Rattle.olap_records.specs.Faults.{first_fault, or_after}
-use Rattle.olap_facts.specs.FactText.{fact_fault_within, fact_read, facts_read_within, has_header, header, or_read}
+use Rattle.olap_facts.specs.FactText.{fact_fault_within, fact_read, facts_read_within, header}
 use Rattle.olap_facts.specs.declared.kinds.FactKind.{FactKind}
 use Rattle.olap_facts.specs.declared.kinds.FactKind.TheVariants as kind
 use Rattle.olap_facts.proofs.HeaderLemmas.{header-found}
 use Rattle.olap_facts.specs.Feeding.{Counted, IsFresh, IsGoing}
+use Rattle.olap_records.specs.Tables.{begins_with, or_read}
 
 module _ (most : ℕ) (g : Graph) (i : Instance) (handed : ℕ) (done : List (List (List ℕ))) (facts : List Fact)
     (row : List (List ℕ)) where
@@ -39,7 +40,7 @@ module _ (most : ℕ) (g : Graph) (i : Instance) (handed : ℕ) (done : List (Li
       → (left : List (List (List ℕ)))
       → facts_read_within most g i ((done ++ row ∷ []) ++ left) ≡ Err (record { at = 1; kind = kind.BadHeader })
   header-fault h b d e left =
-      let no : has_header (row ∷ left) ≡ false = sym (header-found (row ∷ left) row left refl b d) ∙ e in
+      let no : begins_with header (row ∷ left) ≡ false = sym (header-found (row ∷ left) row left refl b d) ∙ e in
       rw h.none (rw no refl)
 
   module _ (h : IsGoing most g i handed done facts) where

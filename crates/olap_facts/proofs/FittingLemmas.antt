@@ -10,12 +10,13 @@ use Rattle.olap_base.specs.Instance.{Instance}
 use Rattle.olap_base.specs.declared.refusals.Fault.{Fault}
 use Rattle.olap_base.specs.Views.{Fact}
 use Rattle.olap_base.proofs.ListLemmas.{second_true}
-use Rattle.olap_facts.specs.FactText.{body_read_within, fact_fault_within, fact_read, has_header, or_read}
+use Rattle.olap_facts.specs.FactText.{body_read_within, fact_fault_within, fact_read, header}
 use Rattle.olap_facts.specs.Laws.{ReadFactsFit}
 use Rattle.olap_facts.specs.declared.kinds.FactKind.{FactKind}
 use Rattle.olap_numerals.specs.Values.{is_numeral, value_of}
 use Rattle.olap_numerals.proofs.Spelling.{i64-decides, is_i64}
 use Rattle.olap_records.specs.Faults.{field, first_fault}
+use Rattle.olap_records.specs.Tables.{begins_with, or_read}
 
 -- what is told only where a test holds
 pub told-where : {A : Type 0} (b : Bool) (x y : A) → cond b (Some x) None ≡ Some y → (b ≡ true) × (x ≡ y)
@@ -42,7 +43,7 @@ all-facts i (r ∷ rows) = All-cons (λ (f : Fact). FitsSigned w64 f.value) (fac
 
 -- the theorem
 pub read-facts-fit : ReadFactsFit
-read-facts-fit most g i records fs e = go (has_header records) _ e
+read-facts-fit most g i records fs e = go (begins_with header records) _ e
   where
     read : (o : Option (ℕ × FactKind)) → or_read o (Ok (map (fact_read i) (drop 1 records))) ≡ Ok fs
         → All (λ f. FitsSigned w64 f.value) fs

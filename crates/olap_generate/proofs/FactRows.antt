@@ -30,7 +30,8 @@ use Rattle.olap_records.proofs.Printed.{printed}
 use Rattle.olap_records.proofs.ReadingBack.{text-back}
 use Rattle.olap_instance.proofs.Passing.{all-full}
 use Rattle.olap_instance.proofs.PlaceFacts.{AreDistinct, place-of-id}
-use Rattle.olap_facts.specs.FactText.{fact_fault_within, fact_read, facts_read_within, has_header, header, is_bottom, member_named}
+use Rattle.olap_instance.specs.Members.{member_named}
+use Rattle.olap_facts.specs.FactText.{fact_fault_within, fact_read, facts_read_within, header, is_bottom}
 use Rattle.olap_facts.proofs.BottomLemmas.{bottom-is}
 use Rattle.olap_generate.specs.Location as location
 use Rattle.olap_generate.specs.Members.{fact_row, fact_rows, step, value}
@@ -39,6 +40,7 @@ use Rattle.olap_generate.proofs.Made.{fact_of, made, made_facts}
 use Rattle.olap_generate.proofs.Places.{at_store, length_made}
 use Rattle.olap_generate.proofs.Rows.{map-numbers}
 use Rattle.olap_generate.proofs.Sound.{sound_instance}
+use Rattle.olap_records.specs.Tables.{begins_with}
 
 -- ---- the values
 
@@ -63,7 +65,7 @@ value-spelled seed i =
 -- ---- a record
 
 -- a record that names a member of a bottom category and spells a number has no fault, where there is room
-module _ (i : Instance) (r : List (List ℕ)) (p : ℕ) (v : ℤ) (named : member_named i r ≡ Some p)
+module _ (i : Instance) (r : List (List ℕ)) (p : ℕ) (v : ℤ) (named : member_named i (field r 0) ≡ Some p)
     (spelled : value_of (field r 1) ≡ Some v) where
   row-passes : (before : List (List (List ℕ))) → (length r == 2) ≡ true
       → is_bottom location_graph (category_of i p) ≡ true → nat_le most_facts (length before) ≡ false
@@ -76,7 +78,7 @@ module _ (i : Instance) (r : List (List ℕ)) (p : ℕ) (v : ℤ) (named : membe
 -- ---- all of them
 
 -- records without faults stand for their facts
-read-of : (i : Instance) (records : List (List (List ℕ))) (facts : List Fact) → has_header records ≡ true
+read-of : (i : Instance) (records : List (List (List ℕ))) (facts : List Fact) → begins_with header records ≡ true
     → first_fault (fact_fault_within most_facts location_graph i) [] (drop 1 records) ≡ None
     → map (fact_read i) (drop 1 records) ≡ facts → facts_read_within most_facts location_graph i records ≡ Ok facts
 read-of i records facts h first e = rw (h, first) (ap (λ (t : List Fact). Ok t) e)
@@ -124,7 +126,7 @@ module _ (seed size : ℕ) where
     is-member k l = let n = length_made seed size in omega arith
 
     -- each store is found by its id
-    store-named : (k : ℕ) → k < size → member_named (made seed size) (fact_row seed (k + 1)) ≡ Some k
+    store-named : (k : ℕ) → k < size → member_named (made seed size) (field (fact_row seed (k + 1)) 0) ≡ Some k
     store-named k l =
         let n = length-map (made seed size) (λ m. m.id) in
         let m = is-member k l in
@@ -162,11 +164,11 @@ module _ (seed size : ℕ) where
     facts-read : map (fact_read (made seed size)) rows ≡ made_facts seed size
     facts-read = map-numbers (fact_read (made seed size)) (fact_row seed) (fact_of seed size) 1 size (λ k l u.
         let e : (k - 1) + 1 ≡ k = omega arith in
-        let named : member_named (made seed size) (fact_row seed k) ≡ Some (k - 1) =
-        ap (λ n. member_named (made seed size) (fact_row seed n)) (sym e) ∙ store-named (k - 1) (omega arith) in
+        let named : member_named (made seed size) (field (fact_row seed k) 0) ≡ Some (k - 1) =
+        ap (λ n. member_named (made seed size) (field (fact_row seed n) 0)) (sym e) ∙ store-named (k - 1) (omega arith) in
         row-read (made seed size) (fact_row seed k) (k - 1) (value seed k) named (value-spelled seed k))
 
-    header-there : has_header (fact_rows seed size) ≡ true
+    header-there : begins_with header (fact_rows seed size) ≡ true
     header-there = (slice_eq-Decides bytes_eq-Decides header header (pointwise bytes_eq header header) refl).1 refl
 
     -- the records stand for the facts

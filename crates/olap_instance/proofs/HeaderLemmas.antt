@@ -3,7 +3,8 @@ use Rattle.std.proofs.Common.{◌≡◌, ◌↔◌, ◌∷◌, Bool, true, false
 use Rattle.std.specs.Cmp.Lexicographic.{pointwise}
 use Rattle.std.specs.Str.{bytes_eq}
 use Rattle.std.proofs.lemmas.Slice.Eq.{bytes_eq-Decides, slice_eq-Decides}
-use Rattle.olap_instance.specs.InstanceText.{has_header, header}
+use Rattle.olap_instance.specs.InstanceText.{header}
+use Rattle.olap_records.specs.Tables.{begins_with}
 
 -- two tests are equal if each follows from the other
 same-test : (a b : Bool) → (a ≡ true → b ≡ true) → (b ≡ true → a ≡ true) → a ≡ b
@@ -13,7 +14,7 @@ same-test false false f g = refl
 
 -- the test of the first record is the header's
 pub header-is : (row : List (List ℕ)) (after : List (List (List ℕ))) (b : Bool) → IsTrue b ↔ (row ≡ header)
-    → b ≡ has_header (row ∷ after)
+    → b ≡ begins_with header (row ∷ after)
 header-is row after b h =
     let d = slice_eq-Decides bytes_eq-Decides row header (pointwise bytes_eq row header) refl in
     same-test b (pointwise bytes_eq row header) (λ t. d.1 (h.0 t)) (λ t. h.1 (d.0 t))

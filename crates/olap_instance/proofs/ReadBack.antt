@@ -21,7 +21,7 @@ use Rattle.olap_records.specs.Faults.{first_fault}
 use Rattle.olap_records.specs.Records.{records_of}
 use Rattle.olap_records.proofs.FaultLemmas.{none-iff}
 use Rattle.olap_records.proofs.ReadingBack.{text-back}
-use Rattle.olap_instance.specs.InstanceText.{header, id_field, is_known, is_too_long, has_header, ids_of, instance_read, member_fault, members_read, parent_read, parents_fault, piece_fault, pieces_of, whole_read}
+use Rattle.olap_instance.specs.InstanceText.{header, id_field, is_known, is_too_long, ids_of, instance_read, member_fault, members_read, parent_read, parents_fault, piece_fault, pieces_of, whole_read}
 use Rattle.olap_instance.specs.Made.{IsMadeFor}
 use Rattle.olap_instance.specs.Members.{AllHasNoParents, HasShortNames, HasTexts, all_member}
 use Rattle.olap_instance.specs.Passes.{ids_in}
@@ -33,9 +33,10 @@ use Rattle.olap_instance.proofs.PlaceFacts.{AreDistinct, place-of-id}
 use Rattle.olap_instance.proofs.BuilderSteps.{not-found}
 use Rattle.olap_instance.proofs.Checks.{number-good}
 use Rattle.olap_instance.proofs.Passing.{all-full, any-none, differ-zero, four-texts, ids-kept, isnt, round, rows-full, short, two, unrefused}
+use Rattle.olap_records.specs.Tables.{begins_with}
 
 -- records without faults stand for their members
-read-of : (g : Graph) (records : List (List (List ℕ))) (i : Instance) → has_header records ≡ true
+read-of : (g : Graph) (records : List (List (List ℕ))) (i : Instance) → begins_with header records ≡ true
     → first_fault (member_fault g) [] (drop 1 records) ≡ None
     → first_fault (parents_fault (ids_of (drop 1 records))) [] (drop 1 records) ≡ None
     → members_read g (drop 1 records) ≡ i → instance_read g records ≡ Ok i
@@ -290,7 +291,7 @@ module _ (g : Graph) (i : Instance) (hierarchy : IsHierarchy g) (sound : IsInsta
       subst (λ (m : Member). whole_read g (ids_in i) (member_fields g i m) ≡ m) (sym (other-at j k))
       (member-back j k))) ∙ sym parts)
 
-  header-there : has_header (instance_rows g i) ≡ true
+  header-there : begins_with header (instance_rows g i) ≡ true
   header-there = (slice_eq-Decides bytes_eq-Decides header header (pointwise bytes_eq header header) refl).1 refl
 
   records-are : records_of (text_of_instance g i) ≡ instance_rows g i

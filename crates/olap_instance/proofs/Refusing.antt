@@ -2,17 +2,18 @@
 use Rattle.std.proofs.Common.{◌≡◌, true, ℕ, List, [], drop, None, Some, refl}
 use Rattle.olap_base.specs.Graph.{Graph}
 use Rattle.olap_records.specs.Faults.{first_fault}
-use Rattle.olap_instance.specs.InstanceText.{has_header, ids_of, instance_read, member_fault, parents_fault}
+use Rattle.olap_instance.specs.InstanceText.{header, ids_of, instance_read, member_fault, parents_fault}
 use Rattle.olap_base.specs.Refusing.{IsRefusedBy}
 use Rattle.olap_base.specs.declared.refusals.Fault.{Fault}
 use Rattle.olap_base.specs.declared.refusals.Refusal.{Refusal}
 use Rattle.olap_base.specs.declared.refusals.Refusal.TheVariants as refusal
 use Rattle.olap_instance.specs.Refusals.{IsFaultCause}
 use Rattle.olap_instance.specs.declared.refusals.InstanceKind.{InstanceKind}
+use Rattle.olap_records.specs.Tables.{begins_with}
 
 -- the second pass's fault is the text's, where the first finds none
 pub refused-second : (g : Graph) (records : List (List (List ℕ))) (ids : List (List ℕ)) (e : Refusal (Fault InstanceKind))
-    → has_header records ≡ true
+    → begins_with header records ≡ true
     → first_fault (member_fault g) [] (drop 1 records) ≡ None → ids ≡ ids_of (drop 1 records)
     → IsFaultCause (first_fault (parents_fault ids) [] (drop 1 records)) e → IsRefusedBy e (instance_read g records)
 refused-second g records ids (refusal.Kind f) h first ei c =

@@ -16,7 +16,7 @@ use Rattle.olap_base.specs.Limits.{most_members}
 use Rattle.olap_graph.specs.Lookups.{category_named, names_of}
 use Rattle.olap_records.specs.Faults.{field, first_fault}
 use Rattle.olap_records.proofs.FaultLemmas.{none-iff}
-use Rattle.olap_instance.specs.InstanceText.{body_read, category_field, category_number, has_header, id_field, ids_of, is_too_long, member_fault, member_read, members_read, name_field, or_read, parents_fault, parents_field, parents_read, piece_fault, pieces_of, whole_read}
+use Rattle.olap_instance.specs.InstanceText.{body_read, category_field, category_number, header, id_field, ids_of, is_too_long, member_fault, member_read, members_read, name_field, parents_fault, parents_field, parents_read, piece_fault, pieces_of, whole_read}
 use Rattle.olap_instance.specs.Members.{AreSound, HasShortNames, HasTexts, all_member, with_parents}
 use Rattle.olap_instance.specs.declared.refusals.InstanceKind.{InstanceKind}
 use Rattle.olap_instance.specs.Laws.{IsReadFor, ReadIsInstance}
@@ -27,6 +27,7 @@ use Rattle.olap_instance.proofs.Completing.{AreComplete, complete-names, complet
 use Rattle.olap_instance.proofs.EnteringLemmas.{ids-read}
 use Rattle.olap_instance.proofs.PlaceFacts.{place-within}
 use Rattle.olap_instance.proofs.Checks.{IsGood, absent-at, four, fresh-parts, good, good-number, neither, no-second, place-inside, places-differ, there, within}
+use Rattle.olap_records.specs.Tables.{begins_with, or_read}
 
 -- ---- records
 
@@ -296,7 +297,7 @@ module _ (g : Graph) (rows : List (List (List ℕ))) where
 
 -- what records stand for is an instance
 pub read-sound : ReadIsInstance
-read-sound g records i e = by (has_header records) e (body-sound g (drop 1 records) i)
+read-sound g records i e = by (begins_with header records) e (body-sound g (drop 1 records) i)
   where
     by : (b : Bool)
         → (if b then body_read g (drop 1 records) else Err (record { at = 1; kind = kind.BadHeader })) ≡ Ok i

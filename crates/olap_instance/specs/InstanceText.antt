@@ -16,6 +16,7 @@ use Rattle.olap_base.specs.declared.refusals.Fault.{Fault}
 use Rattle.olap_graph.specs.Lookups.{category_named}
 use Rattle.olap_numerals.specs.Numerals.{number_of}
 use Rattle.olap_records.specs.Faults.{field, first_fault}
+use Rattle.olap_records.specs.Tables.{or_read, table_read}
 use Rattle.olap_instance.specs.Members.{all_member, childless}
 use Rattle.olap_instance.specs.declared.refusals.InstanceKind.{InstanceKind}
 use Rattle.olap_instance.specs.declared.refusals.InstanceKind.TheVariants as kind
@@ -128,24 +129,12 @@ whole_read g ids r = record (member_read g r) { parents = parents_read ids r }
 abbrev pub members_read : Graph → List (List (List ℕ)) → Instance
 members_read g rows = map (whole_read g (ids_of rows)) rows ++ all_member ∷ []
 
--- the fault, if there is one, at its record, of which the header is the first; else what comes after it
-abbrev pub or_read : Option (ℕ × InstanceKind) → Result Instance (Fault InstanceKind)
-    → Result Instance (Fault InstanceKind)
-or_read None after = after
-or_read (Some p) after = Err (record { at = p.0 + 2; kind = p.1 })
-
 -- the records after the header: no parent is looked at before each record has passed the first checks
 abbrev pub body_read : Graph → List (List (List ℕ)) → Result Instance (Fault InstanceKind)
 body_read g rows =
     or_read (first_fault (member_fault g) [] rows)
     (or_read (first_fault (parents_fault (ids_of rows)) [] rows) (Ok (members_read g rows)))
 
--- the first record is the header
-abbrev pub has_header : List (List (List ℕ)) → Bool
-has_header [] = false
-has_header (top ∷ rows) = pointwise bytes_eq top header
-
 -- what the records of a text stand for
 abbrev pub instance_read : Graph → List (List (List ℕ)) → Result Instance (Fault InstanceKind)
-instance_read g records =
-    if has_header records then body_read g (drop 1 records) else Err (record { at = 1; kind = kind.BadHeader })
+instance_read g = table_read header kind.BadHeader (body_read g)

@@ -1,14 +1,16 @@
 -- Members with and without their parents, and the texts that they may have.
+--     member_named, member_number   the member of an id, if there is one; or else the first
 --     with_parents   members, each with its parents
 --     HasTexts       each id of an instance is one that a field of parents can name, and each name is UTF-8
 --     HasShortNames  each name is one that a file of members may hold
 --     AllHasNoParents   `all` has no parents
-use Rattle.std.specs.Prelude.{◌≡◌, ◌≢◌, ◌≤◌, ◌==◌, false, ℕ, suc, List, [], ◌∷◌, length, codes, IsTrue}
+use Rattle.std.specs.Prelude.{◌≡◌, ◌≢◌, ◌≤◌, ◌==◌, false, ℕ, suc, List, [], ◌∷◌, length, map, codes, IsTrue, Option, unwrap_or}
 use Rattle.std.specs.List.{list_any}
 use Rattle.std.specs.Str.{is_utf8}
 use Rattle.olap_base.specs.Bytes.{semicolon}
 use Rattle.olap_base.specs.Instance.{Instance, IsInstance, IsMember, Member, member_at, parents_of}
 use Rattle.olap_base.specs.Limits.{most_members, most_text_bytes}
+use Rattle.olap_base.specs.Naming.{place_of}
 
 -- a member of that id, category and name, without parents
 abbrev pub childless : List ℕ → ℕ → List ℕ → Member
@@ -17,6 +19,14 @@ childless id category name = record { id = id; category = category; name = name;
 -- the member `all`
 abbrev pub all_member : Member
 all_member = childless (codes "all") 0 (codes "all")
+
+-- the member whose id this is, if there is one
+abbrev pub member_named : Instance → List ℕ → Option ℕ
+member_named i id = place_of id (map (λ m. m.id) i)
+
+-- that member, or else the first
+abbrev pub member_number : Instance → List ℕ → ℕ
+member_number i id = unwrap_or (member_named i id) 0
 
 -- the members, each with the parents at its place
 abbrev pub with_parents : Instance → List (List ℕ) → Instance

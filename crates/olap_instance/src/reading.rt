@@ -3,11 +3,12 @@ ghost use Rattle.std.specs.Prelude.{◌≡◌, ◌<◌, [], codes, true, drop, l
 ghost use Rattle.olap_base.specs.Limits.{most_members};
 ghost use Rattle.olap_base.specs.Naming.{place_of};
 ghost use Rattle.olap_records.specs.Records.{records_of};
-ghost use Rattle.olap_instance.specs.InstanceText.{has_header, instance_read, parents_field};
+ghost use Rattle.olap_instance.specs.InstanceText.{header, instance_read, parents_field};
 ghost use Rattle.olap_instance.specs.Made.{IsMadeFor};
 ghost use Rattle.olap_instance.specs.Members.{AreSound, HasShortNames, with_parents};
 ghost use Rattle.olap_instance.specs.Passes.{PassesFirst, ids_in, parents_in};
 ghost use Rattle.olap_base.specs.Refusing.{IsRefusedBy};
+ghost use Rattle.olap_records.specs.Tables.{begins_with};
 
 use crate::entering::enter_rows;
 use crate::hashing::KeyedHash;
@@ -22,7 +23,7 @@ use std::alloc::Global;
 
 // Reads the first record, and says whether it is the header.
 fn begins(rows: &mut Rows) -> Result<bool, Memory>
-    ensures header { IfOk result (λ b. b ≡ has_header rows.old.left) }
+    ensures header { IfOk result (λ b. b ≡ begins_with header rows.old.left) }
     ensures left { IfOk result (λ b. IsTrue b → rows.new.left ≡ drop 1 rows.old.left) }
 {
     let found = rows.advance()?;
@@ -40,7 +41,7 @@ fn enter_table(
     requires members { roster.old ≡ [] }
     requires fields { fields.old ≡ [] }
     ensures members { MatchResult result
-        (λ _. (has_header rows.old.left ≡ true) × PassesFirst graph.now (drop 1 rows.old.left) roster.new)
+        (λ _. (begins_with header rows.old.left ≡ true) × PassesFirst graph.now (drop 1 rows.old.left) roster.new)
         (λ e. IsRefusedBy e (instance_read graph.now rows.old.left)) }
     ensures fields { OnOk result (fields.new ≡ map parents_field (drop 1 rows.old.left)) }
     ensures few { OnOk result (length roster.new < most_members) }
@@ -66,7 +67,7 @@ fn enter_text(
     requires members { roster.old ≡ [] }
     requires fields { fields.old ≡ [] }
     ensures members { MatchResult result
-        (λ _. (has_header (records_of text.now) ≡ true)
+        (λ _. (begins_with header (records_of text.now) ≡ true)
         × PassesFirst graph.now (drop 1 (records_of text.now)) roster.new)
         (λ e. IsRefusedBy e (instance_read graph.now (records_of text.now))) }
     ensures fields { OnOk result (fields.new ≡ map parents_field (drop 1 (records_of text.now))) }

@@ -1,8 +1,9 @@
 -- What the records of a table stand for, or the table's first fault.
---     given         what follows from a thing that is there, else the reason why it isn't
 --     goes_on       what follows from a thing that was read, else its fault
 --     all_read      what each record stands for, or the first fault, by its record's place
---     table_read    the same of the records after a header
+--     begins_with   the first record is a header
+--     or_read       a fault at its record, or what the records stand for
+--     table_read    what the records after a header stand for, or the first fault
 --     AllReadIsRead, AllReadIsFirst    what `all_read` is, record by record
 use Rattle.std.specs.Prelude.{◌≡◌, ◌+◌, ◌++◌, ◌∷◌, ◌↔◌, Bool, false, ℕ, List, [], length, drop, take, slice_get, Option, Some, None, Result, Ok, Err, if◌then◌else◌}
 use Rattle.std.specs.Cmp.Lexicographic.{pointwise}
@@ -10,11 +11,6 @@ use Rattle.std.specs.Result.{result_err}
 use Rattle.std.specs.Str.{bytes_eq}
 use Rattle.olap_base.specs.declared.refusals.Fault.{Fault}
 use Rattle.olap_records.specs.FaultLaws.{IsFirstFault}
-
--- what follows from it, if it is there; else this is why
-abbrev pub given : {T U K : Type 0} → Option T → K → (T → Result U K) → Result U K
-given None why next = Err why
-given (Some x) why next = next x
 
 -- what follows from it, if it has no fault
 abbrev pub goes_on : {T U K : Type 0} → Result T K → (T → Result U K) → Result U K
@@ -38,16 +34,16 @@ abbrev pub begins_with : List (List ℕ) → List (List (List ℕ)) → Bool
 begins_with header [] = false
 begins_with header (top ∷ rows) = pointwise bytes_eq top header
 
--- a fault is told with its record's number, where the header is number 1
-abbrev pub numbered : {T K : Type 0} → Result T (ℕ × K) → Result T (Fault K)
-numbered (Ok x) = Ok x
-numbered (Err p) = Err (record { at = p.0 + 2; kind = p.1 })
+-- the fault, if there is one, at its record's number, where the header is number 1; else what is read
+abbrev pub or_read : {T K : Type 0} → Option (ℕ × K) → Result T (Fault K) → Result T (Fault K)
+or_read None read = read
+or_read (Some p) read = Err (record { at = p.0 + 2; kind = p.1 })
 
 -- what the records after the header stand for, or the first fault, which is `no_header` where the header is missing
-abbrev pub table_read : {T K : Type 0} → List (List ℕ) → K → (List (List (List ℕ)) → Result T (ℕ × K))
+abbrev pub table_read : {T K : Type 0} → List (List ℕ) → K → (List (List (List ℕ)) → Result T (Fault K))
     → List (List (List ℕ)) → Result T (Fault K)
 table_read header no_header read records =
-    if begins_with header records then numbered (read (drop 1 records)) else Err (record { at = 1; kind = no_header })
+    if begins_with header records then read (drop 1 records) else Err (record { at = 1; kind = no_header })
 
 -- ---- laws
 

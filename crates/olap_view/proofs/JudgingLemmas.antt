@@ -16,7 +16,8 @@ use Rattle.olap_base.specs.Summaries.{Summary}
 use Rattle.olap_base.proofs.ListLemmas.{list_any_is}
 use Rattle.olap_view.specs.StoreReading.{IsRowFor, IsStoredAt, Record, Tells}
 use Rattle.olap_view.specs.StoredRows.{begun_in, stored_at}
-use Rattle.olap_view.specs.StoreText.{beginning_fault, begun, category_number, is_beginning, is_row_of, member_named, member_number, row_fault, summary_read}
+use Rattle.olap_view.specs.StoreText.{beginning_fault, begun, category_number, is_beginning, is_row_of, row_fault, summary_read}
+use Rattle.olap_instance.specs.Members.{member_named, member_number}
 use Rattle.olap_view.specs.declared.kinds.StoreKind.{StoreKind}
 use Rattle.olap_view.specs.declared.kinds.StoreKind.TheVariants as kind
 use Rattle.olap_view.specs.declared.stored_rows.StoredRows.{StoredRows}
@@ -94,20 +95,20 @@ module _ (g : Graph) (i : Instance) (earlier : List Record) (r : Record) (t : St
   pub no-view : b ≡ false → row_fault g i earlier r ≡ Some kind.NoView
   no-view e = let a = begins-above ∙ e in rw a refl
 
-  module _ (e : b ≡ true) (m : ℕ) (found : Some m ≡ member_named i r) (inside : m < length i)
+  module _ (e : b ≡ true) (m : ℕ) (found : Some m ≡ member_named i (field r 1)) (inside : m < length i)
       (same : (category_of i m == c) ≡ true) (s : Summary) (numbers : Some s ≡ summary_read r) where
-    number : m ≡ member_number i r
+    number : m ≡ member_number i (field r 1)
     number = ap (λ o. unwrap_or o 0) found
 
     told : (f : Bool) → list_any (is_row_of i m) earlier ≡ f
         → row_fault g i earlier r ≡ (if f then Some kind.DuplicateRow else None)
     told f q =
-        let k : (category_of i (member_number i r) == category_number g r) ≡ true =
+        let k : (category_of i (member_number i (field r 1)) == category_number g r) ≡ true =
         ap (λ x. category_of i x == category_number g r) (sym number)
         ∙ ap (λ x. category_of i m == x) (sym named) ∙ same in
-        last-check (list_any (λ d. d == category_number g r) (begun g earlier)) (is_none (member_named i r))
-        (category_of i (member_number i r) == category_number g r) (is_none (summary_read r))
-        (list_any (is_row_of i (member_number i r)) earlier) (begins-above ∙ e) (ap is_none (sym found)) k
+        last-check (list_any (λ d. d == category_number g r) (begun g earlier)) (is_none (member_named i (field r 1)))
+        (category_of i (member_number i (field r 1)) == category_number g r) (is_none (summary_read r))
+        (list_any (is_row_of i (member_number i (field r 1))) earlier) (begins-above ∙ e) (ap is_none (sym found)) k
         (ap is_none (sym numbers))
         ∙ ap (λ x. if list_any (is_row_of i x) earlier then Some kind.DuplicateRow else None) (sym number)
         ∙ ap (λ x. if x then Some kind.DuplicateRow else None) q

@@ -24,7 +24,8 @@ use Rattle.olap_instance.proofs.PlaceFacts.{first-at}
 use Rattle.olap_records.specs.Faults.{first_fault, or_after}
 use Rattle.olap_view.specs.StoreLaws.{DirectViewsAreReadBack, PrintedStoresAreRead}
 use Rattle.olap_view.specs.StoreReading.{Record, said_of}
-use Rattle.olap_view.specs.StoreText.{beginning, begun, category_number, beginning_fault, has_header, is_beginning, is_row_of, member_named, member_number, records_of_one, records_of_store, row_fault, row_read, store_fault, store_read, summary_read, view_read, views_read}
+use Rattle.olap_instance.specs.Members.{member_named, member_number}
+use Rattle.olap_view.specs.StoreText.{beginning, beginning_fault, begun, category_number, header, is_beginning, is_row_of, records_of_one, records_of_store, row_fault, row_read, store_fault, store_read, summary_read, view_read, views_read}
 use Rattle.olap_view.specs.Stores.{Fits, IsInFileOrder, IsStore, IsStored, row_in, summary_in}
 use Rattle.olap_view.specs.ViewText.{fields_in}
 use Rattle.olap_view.specs.declared.kinds.StoreKind.{StoreKind}
@@ -35,6 +36,7 @@ use Rattle.olap_view.proofs.JudgingLemmas.{last-check}
 use Rattle.olap_view.proofs.StoreLawLemmas.{printed-numbers}
 use Rattle.olap_view.proofs.StoreReadingLemmas.{any-more, begun-more, begun-same, find-none, or-nothing}
 use Rattle.olap_view.proofs.ViewingLemmas.{fails, rows_same}
+use Rattle.olap_records.specs.Tables.{begins_with}
 
 -- ---- over plain variables
 
@@ -133,7 +135,7 @@ module _ (g : Graph) (i : Instance) (hierarchy : IsHierarchy g) (sound : IsInsta
   row-of : (c y : ℕ) (r : Row) → IsStored r → IsMember i r.member
       → is_row_of i y (record_in c r) ≡ (r.member == y)
   row-of c y r h m =
-      ap (λ b. not b && (member_number i (record_in c r) == y)) (is-row c r h)
+      ap (λ b. not b && (member_number i (field (record_in c r) 1) == y)) (is-row c r h)
       ∙ ap (λ o. unwrap_or o 0 == y) (member-found r.member m)
 
   -- the first record of a view passes
@@ -151,16 +153,16 @@ module _ (g : Graph) (i : Instance) (hierarchy : IsHierarchy g) (sound : IsInsta
       → fault before (record_in c r) ≡ None
   row-passes before c r k h m above new =
       let x = record_in c r in
-      let number : member_number i x ≡ r.member = ap (λ o. unwrap_or o 0) (member-found r.member m.0) in
-      let same : (category_of i (member_number i x) == category_number g x) ≡ true =
+      let number : member_number i (field x 1) ≡ r.member = ap (λ o. unwrap_or o 0) (member-found r.member m.0) in
+      let same : (category_of i (member_number i (field x 1)) == category_number g x) ≡ true =
       ap (λ y. category_of i y == category_number g x) number ∙ ap (λ d. category_of i r.member == d) (named c k)
       ∙ (Decides-eqb (category_of i r.member) c).1 m.1 in
       row-branch (category_named g (name_of_category g c)) c (is_beginning x)
       (beginning_fault g before (category_number g x)) (row_fault g i before x) (named-category g hierarchy c k)
       (is-row c r h)
-      (last-check (list_any (λ d. d == category_number g x) (begun g before)) (is_none (member_named i x))
-      (category_of i (member_number i x) == category_number g x) (is_none (summary_read x))
-      (list_any (is_row_of i (member_number i x)) before)
+      (last-check (list_any (λ d. d == category_number g x) (begun g before)) (is_none (member_named i (field x 1)))
+      (category_of i (member_number i (field x 1)) == category_number g x) (is_none (summary_read x))
+      (list_any (is_row_of i (member_number i (field x 1))) before)
       (ap (λ y. list_any (λ d. d == y) (begun g before)) (named c k) ∙ above)
       (ap is_none (member-found r.member m.0)) same (ap is_none (printed-numbers i (name_of_category g c) r h))
       ∙ ap (λ y. if list_any (is_row_of i y) before then Some kind.DuplicateRow else None) number
@@ -372,7 +374,7 @@ module _ (g : Graph) (i : Instance) (hierarchy : IsHierarchy g) (sound : IsInsta
       read (records_of_store g i views) views refl
       (views-pass views [] w a (omega arith) (λ k d l. refl) (λ k d l y e. refl)) (views-back views w a)
     where
-      read : (all : List Record) (views : List View) → has_header all ≡ true
+      read : (all : List Record) (views : List View) → begins_with header all ≡ true
           → first_fault fault [] (drop 1 all) ≡ None → views_read g i (drop 1 all) ≡ views
           → store_read g i all ≡ Ok views
       read all views h f e = rw (h, f) (ap (λ (v : List View). Ok v) e)

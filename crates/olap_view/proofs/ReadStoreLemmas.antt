@@ -27,13 +27,14 @@ use Rattle.olap_numerals.specs.Values.{is_numeral, value_of}
 use Rattle.olap_records.specs.Faults.{field, first_fault, or_after}
 use Rattle.olap_view.specs.StoreLaws.{ReadStoresAreSound}
 use Rattle.olap_view.specs.StoreReading.{IsStoredAt, Record, said_of}
-use Rattle.olap_view.specs.StoreText.{beginning_fault, begun, body_read, category_number, has_header, is_beginning, is_row_of, or_read, row_fault, store_fault, summary_read, views_read}
+use Rattle.olap_view.specs.StoreText.{beginning_fault, begun, body_read, category_number, header, is_beginning, is_row_of, row_fault, store_fault, summary_read, views_read}
 use Rattle.olap_view.specs.StoredNumbers.{count_of, is_sum, sum_of}
 use Rattle.olap_view.specs.Stores.{Fits, IsSoundStore, IsStored}
 use Rattle.olap_view.specs.Tables.{view_by}
 use Rattle.olap_view.specs.declared.kinds.StoreKind.{StoreKind}
 use Rattle.olap_view.proofs.FileOrderLemmas.{all-rows, each-in-order, store-of}
 use Rattle.olap_view.proofs.StoreReadingLemmas.{begun-more, begun-same, none-same}
+use Rattle.olap_records.specs.Tables.{begins_with, or_read}
 
 -- ---- numbers
 
@@ -218,7 +219,7 @@ module _ (g : Graph) (i : Instance) (rows : List Record) where
 
 -- the theorem
 pub read-stores : ReadStoresAreSound
-read-stores g i records vs e = go (has_header records) _ e
+read-stores g i records vs e = go (begins_with header records) _ e
   where
     read : (o : Option (ℕ × StoreKind)) → first_fault (store_fault g i) [] (drop 1 records) ≡ o
         → or_read o (Ok (views_read g i (drop 1 records))) ≡ Ok vs → IsSoundStore g i vs

@@ -16,7 +16,8 @@ use Rattle.olap_base.specs.Summaries.{Summary}
 use Rattle.olap_view.specs.Seen.{ids}
 use Rattle.olap_view.specs.StoreReading.{IsBeginning, IsRowFor, IsStoredAt, Record, Tells, said_of}
 use Rattle.olap_view.specs.StoredRows.{HasPut, begun_in, stored_at}
-use Rattle.olap_view.specs.StoreText.{begun, category_number, is_beginning, is_row_of, member_number, summary_read}
+use Rattle.olap_view.specs.StoreText.{begun, category_number, is_beginning, is_row_of, summary_read}
+use Rattle.olap_instance.specs.Members.{member_number}
 use Rattle.olap_view.specs.declared.stored_rows.StoredRows.{StoredRows}
 
 -- ---- lists
@@ -93,7 +94,7 @@ module _ (g : Graph) (i : Instance) (rows : List Record) (r : Record) (old new :
       let more : begun g (rows ++ r ∷ []) ≡ begun g rows ++ c ∷ [] =
       begun-more g rows r b.begins ∙ ap (λ d. begun g rows ++ d ∷ []) (sym b.named) in
       let same : (y : ℕ) → stored_at new y ≡ stored_at old y = λ y. rw (places, s) refl in
-      let no_row : (y : ℕ) → is_row_of i y r ≡ false = λ y. ap (λ t. not t && (member_number i r == y)) b.begins in
+      let no_row : (y : ℕ) → is_row_of i y r ≡ false = λ y. ap (λ t. not t && (member_number i (field r 1) == y)) b.begins in
       record {
         categories = e ∙ ap (λ l. l ++ c ∷ []) t.categories ∙ sym more;
         differ = subst (AllPairs ◌≢◌) (sym more)
@@ -119,12 +120,12 @@ module _ (g : Graph) (i : Instance) (rows : List Record) (r : Record) (old new :
   -- which is a row
   module _ (m : ℕ) (s : Summary) (q : HasPut m s old new) (b : IsRowFor i rows r m s) where
     is-own : is_row_of i m r ≡ true
-    is-own = let e = b.named in let z : (member_number i r == m) ≡ true = grind (arith, nat_tests) in
-        ap (λ t. not t && (member_number i r == m)) b.row ∙ z
+    is-own = let e = b.named in let z : (member_number i (field r 1) == m) ≡ true = grind (arith, nat_tests) in
+        ap (λ t. not t && (member_number i (field r 1) == m)) b.row ∙ z
 
     is-other : (y : ℕ) → y ≢ m → is_row_of i y r ≡ false
-    is-other y n = let e = b.named in let z : (member_number i r == y) ≡ false = grind (arith, nat_tests) in
-        ap (λ t. not t && (member_number i r == y)) b.row ∙ z
+    is-other y n = let e = b.named in let z : (member_number i (field r 1) == y) ≡ false = grind (arith, nat_tests) in
+        ap (λ t. not t && (member_number i (field r 1) == y)) b.row ∙ z
 
     -- what is so at y of the table after the record
     abbrev IsTold : ℕ → Type 0

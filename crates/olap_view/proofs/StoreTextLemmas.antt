@@ -17,11 +17,12 @@ use Rattle.olap_records.specs.Records.{records_of}
 use Rattle.olap_records.specs.Texts.{text_of_row, text_of_rows}
 use Rattle.olap_records.proofs.ReadingBack.{text-back}
 use Rattle.olap_view.specs.Seen.{each_view_of, rows_of, view_of}
-use Rattle.olap_view.specs.StoreText.{beginning, has_header, header, records_of_one, records_of_store, store_text}
+use Rattle.olap_view.specs.StoreText.{beginning, header, records_of_one, records_of_store, store_text}
 use Rattle.olap_view.specs.ViewText.{fields_in}
 use Rattle.olap_view.proofs.SeenLemmas.{each_row}
 use Rattle.olap_view.specs.declared.views.Row as told_row
 use Rattle.olap_view.specs.declared.views.View as told_view
+use Rattle.olap_records.specs.Tables.{begins_with}
 
 -- the text of records behind others
 texts-append : (xs ys : List (List (List ℕ))) → text_of_rows (xs ++ ys) ≡ text_of_rows xs ++ text_of_rows ys
@@ -94,7 +95,7 @@ store-reads g i views =
 
 -- whether the first record is the header
 pub header-is : (row : List (List ℕ)) (after : List (List (List ℕ))) (b : Bool) → IsTrue b ↔ (row ≡ header)
-    → b ≡ has_header (row ∷ after)
+    → b ≡ begins_with header (row ∷ after)
 header-is row after b h =
     let d : IsTrue (pointwise bytes_eq row header) ↔ (row ≡ header) =
     slice_eq-Decides bytes_eq-Decides row header (pointwise bytes_eq row header) refl in

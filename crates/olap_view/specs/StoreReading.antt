@@ -18,7 +18,8 @@ use Rattle.olap_base.specs.declared.refusals.Fault.{Fault}
 use Rattle.olap_base.specs.declared.refusals.Refusal.{Refusal}
 use Rattle.olap_base.specs.Summaries.{Summary}
 use Rattle.olap_view.specs.Seen.{summary_of}
-use Rattle.olap_view.specs.StoreText.{begun, category_number, is_beginning, is_row_of, member_number, summary_read}
+use Rattle.olap_view.specs.StoreText.{begun, category_number, is_beginning, is_row_of, summary_read}
+use Rattle.olap_instance.specs.Members.{member_number}
 use Rattle.olap_view.specs.StoredRows.{IsPlaced, begun_in, stored_at}
 use Rattle.olap_view.specs.Stores.{IsStored}
 use Rattle.olap_view.specs.declared.judging.Entry.{Entry}
@@ -63,7 +64,7 @@ pub record IsBeginning (g : Graph) (rows : List Record) (r : Record) (c : ℕ) :
 -- after these records the record is a row of m with these numbers
 pub record IsRowFor (i : Instance) (rows : List Record) (r : Record) (m : ℕ) (s : Summary) : Type 0 where
   pub row : is_beginning r ≡ false
-  pub named : m ≡ member_number i r
+  pub named : m ≡ member_number i (field r 1)
   pub member : IsMember i m
   pub numbers : summary_read r ≡ Some s
   pub stored : IsStoredAt m s

@@ -17,6 +17,8 @@ use Rattle.olap_base.specs.Summaries.{Summary}
 use Rattle.olap_base.specs.Views.{Row, View, members_of, row_at}
 use Rattle.olap_graph.specs.Lookups.{category_named, name_of_category}
 use Rattle.olap_records.specs.Faults.{field, first_fault}
+use Rattle.olap_records.specs.Tables.{or_read, table_read}
+use Rattle.olap_instance.specs.Members.{member_named, member_number}
 use Rattle.olap_numerals.specs.Values.{value_of}
 use Rattle.olap_records.specs.Texts.{text_of_rows}
 use Rattle.olap_view.specs.StoredNumbers.{count_of, sum_of}
@@ -69,21 +71,13 @@ is_beginning r = list_all (λ f. length f == 0) (drop 1 r)
 abbrev pub category_number : Graph → List (List ℕ) → ℕ
 category_number g r = unwrap_or (category_named g (field r 0)) 0
 
--- the member that a row's record names, if there is one
-abbrev pub member_named : Instance → List (List ℕ) → Option ℕ
-member_named i r = place_of (field r 1) (map (λ m. m.id) i)
-
--- that member, or else the first
-abbrev pub member_number : Instance → List (List ℕ) → ℕ
-member_number i r = unwrap_or (member_named i r) 0
-
 -- the categories whose views the records begin, in order
 abbrev pub begun : Graph → List (List (List ℕ)) → List ℕ
 begun g rows = map (category_number g) (filter is_beginning rows)
 
 -- the record is a row of this member
 abbrev pub is_row_of : Instance → ℕ → List (List ℕ) → Bool
-is_row_of i y r = not (is_beginning r) && (member_number i r == y)
+is_row_of i y r = not (is_beginning r) && (member_number i (field r 1) == y)
 
 -- the first check that a record fails which begins a view of c, after the records before it
 abbrev pub beginning_fault : Graph → List (List (List ℕ)) → ℕ → Option StoreKind
@@ -97,10 +91,10 @@ beginning_fault g before c =
 abbrev pub row_fault : Graph → Instance → List (List (List ℕ)) → List (List ℕ) → Option StoreKind
 row_fault g i before r =
     if not (list_any (λ d. d == category_number g r) (begun g before)) then Some kind.NoView
-    else if is_none (member_named i r) then Some kind.UnknownMember
-    else if not (category_of i (member_number i r) == category_number g r) then Some kind.WrongCategory
+    else if is_none (member_named i (field r 1)) then Some kind.UnknownMember
+    else if not (category_of i (member_number i (field r 1)) == category_number g r) then Some kind.WrongCategory
     else if is_none (summary_read r) then Some kind.BadNumber
-    else if list_any (is_row_of i (member_number i r)) before then Some kind.DuplicateRow
+    else if list_any (is_row_of i (member_number i (field r 1))) before then Some kind.DuplicateRow
     else None
 
 -- the first check that a record fails, after the records before it
@@ -125,22 +119,10 @@ view_read i rows c = record { category = c; rows = filter_map (row_read i rows) 
 abbrev pub views_read : Graph → Instance → List (List (List ℕ)) → List View
 views_read g i rows = map (view_read i rows) (begun g rows)
 
--- the fault, if there is one, at its record, of which the header is the first; else what comes after it
-abbrev pub or_read : Option (ℕ × StoreKind) → Result (List View) (Fault StoreKind)
-    → Result (List View) (Fault StoreKind)
-or_read None after = after
-or_read (Some p) after = Err (record { at = p.0 + 2; kind = p.1 })
-
 -- the records after the header
 abbrev pub body_read : Graph → Instance → List (List (List ℕ)) → Result (List View) (Fault StoreKind)
 body_read g i rows = or_read (first_fault (store_fault g i) [] rows) (Ok (views_read g i rows))
 
--- the first record is the header
-abbrev pub has_header : List (List (List ℕ)) → Bool
-has_header [] = false
-has_header (top ∷ rows) = pointwise bytes_eq top header
-
 -- what the records of a text stand for
 abbrev pub store_read : Graph → Instance → List (List (List ℕ)) → Result (List View) (Fault StoreKind)
-store_read g i records =
-    if has_header records then body_read g i (drop 1 records) else Err (record { at = 1; kind = kind.BadHeader })
+store_read g i = table_read header kind.BadHeader (body_read g i)

@@ -6,8 +6,9 @@ ghost use Rattle.olap_records.specs.Faults.{first_fault};
 ghost use Rattle.olap_records.specs.Records.{records_of};
 ghost use Rattle.olap_view.specs.Seen.{each_view_of, views_of};
 ghost use Rattle.olap_view.specs.StoreReading.{IsStoreFaultOf, Tells};
-ghost use Rattle.olap_view.specs.StoreText.{has_header, records_of_store, store_fault, store_read, store_text, views_read};
+ghost use Rattle.olap_view.specs.StoreText.{header, records_of_store, store_fault, store_read, store_text, views_read};
 ghost use Rattle.olap_view.specs.Stores.{IsInFileOrder, IsSoundStore};
+ghost use Rattle.olap_records.specs.Tables.{begins_with};
 
 use crate::judging::{enter, judge};
 use crate::printing::print_rows;
@@ -85,7 +86,7 @@ pub fn print_store(
 
 /// Reads the first record, and says whether it is the header.
 fn begins(rows: &mut Rows) -> Result<bool, Memory>
-    ensures header { IfOk result (λ b. b ≡ has_header rows.old.left) }
+    ensures header { IfOk result (λ b. b ≡ begins_with header rows.old.left) }
     ensures left { IfOk result (λ b. IsTrue b → rows.new.left ≡ drop 1 rows.old.left) }
 {
     let found = rows.advance()?;
