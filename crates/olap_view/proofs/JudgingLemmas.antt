@@ -20,6 +20,7 @@ use Rattle.olap_view.specs.StoreText.{beginning_fault, begun, category_number, i
 use Rattle.olap_instance.specs.Members.{member_named, member_number}
 use Rattle.olap_view.specs.declared.kinds.StoreKind.{StoreKind}
 use Rattle.olap_view.specs.declared.kinds.StoreKind.TheVariants as kind
+use Rattle.olap_records.specs.Faults.{field}
 use Rattle.olap_view.specs.declared.stored_rows.StoredRows.{StoredRows}
 
 -- the test for c among categories tells whether they contain it

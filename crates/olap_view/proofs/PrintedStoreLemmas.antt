@@ -21,7 +21,7 @@ use Rattle.olap_base.specs.Views.{Row, View, direct_view, direct_views, row_at, 
 use Rattle.olap_graph.specs.Lookups.{category_named, name_of_category}
 use Rattle.olap_instance.proofs.CategoryNames.{named-category}
 use Rattle.olap_instance.proofs.PlaceFacts.{first-at}
-use Rattle.olap_records.specs.Faults.{first_fault, or_after}
+use Rattle.olap_records.specs.Faults.{field, first_fault, or_after}
 use Rattle.olap_view.specs.StoreLaws.{DirectViewsAreReadBack, PrintedStoresAreRead}
 use Rattle.olap_view.specs.StoreReading.{Record, said_of}
 use Rattle.olap_instance.specs.Members.{member_named, member_number}

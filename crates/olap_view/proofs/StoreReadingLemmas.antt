@@ -18,6 +18,7 @@ use Rattle.olap_view.specs.StoreReading.{IsBeginning, IsRowFor, IsStoredAt, Reco
 use Rattle.olap_view.specs.StoredRows.{HasPut, begun_in, stored_at}
 use Rattle.olap_view.specs.StoreText.{begun, category_number, is_beginning, is_row_of, summary_read}
 use Rattle.olap_instance.specs.Members.{member_number}
+use Rattle.olap_records.specs.Faults.{field}
 use Rattle.olap_view.specs.declared.stored_rows.StoredRows.{StoredRows}
 
 -- ---- lists

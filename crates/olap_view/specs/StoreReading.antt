@@ -25,6 +25,7 @@ use Rattle.olap_view.specs.Stores.{IsStored}
 use Rattle.olap_view.specs.declared.judging.Entry.{Entry}
 use Rattle.olap_view.specs.declared.judging.Entry.TheVariants as entry
 use Rattle.olap_view.specs.declared.kinds.StoreKind.{StoreKind}
+use Rattle.olap_records.specs.Faults.{field}
 use Rattle.olap_view.specs.declared.stored_rows.StoredRows.{StoredRows}
 
 -- a record: its fields
