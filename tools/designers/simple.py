@@ -5,7 +5,7 @@ from __future__ import annotations
 import time
 from dataclasses import dataclass
 from itertools import combinations, permutations
-from typing import Callable, Iterator
+from typing import Callable, Iterator, Set
 
 from pages import texts
 
@@ -13,7 +13,7 @@ from .asking import SCHEMA, Question
 
 MOST_KEPT = 12  # of which the weakest are looked for
 
-Above = Callable[[str], set[str]]
+Above = Callable[[str], Set[str]]
 
 
 @dataclass(frozen=True)
