@@ -110,6 +110,19 @@ def bands_faults(folder: Path) -> Iterator[str]:
         yield from told(f"bands, below {cut}", tool("olap-tools", "bands", str(folder / "bands.txt")), 1 if output else 0, output)
 
 
+def apart_faults(table: Path) -> Iterator[str]:
+    """A week in two years is a fault, unless it is said that weeks don't lie in years; days do all the same."""
+    table.write_text("Day,Week,Year\n1,w1,2018\n2,w2,2018\n3,w2,2019\n4,w3,2019\n")
+    words = ("wide", str(table), "Day", "Week", "Year")
+    done = tool("olap-tools", *words)
+    if done.returncode != 1 or done.stdout or not done.stderr.endswith(". If Year isn't above Week, say --apart Week:Year\n"):
+        yield f"olap-tools wide, a week in two years: status {done.returncode}, {done.stderr[:200]!r}"
+    parents = {row[0]: row[3] for row in rows_of(tool("olap-tools", *words, "--apart", "Week:Year").stdout)}
+    if parents.get("Day:3") != "Week:w2;Year:2019" or parents.get("Week:w2") != "all":
+        yield f"olap-tools wide --apart: {parents}"
+    yield from told("wide --apart, turned round", tool("olap-tools", *words, "--apart", "Year:Week"), 2, "")
+
+
 def wide_faults(folder: Path) -> Iterator[str]:
     table = folder / "table.csv"
     levels = ["Store", "City", "State", "Province", "Country"]
@@ -127,6 +140,7 @@ def wide_faults(folder: Path) -> Iterator[str]:
         done = tool("olap-tools", "wide", str(table), *levels)
         if done.returncode == 0 or done.stdout or wanted not in done.stderr:
             yield f"olap-tools wide, {what}: status {done.returncode}, {done.stdout[:80]!r}, {done.stderr[:200]!r}"
+    yield from apart_faults(table)
     table.write_text(TABLE.replace("10,", "1.5,"), encoding="utf-8")
     done = tool("olap-tools", "wide", str(table), *levels, "--facts", "Price")
     if done.returncode != 1 or done.stdout or "record 2 has no whole number in Price: 1.5" not in done.stderr:
