@@ -150,7 +150,8 @@ def wide_faults(folder: Path) -> Iterator[str]:
 
 AFTER_NO = """members: 1 reach Country by none of the sources, or by several
   lost at usa: 1 of Store by way of City Country, as s1: 1 facts, sum 10
-sources: no list of at most 3 more is enough; one of these counts a fact twice, or none is left to add
+sources: no list with up to 3 more is enough; in those that have what is lost, a fact counts twice
+split: after `olap-tools split SCHEMA City`, Country from State Province CityCountry is enough
 needed: the weakest constraints with which the answer is yes:
   constraint Store: (Store.Country -> one(Store.State.Country, Store.Province.Country))   (Constraint {number} "s1" in your instance)
 simple: constraint Store: Store.State ^ Store.Province   (Constraint {number} "s1" in your instance)
@@ -165,8 +166,41 @@ def after_no_faults() -> Iterator[str]:
     yield from told("after-no of a yes", tool("olap-tools", "after-no", LOCATION[0], "Country", "City"), 0, "yes: nothing needs to be added\n")
     yield from told("after-no without a target", tool("olap-tools", "after-no", *LOCATION), 2, "")
     done = tool("olap-tools", "after-no", LOCATION[0], "Country", "State", "City")
-    if "then no Store is left" in done.stdout or "constraint Store: (Store.Country -> one(" not in done.stdout:
+    if "sources: no further ones help, for these have a fact 2 times\n" not in done.stdout or "constraint Store: (Store.Country -> one(" not in done.stdout:
         yield f"olap-tools after-no: {done.stdout!r} {done.stderr!r}"
+    yield from many_faults()
+
+
+WEEKS = """schema 1
+category Day
+category Week
+category Month
+category Year
+edge Day Week
+edge Day Month
+edge Month Year
+edge Week All
+edge Year All
+"""
+
+
+def many_faults() -> Iterator[str]:
+    """Months of which none has a week: they are told by the largest, and that no constraint helps but by leaving no day."""
+    months = range(1, 13)
+    members = [f"d{month}x{day},Day,d,m{month};w" for month in months for day in range(month)]
+    rows = ["id,category,name,parents", *members, *(f"m{month},Month,m,y{month}" for month in months), *(f"y{month},Year,y,all" for month in months)]
+    with tempfile.TemporaryDirectory() as folder:
+        files = [str(Path(folder) / name) for name in ("schema.txt", "instance.csv")]
+        for file, text in zip(files, (WEEKS, "\n".join([*rows, "w,Week,w,all", ""]))):
+            Path(file).write_text(text)
+        lines = tool("olap-tools", "after-no", *files, "Year", "Week").stdout.splitlines()
+    if lines[:2] != ["members: 78 reach Year by none of the sources, or by several",
+                     "  lost at y12: 12 of Day by way of Week Month Year, as d12x0"] or \
+            lines[11:12] != ["  lost in smaller groups, at 2 of Year: 3, as d2x0"] or len([line for line in lines if "lost" in line]) != 11:
+        yield f"olap-tools after-no, of many groups: {lines}"
+    if not any(line.startswith("  constraint Day: ") and line.endswith("   (then no Day reaches Year)") for line in lines) or \
+            any(line.startswith("simple: ") for line in lines):
+        yield f"olap-tools after-no, of what leaves no day: {lines}"
 
 
 def split_faults(folder: Path) -> Iterator[str]:
