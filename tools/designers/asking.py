@@ -70,6 +70,7 @@ class Question:
     sources: tuple[str, ...]
     data: Data | None = None
     number: int = 0  # of several questions, so that each has files of its own
+    file: str = SCHEMA  # of the schema
 
     def changed(self, *constraints: str) -> str:
         """Puts down the schema with these constraints more, and gives the file's name."""

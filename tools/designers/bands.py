@@ -11,10 +11,11 @@ from __future__ import annotations
 
 import argparse
 import re
+import sys
 from typing import Iterator
 
 from pages import program, texts
-from pages.program import Fault, Program
+from pages.program import Program
 
 from . import asking
 from .asking import SCHEMA
@@ -104,5 +105,4 @@ def main(words: list[str]) -> None:
         schema, _ = asking.schema_in(ask, chosen.schema)
         found = list(faults(ask, schema))
     program.write_out("".join(line + "\n" for line in found))
-    if found:
-        raise Fault(f"{len(found)} of these are to be looked at", 1)
+    sys.exit(1 if found else 0)

@@ -10,6 +10,7 @@ from __future__ import annotations
 
 import argparse
 from collections import Counter
+from typing import Dict, FrozenSet, List
 
 from pages import program, texts
 from pages.enough import MOST, Enough, below
@@ -30,7 +31,7 @@ def parser() -> argparse.ArgumentParser:
     return words
 
 
-Lists = dict[str, list[frozenset[str]]]
+Lists = Dict[str, List[FrozenSet[str]]]
 
 
 def cheapest(lists: Lists, rows: dict[str, int]) -> tuple[int, frozenset[str]] | None:

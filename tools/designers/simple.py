@@ -5,7 +5,7 @@ from __future__ import annotations
 import time
 from dataclasses import dataclass
 from itertools import combinations, permutations
-from typing import Callable, Iterator
+from typing import Callable, Iterator, Set
 
 from pages import texts
 
@@ -13,7 +13,7 @@ from .asking import SCHEMA, Question
 
 MOST_KEPT = 12  # of which the weakest are looked for
 
-Above = Callable[[str], set[str]]
+Above = Callable[[str], Set[str]]
 
 
 @dataclass(frozen=True)
@@ -64,6 +64,12 @@ def unsatisfiable(question: Question, schema: str, end: float) -> set[str]:
     return {line for line in answer.text.splitlines() if line.startswith("unsatisfiable")}
 
 
+def empties(question: Question, schema: str, bottom: str, end: float) -> bool:
+    """Does no member of the bottom category reach the target any more?"""
+    seconds = max(0.1, end - time.monotonic())
+    return question.ask.must("implies", schema, bottom, f"!{bottom}.{question.target}", ends=(0, 1), seconds=seconds).status == 0
+
+
 def weakest(question: Question, bottom: str, end: float) -> list[str]:
     """The weakest candidates with which each member of the bottom category reaches the target by exactly one source."""
     before = unsatisfiable(question, SCHEMA, end)
@@ -86,7 +92,7 @@ def weakest(question: Question, bottom: str, end: float) -> list[str]:
             break
         if all(candidate.excludes(*example) for example in examples):
             schema = question.changed(candidate.text)
-            if not left(schema) and unsatisfiable(question, schema, end) <= before:
+            if not left(schema) and unsatisfiable(question, schema, end) <= before and not empties(question, schema, bottom, end):
                 kept.append(candidate)
     return [each.text for each in kept if not any(is_stronger(question, each, other, end) for other in kept if other is not each)]
 

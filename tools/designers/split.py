@@ -107,10 +107,14 @@ def lower(schema: texts.Schema, category: str) -> set[str]:
     return found
 
 
+def joined(head: list[str], constraints: list[str]) -> str:
+    return "".join(line + "\n" for line in [*head, *(f"constraint {each}" for each in constraints)])
+
+
 def thinned(ask: Program, head: list[str], constraints: list[str]) -> str:
     """The schema's text without the constraints that `audit` calls redundant, the last of them first."""
     while True:
-        text = "".join(line + "\n" for line in [*head, *(f"constraint {each}" for each in constraints)])
+        text = joined(head, constraints)
         (ask.folder / CHANGED).write_text(text, encoding="utf-8")
         found = [int(line.split()[1]) for line in ask.must("audit", CHANGED).text.splitlines() if line.startswith("redundant")]
         if not found:
@@ -118,8 +122,9 @@ def thinned(ask: Program, head: list[str], constraints: list[str]) -> str:
         del constraints[found[-1] - 1]
 
 
-def kinds_of(ask: Program, schema: texts.Schema, category: str) -> Kinds:
-    answer = ask.must("frozen", SCHEMA, category)
+def kinds_of(ask: Program, schema: texts.Schema, category: str, seconds: float | None = None) -> Kinds:
+    """The kinds of a category, by the sets of edges of its frozen dimensions."""
+    answer = ask.must("shapes", SCHEMA, category, seconds=seconds)
     sets = set()
     for line in answer.text.splitlines():
         if line.startswith("frozen"):

@@ -1,10 +1,12 @@
 """An instance from the wide table that many have: a row for each lowest member, a column for each level, empty where there is none.
 
     olap-tools wide TABLE LEVEL..                     prints the instance; the levels are headings, the lowest first
+    olap-tools wide TABLE LEVEL.. --apart LOW:HIGH    takes it that HIGH isn't above LOW, as Week:Year; for several, say it again
     olap-tools wide TABLE LEVEL.. --facts COLUMN      prints the facts: the lowest member of each row, and the number in that column
 
-A level is above a lower one if each value of the lower has one value of it, or none, in all its rows. A member's parents are the
-nearest of what is above it. A value that lies in two is told with its rows, and so is a row without a lowest member; then nothing is
+A level is above a lower one if each value of the lower has one value of it, or none, in all its rows. Where a few values of many lie
+in two, as in the table of a calendar a week at the end of a year, that is a fault, or the levels are apart: you say which. A member's
+parents are the nearest of what is above it. Faults are told with their rows, and so is a row without a lowest member; then nothing is
 printed, and the status is 1. An id is `Level:value`, in which `%` and `;` are written `%25` and `%3B`.
 """
 
@@ -15,6 +17,7 @@ import csv
 import io
 import re
 from collections import defaultdict
+from typing import Dict, List, Tuple
 
 from pages import program
 from pages.program import Fault
@@ -25,13 +28,14 @@ NAME = re.compile(r"[A-Za-z][A-Za-z0-9]*")
 MOST_TOLD = 10
 NEARLY = 50  # one value in so many may be a mistake; where more differ, the one level isn't above the other
 
-Table = list[tuple[int, dict[str, str]]]
+Table = List[Tuple[int, Dict[str, str]]]
 
 
 def parser() -> argparse.ArgumentParser:
     words = argparse.ArgumentParser(prog="olap-tools wide", description="an instance from a wide table", allow_abbrev=False)
     words.add_argument("table", metavar="TABLE")
     words.add_argument("levels", nargs="+", metavar="LEVEL")
+    words.add_argument("--apart", metavar="LOW:HIGH", action="append", default=[], help="the level HIGH isn't above LOW")
     words.add_argument("--facts", metavar="COLUMN", help="the facts in this column, in place of the instance")
     return words
 
@@ -64,9 +68,9 @@ def id_of(level: str, value: str) -> str:
 
 
 class Levels:
-    """Which level is above which, and what lies in what."""
+    """Which level is above which, but for those that are apart, and what lies in what."""
 
-    def __init__(self, rows: Table, levels: list[str]):
+    def __init__(self, rows: Table, levels: list[str], apart: set[tuple[str, str]]):
         self.levels = levels
         self.values: dict[str, dict[str, None]] = {level: {} for level in levels}
         self.faults: list[str] = []
@@ -81,8 +85,10 @@ class Levels:
                         lies[low, high][row[low]].setdefault(row[high], number)
         self.above: dict[str, list[str]] = {level: [] for level in levels}
         self.parent: dict[tuple[str, str], dict[str, str]] = {}
+        self.mixed: list[tuple[str, str]] = []  # of which some values lie in several
         for (low, high), found in lies.items():
-            self.decide(low, high, found)
+            if (low, high) not in apart:
+                self.decide(low, high, found)
 
     def decide(self, low: str, high: str, found: dict[str, dict[str, int]]) -> None:
         """Whether the one level is above the other; a few values that lie in two are faults."""
@@ -93,6 +99,7 @@ class Levels:
         for value in mixed:
             where = ", ".join(f"{each or 'nothing'} in record {number}" for each, number in found[value].items())
             self.faults.append(f"{low} {value} lies in several of {high}: {where}")
+        self.mixed += [(low, high)] if mixed else []
         self.above[low].append(high)
         self.parent[low, high] = {value: highs[0] for value, highs in some.items() if highs}
 
@@ -124,6 +131,26 @@ def fact_rows(rows: Table, lowest: str, column: str) -> tuple[list[list[str]], l
     return found, faults
 
 
+def apart_in(words: list[str], levels: list[str]) -> set[tuple[str, str]]:
+    """The levels that are apart, the lower first."""
+    found = set()
+    for word in words:
+        low, _, high = word.partition(":")
+        if low not in levels or high not in levels or levels.index(low) >= levels.index(high):
+            raise Fault(f"--apart LOW:HIGH names two of the levels, the lower first: {word}", 2)
+        found.add((low, high))
+    return found
+
+
+def told(levels: Levels, faults: list[str]) -> str:
+    """The first faults, and what to say where they are none."""
+    some = "; ".join(faults[:MOST_TOLD]) + (f"; and {len(faults) - MOST_TOLD} more" if len(faults) > MOST_TOLD else "")
+    if not levels.mixed:
+        return some
+    those = ", ".join(f"{high} isn't above {low}" for low, high in levels.mixed)
+    return f"{some}. If {those}, say {' '.join(f'--apart {low}:{high}' for low, high in levels.mixed)}"
+
+
 def main(words: list[str]) -> None:
     chosen = parser().parse_args(words)
     for level in chosen.levels:
@@ -131,13 +158,13 @@ def main(words: list[str]) -> None:
             raise Fault(f"a level has a name of letters and digits, as a category has: {level}", 2)
     if len(set(chosen.levels)) < len(chosen.levels):
         raise Fault("each level is named once", 2)
+    apart = apart_in(chosen.apart, chosen.levels)
     rows = table_in(chosen.table, chosen.levels + ([chosen.facts] if chosen.facts else []))
-    levels = Levels(rows, chosen.levels)
+    levels = Levels(rows, chosen.levels, apart)
     faults, found = levels.faults, instance_rows(levels)
     if chosen.facts:
         found, more = fact_rows(rows, chosen.levels[0], chosen.facts)
         faults = [*faults, *more]
     if faults:
-        told = "; ".join(faults[:MOST_TOLD]) + (f"; and {len(faults) - MOST_TOLD} more" if len(faults) > MOST_TOLD else "")
-        raise Fault(f"{chosen.table}: {told}", 1)
+        raise Fault(f"{chosen.table}: {told(levels, faults)}", 1)
     program.write_out(asking.csv_text(found))

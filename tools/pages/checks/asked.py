@@ -118,8 +118,11 @@ def propose_faults(room: Path) -> Iterator[str]:
         done = tool("propose", instance)
         (room / "proposed.txt").write_text(done.stdout)
         said = olap("check", str(room / "proposed.txt"), instance)[1]
-        if done.returncode != 0 or not said.startswith("legal ") or "constraint" in done.stdout:
+        if done.returncode != 0 or not said.startswith("legal ") or "\nconstraint" in done.stdout:
             yield f"propose {instance}: status {done.returncode}, {said!r}"
+        (room / "proposed.txt").write_text(done.stdout.replace("# constraint", "constraint"))
+        if olap("check", str(room / "proposed.txt"), instance)[1] != said:
+            yield f"propose {instance}: the constraints that it proposes are {olap('check', str(room / 'proposed.txt'), instance)[1]!r}"
         counts = counted(EXAMPLES / instance)
         told = re.findall(r"^# (\d+) of (\d+) members of (\w+) take this edge\nedge \3 (\w+)$", done.stdout, re.M)
         if counts != told:
@@ -137,6 +140,11 @@ def propose_faults(room: Path) -> Iterator[str]:
     told = [line for line in done.stdout.splitlines() if "is a number" in line]
     if told != ["# each name of Year is a number: with `schema 2` above, it may be `category Year number`"]:
         yield f"propose of numbers: {done.stdout!r} {done.stderr!r}"
+    kinds = "x,A,x,b;d\ny,A,y,c;d\nb,B,b,all\nc,C,c,d2\nc2,C,c2,all\nd,D,d,all\nd2,D,d,all\n"
+    (room / "kinds.csv").write_text(header + kinds)
+    told = [line for line in tool("propose", "kinds.csv", folder=room).stdout.splitlines() if "constraint" in line]
+    if told != ["# constraint A: A_D", "# constraint A: one(A_B, A_C)", "# constraint C: one(C_All, C_D)"]:
+        yield f"propose of kinds: {told}"
     (room / "odd.csv").write_text(header + '"a""b\n",Store,"-x",all;c\nc,Store,c,\n')
     done = tool("propose", "odd.csv", folder=room)
     if done.returncode != 0 or done.stdout.count("which no schema allows") != 2 or "edge Store All\n" not in done.stdout:

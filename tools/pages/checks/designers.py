@@ -110,6 +110,19 @@ def bands_faults(folder: Path) -> Iterator[str]:
         yield from told(f"bands, below {cut}", tool("olap-tools", "bands", str(folder / "bands.txt")), 1 if output else 0, output)
 
 
+def apart_faults(table: Path) -> Iterator[str]:
+    """A week in two years is a fault, unless it is said that weeks don't lie in years; days do all the same."""
+    table.write_text("Day,Week,Year\n1,w1,2018\n2,w2,2018\n3,w2,2019\n4,w3,2019\n")
+    words = ("wide", str(table), "Day", "Week", "Year")
+    done = tool("olap-tools", *words)
+    if done.returncode != 1 or done.stdout or not done.stderr.endswith(". If Year isn't above Week, say --apart Week:Year\n"):
+        yield f"olap-tools wide, a week in two years: status {done.returncode}, {done.stderr[:200]!r}"
+    parents = {row[0]: row[3] for row in rows_of(tool("olap-tools", *words, "--apart", "Week:Year").stdout)}
+    if parents.get("Day:3") != "Week:w2;Year:2019" or parents.get("Week:w2") != "all":
+        yield f"olap-tools wide --apart: {parents}"
+    yield from told("wide --apart, turned round", tool("olap-tools", *words, "--apart", "Year:Week"), 2, "")
+
+
 def wide_faults(folder: Path) -> Iterator[str]:
     table = folder / "table.csv"
     levels = ["Store", "City", "State", "Province", "Country"]
@@ -127,6 +140,7 @@ def wide_faults(folder: Path) -> Iterator[str]:
         done = tool("olap-tools", "wide", str(table), *levels)
         if done.returncode == 0 or done.stdout or wanted not in done.stderr:
             yield f"olap-tools wide, {what}: status {done.returncode}, {done.stdout[:80]!r}, {done.stderr[:200]!r}"
+    yield from apart_faults(table)
     table.write_text(TABLE.replace("10,", "1.5,"), encoding="utf-8")
     done = tool("olap-tools", "wide", str(table), *levels, "--facts", "Price")
     if done.returncode != 1 or done.stdout or "record 2 has no whole number in Price: 1.5" not in done.stderr:
@@ -136,7 +150,8 @@ def wide_faults(folder: Path) -> Iterator[str]:
 
 AFTER_NO = """members: 1 reach Country by none of the sources, or by several
   lost at usa: 1 of Store by way of City Country, as s1: 1 facts, sum 10
-sources: no list of at most 3 more is enough; one of these counts a fact twice, or none is left to add
+sources: no list with up to 3 more is enough; in those that have what is lost, a fact counts twice
+split: after `olap-tools split SCHEMA City`, Country from State Province CityCountry is enough
 needed: the weakest constraints with which the answer is yes:
   constraint Store: (Store.Country -> one(Store.State.Country, Store.Province.Country))   (Constraint {number} "s1" in your instance)
 simple: constraint Store: Store.State ^ Store.Province   (Constraint {number} "s1" in your instance)
@@ -151,8 +166,41 @@ def after_no_faults() -> Iterator[str]:
     yield from told("after-no of a yes", tool("olap-tools", "after-no", LOCATION[0], "Country", "City"), 0, "yes: nothing needs to be added\n")
     yield from told("after-no without a target", tool("olap-tools", "after-no", *LOCATION), 2, "")
     done = tool("olap-tools", "after-no", LOCATION[0], "Country", "State", "City")
-    if "then no Store is left" in done.stdout or "constraint Store: (Store.Country -> one(" not in done.stdout:
+    if "sources: no further ones help, for these have a fact 2 times\n" not in done.stdout or "constraint Store: (Store.Country -> one(" not in done.stdout:
         yield f"olap-tools after-no: {done.stdout!r} {done.stderr!r}"
+    yield from many_faults()
+
+
+WEEKS = """schema 1
+category Day
+category Week
+category Month
+category Year
+edge Day Week
+edge Day Month
+edge Month Year
+edge Week All
+edge Year All
+"""
+
+
+def many_faults() -> Iterator[str]:
+    """Months of which none has a week: they are told by the largest, and that no constraint helps but by leaving no day."""
+    months = range(1, 13)
+    members = [f"d{month}x{day},Day,d,m{month};w" for month in months for day in range(month)]
+    rows = ["id,category,name,parents", *members, *(f"m{month},Month,m,y{month}" for month in months), *(f"y{month},Year,y,all" for month in months)]
+    with tempfile.TemporaryDirectory() as folder:
+        files = [str(Path(folder) / name) for name in ("schema.txt", "instance.csv")]
+        for file, text in zip(files, (WEEKS, "\n".join([*rows, "w,Week,w,all", ""]))):
+            Path(file).write_text(text)
+        lines = tool("olap-tools", "after-no", *files, "Year", "Week").stdout.splitlines()
+    if lines[:2] != ["members: 78 reach Year by none of the sources, or by several",
+                     "  lost at y12: 12 of Day by way of Week Month Year, as d12x0"] or \
+            lines[11:12] != ["  lost in smaller groups, at 2 of Year: 3, as d2x0"] or len([line for line in lines if "lost" in line]) != 11:
+        yield f"olap-tools after-no, of many groups: {lines}"
+    if not any(line.startswith("  constraint Day: ") and line.endswith("   (then no Day reaches Year)") for line in lines) or \
+            any(line.startswith("simple: ") for line in lines):
+        yield f"olap-tools after-no, of what leaves no day: {lines}"
 
 
 def split_faults(folder: Path) -> Iterator[str]:
