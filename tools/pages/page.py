@@ -18,6 +18,7 @@ COLUMNS = 8  # targets of one table
 MOST_LINES = 50  # frozen lines of a category
 MOST_DRAWN, MOST_DRAWN_LARGE, LARGE = 6, 1, 20  # pictures of a category's ways; of a schema with more categories than LARGE
 MOST_OPEN = 6  # counterexamples that aren't folded
+MOST_SHOWN = 500  # counterexamples of a page
 MOST_ENOUGH = 8  # lists of a target that stand in the first table
 MOST_REASONS = 60  # lines of a certificate
 MOST_SQL = 200  # lists of the first table of which the SQL stands there
@@ -125,7 +126,8 @@ def places_of(text: str) -> Places:
 
 
 def grouped(facts: Facts) -> tuple[list[Shown], dict[tuple[str, tuple[str, ...]], Shown]]:
-    """The different counterexamples in the order of targets, and the one of each question that has one."""
+    """The different counterexamples in the order of targets, and the one of each question that has one; the first of them stand on
+    the page."""
     shown: dict[tuple, Shown] = {}
     of: dict[tuple[str, tuple[str, ...]], Shown] = {}
     for target in facts.targets:
@@ -203,7 +205,8 @@ class Page:
     def __init__(self, facts: Facts, name: str, draw: Callable[[Sequence[pictures.Picture]], Sequence[ET.Element | None]]):
         self.facts, self.name = facts, name
         self.places = places_of(facts.text)
-        self.shown, self.shown_of = grouped(facts)
+        every, self.shown_of = grouped(facts)
+        self.shown, self.hidden = every[:MOST_SHOWN], every[MOST_SHOWN:]
         self.certified = {key: f"yes-{number}" for number, key in enumerate(facts.certificates, 1)}
         large = len(facts.schema.categories) > LARGE
         self.most_drawn = MOST_DRAWN_LARGE if large else MOST_DRAWN
@@ -468,6 +471,8 @@ class Page:
             about = el("span", f": certificate for {target} from {listed(sources)}", class_="hidden")
             told = ("yes", about) if (target, sources) in self.certified else ("yes",)
             return el("td", self.to_certificate(target, sources, *told), class_="yes")
+        if shown.number > len(self.shown):
+            return el("td", f"no, {fate(shown.example)}", class_="no")
         where = el("span", f": counterexample for {target} from {listed(sources)}", class_="hidden")
         return el("td", el("a", f"no, {fate(shown.example)}", where, href=f"#{shown.anchor}"), class_="no")
 
@@ -484,7 +489,9 @@ class Page:
                         "to add and which constraints would make it a yes, as ", el("code", "olap-tools after-no"), " says it." +
                         (" Open one to see its picture." if folded else ""))
         groups = [many(el("h3", f"Target {target}"), self.counterexamples_of(some, folded)) for target, some in by_target.items()]
-        return many(intro, groups)
+        more = el("p", f"{counted(len(self.hidden), 'more counterexample')}: ", el("code", "olap summarizable SCHEMA TARGET SOURCE.."),
+                  " shows the one of a question.") if self.hidden else ""
+        return many(intro, groups, more)
 
     def counterexamples_of(self, some: Sequence[Shown], folded: bool) -> Markup:
         """Those of single sources one below another; those of pairs alone are many, so they are folded once more."""
