@@ -64,8 +64,9 @@ table.text thead th { max-width: none; } .list { font-weight: 600; }
 .alarm { color: var(--no); border: 2px solid var(--no); border-radius: .4rem; padding: .6rem .8rem; font-weight: 600; }
 .legend { list-style: none; padding: 0; margin: .25rem 0; } .legend li { margin: .25rem 0; display: flex; align-items: center; gap: .6rem; }
 .sample { flex: none; width: 2.6rem; border-top: 2px solid var(--text); } .sample.sometimes { border-top-style: dashed; }
-.sample.idle { border-top-style: dotted; opacity: .45; }
-.sample.unknown { opacity: .4; } .side { flex: 1 1 18rem; min-width: 0; }
+.sample.idle { border-top-style: dotted; } .sample.unknown { border: 0; height: 2px; print-color-adjust: exact;
+  background: repeating-linear-gradient(90deg, var(--text) 0 .5rem, transparent 0 .7rem, var(--text) 0 .8rem, transparent 0 1rem); }
+.side { flex: 1 1 18rem; min-width: 0; }
 details { border: 1px solid var(--rule); border-radius: .4rem; margin: .6rem 0; padding: 0 .75rem; }
 summary { cursor: pointer; padding: .5rem 0; font-weight: 600; }
 .lines { padding-left: 3.5rem; margin: .5rem 0; } .lines li { padding-left: .5rem; border-left: 1px solid var(--rule); min-height: 1.5em;

@@ -70,8 +70,7 @@ STYLE = """
 .olap .edge.bad path, .olap .edge.twice path { stroke: var(--bad); stroke-width: 3; }
 .olap .edge.bad polygon, .olap .edge.twice polygon { fill: var(--bad); stroke: var(--bad); }
 .olap .bottom polygon, .olap .bottom path { stroke-width: 2.5; }
-.olap .edge.unknown path, .olap .edge.unknown polygon { opacity: .4; }
-.olap .edge.idle path { stroke-width: 2; } .olap .edge.idle path, .olap .edge.idle polygon { opacity: .6; }
+.olap .edge.unknown path { stroke-dasharray: 8 3 2 3; } .olap .edge.idle path { stroke-width: 2; }
 """
 
 
