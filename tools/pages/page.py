@@ -80,6 +80,7 @@ footer { border-top: 1px solid var(--rule); margin-top: 2.5rem; padding-top: .75
   h2, h3, h3 + p, summary, caption { break-after: avoid; } thead { display: table-header-group; }
   tbody th, thead th:first-child { position: static; } th, td { padding: .15rem .3rem; } th { min-width: 0; } tbody th { min-width: 4rem; }
   .scroll > svg { min-width: 0 !important; max-height: 240mm; }
+  .row { display: block; } details:not([open]) { display: none; }
   #counterexamples, #certificates, #frozen, #text { display: none; } .printed { display: block; }
 }
 """
@@ -432,7 +433,8 @@ class Page:
         questions = facts.asked(facts.singles + facts.pairs)
         asked, late = len(questions), sum(1 for question in questions if question not in facts.answers)
         notes = [el("p", el("strong", f"{counted(late, 'question')} of {asked:,} had no answer in the time of this page."), " They say ",
-                    el("em", "no answer"), ", or their row isn't there; ask the program itself.")] if late else []
+                    el("em", "no answer"), ", or their row isn't there; ask the program itself, or make the page with ",
+                    el("code", "--seconds N"), ".")] if late else []
         return many(intro, notes, self.table_group("Single sources", facts.singles), self.pairs())
 
     def pairs(self) -> Markup:
