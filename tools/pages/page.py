@@ -18,6 +18,7 @@ COLUMNS = 8  # targets of one table
 MOST_LINES = 50  # frozen lines of a category
 MOST_DRAWN, MOST_DRAWN_LARGE, LARGE = 6, 1, 20  # pictures of a category's ways; of a schema with more categories than LARGE
 MOST_OPEN = 6  # counterexamples that aren't folded
+MOST_SHOWN = 500  # counterexamples of a page
 MOST_ENOUGH = 8  # lists of a target that stand in the first table
 MOST_REASONS = 60  # lines of a certificate
 MOST_SQL = 200  # lists of the first table of which the SQL stands there
@@ -63,8 +64,9 @@ table.text thead th { max-width: none; } .list { font-weight: 600; }
 .alarm { color: var(--no); border: 2px solid var(--no); border-radius: .4rem; padding: .6rem .8rem; font-weight: 600; }
 .legend { list-style: none; padding: 0; margin: .25rem 0; } .legend li { margin: .25rem 0; display: flex; align-items: center; gap: .6rem; }
 .sample { flex: none; width: 2.6rem; border-top: 2px solid var(--text); } .sample.sometimes { border-top-style: dashed; }
-.sample.idle { border-top-style: dotted; opacity: .45; }
-.sample.unknown { opacity: .4; } .side { flex: 1 1 18rem; min-width: 0; }
+.sample.idle { border-top-style: dotted; } .sample.unknown { border: 0; height: 2px; print-color-adjust: exact;
+  background: repeating-linear-gradient(90deg, var(--text) 0 .5rem, transparent 0 .7rem, var(--text) 0 .8rem, transparent 0 1rem); }
+.side { flex: 1 1 18rem; min-width: 0; }
 details { border: 1px solid var(--rule); border-radius: .4rem; margin: .6rem 0; padding: 0 .75rem; }
 summary { cursor: pointer; padding: .5rem 0; font-weight: 600; }
 .lines { padding-left: 3.5rem; margin: .5rem 0; } .lines li { padding-left: .5rem; border-left: 1px solid var(--rule); min-height: 1.5em;
@@ -78,6 +80,7 @@ footer { border-top: 1px solid var(--rule); margin-top: 2.5rem; padding-top: .75
   h2, h3, h3 + p, summary, caption { break-after: avoid; } thead { display: table-header-group; }
   tbody th, thead th:first-child { position: static; } th, td { padding: .15rem .3rem; } th { min-width: 0; } tbody th { min-width: 4rem; }
   .scroll > svg { min-width: 0 !important; max-height: 240mm; }
+  .row { display: block; } details:not([open]) { display: none; }
   #counterexamples, #certificates, #frozen, #text { display: none; } .printed { display: block; }
 }
 """
@@ -125,7 +128,8 @@ def places_of(text: str) -> Places:
 
 
 def grouped(facts: Facts) -> tuple[list[Shown], dict[tuple[str, tuple[str, ...]], Shown]]:
-    """The different counterexamples in the order of targets, and the one of each question that has one."""
+    """The different counterexamples in the order of targets, and the one of each question that has one; the first of them stand on
+    the page."""
     shown: dict[tuple, Shown] = {}
     of: dict[tuple[str, tuple[str, ...]], Shown] = {}
     for target in facts.targets:
@@ -203,7 +207,8 @@ class Page:
     def __init__(self, facts: Facts, name: str, draw: Callable[[Sequence[pictures.Picture]], Sequence[ET.Element | None]]):
         self.facts, self.name = facts, name
         self.places = places_of(facts.text)
-        self.shown, self.shown_of = grouped(facts)
+        every, self.shown_of = grouped(facts)
+        self.shown, self.hidden = every[:MOST_SHOWN], every[MOST_SHOWN:]
         self.certified = {key: f"yes-{number}" for number, key in enumerate(facts.certificates, 1)}
         large = len(facts.schema.categories) > LARGE
         self.most_drawn = MOST_DRAWN_LARGE if large else MOST_DRAWN
@@ -428,7 +433,8 @@ class Page:
         questions = facts.asked(facts.singles + facts.pairs)
         asked, late = len(questions), sum(1 for question in questions if question not in facts.answers)
         notes = [el("p", el("strong", f"{counted(late, 'question')} of {asked:,} had no answer in the time of this page."), " They say ",
-                    el("em", "no answer"), ", or their row isn't there; ask the program itself.")] if late else []
+                    el("em", "no answer"), ", or their row isn't there; ask the program itself, or make the page with ",
+                    el("code", "--seconds N"), ".")] if late else []
         return many(intro, notes, self.table_group("Single sources", facts.singles), self.pairs())
 
     def pairs(self) -> Markup:
@@ -468,6 +474,8 @@ class Page:
             about = el("span", f": certificate for {target} from {listed(sources)}", class_="hidden")
             told = ("yes", about) if (target, sources) in self.certified else ("yes",)
             return el("td", self.to_certificate(target, sources, *told), class_="yes")
+        if shown.number > len(self.shown):
+            return el("td", f"no, {fate(shown.example)}", class_="no")
         where = el("span", f": counterexample for {target} from {listed(sources)}", class_="hidden")
         return el("td", el("a", f"no, {fate(shown.example)}", where, href=f"#{shown.anchor}"), class_="no")
 
@@ -484,7 +492,9 @@ class Page:
                         "to add and which constraints would make it a yes, as ", el("code", "olap-tools after-no"), " says it." +
                         (" Open one to see its picture." if folded else ""))
         groups = [many(el("h3", f"Target {target}"), self.counterexamples_of(some, folded)) for target, some in by_target.items()]
-        return many(intro, groups)
+        more = el("p", f"{counted(len(self.hidden), 'more counterexample')}: ", el("code", "olap summarizable SCHEMA TARGET SOURCE.."),
+                  " shows the one of a question.") if self.hidden else ""
+        return many(intro, groups, more)
 
     def counterexamples_of(self, some: Sequence[Shown], folded: bool) -> Markup:
         """Those of single sources one below another; those of pairs alone are many, so they are folded once more."""

@@ -8,7 +8,6 @@ Of what Graphviz gives, only shapes and texts are taken (`cleaned`), with no col
 from __future__ import annotations
 
 import shutil
-import subprocess
 import sys
 import textwrap
 import unicodedata
@@ -17,7 +16,7 @@ from collections import defaultdict
 from dataclasses import dataclass, field, replace
 from typing import Iterable, Mapping, Sequence
 
-from .program import Fault
+from .program import Fault, output_of
 from .texts import ALL, Counterexample, Frozen, Member, Schema
 
 SVG = "http://www.w3.org/2000/svg"
@@ -71,8 +70,7 @@ STYLE = """
 .olap .edge.bad path, .olap .edge.twice path { stroke: var(--bad); stroke-width: 3; }
 .olap .edge.bad polygon, .olap .edge.twice polygon { fill: var(--bad); stroke: var(--bad); }
 .olap .bottom polygon, .olap .bottom path { stroke-width: 2.5; }
-.olap .edge.unknown path, .olap .edge.unknown polygon { opacity: .4; }
-.olap .edge.idle path { stroke-width: 2; } .olap .edge.idle path, .olap .edge.idle polygon { opacity: .6; }
+.olap .edge.unknown path { stroke-dasharray: 8 3 2 3; } .olap .edge.idle path { stroke-width: 2; }
 """
 
 
@@ -345,7 +343,7 @@ def dot_text(picture: Picture) -> str:
 
 
 def drawn(pictures: Sequence[Picture], seconds: float | None = None) -> list[ET.Element]:
-    """The pictures as SVG elements without a style."""
+    """The pictures as SVG elements without a style; `Late` where some aren't made within so many seconds."""
     found: list[ET.Element] = []
     for start in range(0, len(pictures), BATCH):
         batch = pictures[start : start + BATCH]
@@ -372,14 +370,12 @@ def are_there() -> bool:
 
 def graphviz(text: str, seconds: float | None) -> str:
     try:
-        done = subprocess.run(["dot", "-Tsvg"], input=text.encode(), capture_output=True, timeout=seconds, check=False)
+        status, printed = output_of(["dot", "-Tsvg"], seconds=seconds, given=text.encode())
     except FileNotFoundError:
         raise Fault(NO_GRAPHVIZ, 70) from None
-    except subprocess.TimeoutExpired:
-        raise Fault("Graphviz took too long", 70) from None
-    if done.returncode != 0:
-        raise Fault(f"Graphviz: {done.stderr.decode(errors='replace').strip()}", 70)
-    return done.stdout.decode()
+    if status != 0:
+        raise Fault(f"Graphviz (dot -Tsvg) ended with status {status}", 70)
+    return printed.decode()
 
 
 def local(tag: str) -> str:

@@ -59,14 +59,16 @@ def stop_all() -> None:
         child.kill()
 
 
-def output_of(words: Sequence[str | Path], folder: Path | None = None, seconds: float | None = None) -> tuple[int, bytes]:
-    """The status of a command and what it printed; `Late` where it didn't end within so many seconds."""
-    child = subprocess.Popen(words, cwd=folder, stdin=subprocess.DEVNULL, stdout=subprocess.PIPE, stderr=subprocess.DEVNULL)
+def output_of(words: Sequence[str | Path], folder: Path | None = None, seconds: float | None = None,
+              given: bytes | None = None) -> tuple[int, bytes]:
+    """The status of a command and what it printed, where its input is this; `Late` where it didn't end within so many seconds."""
+    stdin = subprocess.DEVNULL if given is None else subprocess.PIPE
+    child = subprocess.Popen(words, cwd=folder, stdin=stdin, stdout=subprocess.PIPE, stderr=subprocess.DEVNULL)
     RUNNING.add(child)
     if STOPPED.is_set():
         child.kill()
     try:
-        printed, _ = child.communicate(timeout=seconds)
+        printed, _ = child.communicate(given, timeout=seconds)
         return child.returncode, printed
     except subprocess.TimeoutExpired:
         raise Late from None

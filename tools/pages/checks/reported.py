@@ -1,6 +1,7 @@
 """The reports on the examples are well-formed, load nothing, lead somewhere, and say what the program says when it is asked anew."""
 
 import itertools
+import random
 import re
 import tempfile
 import time
@@ -14,6 +15,7 @@ from .common import (EXAMPLES, IN_TIME, TOP, Element, categories_of, differs_fro
                      page_of, picture_faults, picture_of, pictures_of_page, tool)
 
 FEW_SECONDS, BY_DEFAULT = 4, 32  # for the questions of a page
+MOST_PAGE, MOST_EDGES = 16_000_000, 1024  # characters of a page, edges of a schema
 FORBIDDEN = {"script", "link", "img", "iframe", "object", "embed", "base", "form", "image", "use", "foreignobject"}
 
 
@@ -265,7 +267,7 @@ def page_faults(file: Path) -> Iterator[str]:
 
 
 def large(folder: Path) -> Path:
-    """A schema at the limits: 64 categories, All counted, 256 edges and 64 constraints."""
+    """A schema of 64 categories, All counted, 256 edges and 64 constraints."""
     layers = [[f"L{i}x{j}" for j in range(7)] for i in range(9)]
     below = [(i, j) for i in range(8) for j in range(7)]
     steps = [(i, j, (j + step) % 7) for step in (0, 1, 3, 4) for i, j in below] + [(i, j, (j + 5) % 7) for i, j in below[:25]]
@@ -291,24 +293,38 @@ def empty_rows(top: Element) -> Iterator[str]:
                 yield f"the row of {row.all('th')[0].text()} has no answer"
 
 
+def tangle() -> list[tuple[str, str]]:
+    """The edges of 255 categories, as many as there may be, each upwards to any other: more than Graphviz draws in the time."""
+    drawn, edges = random.Random(1), {(i, i + 1): None for i in range(254)}
+    while len(edges) < MOST_EDGES - 1:
+        child = drawn.randrange(254)
+        edges[child, drawn.randrange(child + 1, 255)] = None
+    return [(f"C{child}", f"C{parent}") for child, parent in edges]
+
+
 def limit_faults() -> Iterator[str]:
-    """The pages of a chain of 255 categories, and of the cube of four, take no more than their time."""
+    """The pages of a chain of 255 categories, of the cube of four, and of a tangle take no more than their time, and a browser's room."""
     with tempfile.TemporaryDirectory() as folder:
-        file = Path(folder) / "chain.txt"
-        lines = [*(f"category C{i}" for i in range(255)), *(f"edge C{i} C{i + 1}" for i in range(254)), "edge C254 All"]
-        file.write_text("".join(line + "\n" for line in ["schema 1", *lines]))
-        for count in (1, 4):
+        chain, tangled = Path(folder) / "chain.txt", Path(folder) / "tangle.txt"
+        for file, edges in ((chain, [(f"C{i}", f"C{i + 1}") for i in range(254)]), (tangled, tangle())):
+            lines = [*(f"category C{i}" for i in range(255)), *(f"edge {child} {parent}" for child, parent in edges), "edge C254 All"]
+            file.write_text("".join(line + "\n" for line in ["schema 1", *lines]))
+        for what, files in (("a chain", [chain]), ("four chains", [chain] * 4), ("a tangle", [tangled])):
             began = time.monotonic()
-            done = tool("report", "--seconds", str(FEW_SECONDS), *[str(file)] * count)
+            done = tool("report", "--seconds", str(FEW_SECONDS), *map(str, files))
             rest = time.monotonic() - began - FEW_SECONDS
             if done.returncode != 0 or not done.stdout.endswith("</html>\n"):
-                yield f"of {count}: status {done.returncode}, {done.stderr.strip()}"
+                yield f"of {what}: status {done.returncode}, {done.stderr.strip()}"
             if rest > 60 - BY_DEFAULT:
-                yield f"of {count}: it is made in {rest:.0f} s more than it may ask for"
+                yield f"of {what}: it is made in {rest:.0f} s more than it may ask for"
+            if len(done.stdout) > MOST_PAGE:
+                yield f"of {what}: the page has {len(done.stdout):,} characters"
+            if "<svg" not in done.stdout and "This picture wasn&#x27;t drawn in the time of this page" not in done.stdout:
+                yield f"of {what}: it has no picture, and doesn't say why"
 
 
 def large_faults() -> Iterator[str]:
-    """In too little time the page of a schema at the limits says so, and what it says is still what the program says.
+    """In too little time the page of a large schema says so, and what it says is still what the program says.
 
     The rest of a page's time, for pictures and for itself, is so short that with the time for questions it has by default, it is made
     in under a minute.
@@ -382,5 +398,5 @@ def faults() -> Iterator[str]:
     for file in [*sorted(EXAMPLES.glob("*/schema.txt")), TOP / "recipes" / "partitions" / "schema.txt"]:
         yield from (f"report {file.parent.name}: {wrong}" for wrong in page_faults(file))
     yield from (f"report on a large schema: {wrong}" for wrong in large_faults())
-    yield from (f"report on chains at the limit: {wrong}" for wrong in limit_faults())
+    yield from (f"report at the limits, {wrong}" for wrong in limit_faults())
     yield from (f"report with an instance: {wrong}" for wrong in data_faults())
