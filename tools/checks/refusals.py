@@ -23,7 +23,7 @@ MAKERS = {
 NAMES = re.compile(r"\bAllocError\b|\bAllocFailed\b|\bTryReserveError\b")
 USE = re.compile(r"^\s*(pub )?use std::alloc::(\{[A-Za-z, ]+\}|[A-Za-z]+);")
 RESULT = re.compile(r"\bAllocError>|\bResult<[^;]*\bAllocFailed<\w+>>")
-LARGE = r"\b(MAX|[1-9][\d_]{9,})\b"
+LARGE = r"(\b(MAX|[1-9][\d_]{9,})\b|<<|\bpow\()"
 NEVER = [
     (r"\bunsafe\b", "unsafe code could read a `Memory` out of nothing"),
     (r"\bimpl\b.*\bAllocator for\b", "an allocator of one's own refuses when it likes"),
