@@ -3,9 +3,10 @@
 --     members_more     one field more; members_stop where it has a fault; members_end all of them
 --     header_is        whether the first record is the header
 --     told_cause       a record's fault is the text's first
+--     fault_behind     the first fault of the records after the header is the text's
 --     cube_facts_more, cube_table_more, cube_table_members   a fact table that grows
 --     same_length      lists with equal images have one length
-use Rattle.std.proofs.Common.{◌≡◌, ◌↔◌, ℕ, suc, ◌+◌, ◌≤◌, List, [], ◌∷◌, ◌++◌, length, get_or, map, drop, Bool, IsTrue, Option, Some, None, refl, sym, ap, subst, ◌∙◌, inl, inr, arith, append_assoc, append-nil}
+use Rattle.std.proofs.Common.{◌≡◌, ◌↔◌, ℕ, suc, ◌+◌, ◌≤◌, List, [], ◌∷◌, ◌++◌, length, get_or, map, drop, Bool, true, IsTrue, Option, Some, None, Ok, Err, refl, sym, ap, subst, ◌∙◌, inl, inr, arith, append_assoc, append-nil}
 use Rattle.std.specs.Prelude.{All}
 use Rattle.std.specs.Bool.{one_answer}
 use Rattle.std.specs.Cmp.Lexicographic.{pointwise}
@@ -19,14 +20,16 @@ use Rattle.olap_base.specs.Instance.{Instance, IsMember, category_of}
 use Rattle.olap_base.proofs.ListLemmas.{Contains-map, Contains-nil}
 use Rattle.olap_instance.specs.Made.{IsMadeFor}
 use Rattle.olap_records.specs.Faults.{first_fault}
+use Rattle.olap_records.specs.Tables.{begins_with, or_read}
 use Rattle.olap_records.proofs.Seeing.{HasSeen, see-fault}
 use Rattle.olap_facts.specs.declared.kinds.FactKind.{FactKind}
+use Rattle.olap_base.specs.Refusing.{IsRefusedBy}
 use Rattle.olap_base.specs.declared.refusals.Fault.{Fault}
 use Rattle.olap_base.specs.declared.refusals.Refusal.{Refusal}
 use Rattle.olap_base.specs.declared.refusals.Refusal.TheVariants as refusal
 use Rattle.olap_cube.specs.CubeViews.{CubeFact, IsCubeFactTable}
 use Rattle.olap_cube.specs.Tuples.{IsBottomTuple}
-use Rattle.olap_cube_views.specs.CubeFactText.{cube_fact_read, member_fault, members_fault, members_read}
+use Rattle.olap_cube_views.specs.CubeFactText.{cube_fact_fault, cube_fact_read, cube_facts_read, header, member_fault, members_fault, members_read}
 use Rattle.olap_instance.specs.Members.{member_number}
 use Rattle.olap_cube_views.specs.CubeRefusals.{IsFaultCause, IsToldAt}
 use Rattle.olap_cube_views.specs.CubeTallies.{AreMembers}
@@ -169,3 +172,13 @@ cube_table_members gs is fs t k d h = bottom_members gs is (members_of (get_or f
 pub same_length : {A B C : Type 0} (f : A → C) (h : B → C) (xs : List A) (ys : List B) → map f xs ≡ map h ys
     → length xs ≡ length ys
 same_length f h xs ys e = sym (length-map xs f) ∙ ap length e ∙ length-map ys h
+
+-- the first fault of the records after the header is the text's
+pub fault_behind : (gs : List Graph) (is : List Instance) (records : List (List (List ℕ)))
+    → begins_with (header (length is)) records ≡ true → (e : Refusal (Fault FactKind))
+    → IsFaultCause (first_fault (cube_fact_fault gs is) [] (drop 1 records)) e
+    → IsRefusedBy e (cube_facts_read gs is records)
+fault_behind gs is records b (refusal.Memory m) h = h
+fault_behind gs is records b (refusal.Kind f) h =
+    rw b (ap (λ o. or_read o (Ok (map (cube_fact_read is) (drop 1 records)))) h.2
+    ∙ ap (λ n. Err (record { at = n; kind = f.kind })) (sym h.1))

@@ -84,7 +84,8 @@ body_read_within most gs is rows =
 -- what the records of a text stand for, where there may be so many facts
 abbrev pub cube_facts_read_within : ℕ → List Graph → List Instance → List (List (List ℕ))
     → Result (List CubeFact) (Fault FactKind)
-cube_facts_read_within most gs is = table_read (header (length is)) kind.BadHeader (body_read_within most gs is)
+cube_facts_read_within most gs is records =
+    table_read (header (length is)) kind.BadHeader (body_read_within most gs is) records
 
 -- the same for a file that is read into a list
 abbrev pub cube_facts_read : List Graph → List Instance → List (List (List ℕ))
