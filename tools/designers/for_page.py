@@ -28,9 +28,9 @@ def take(ask: Program, files: Sequence[str]) -> None:
 
 def said(ask: Program, progress: Progress, facts: Facts, files: int, nos: Sequence[Key], end: float) -> Dict[Key, List[str]]:
     """The lines of each of these questions whose blocks came before the end; so many files are there beside the schema."""
-    canonical, asker = ask.must("format", SCHEMA).text, Asker(ask, progress)
+    asker = Asker(ask, progress)
     data = Data(ask, facts.schema, files > 1) if files else None
-    asked = {key: Question(ask, facts.schema, canonical, *key, data, number) for number, key in enumerate(nos[:MOST], 1)}
+    asked = {key: Question(ask, facts.schema, facts.canonical, *key, data, number) for number, key in enumerate(nos[:MOST], 1)}
 
     def blocks(key: Key, left: float) -> List[str]:
         return list(after_no.blocks(asked[key], time.monotonic() + left))

@@ -42,6 +42,7 @@ class Facts:
 
     schema: texts.Schema
     text: str
+    canonical: str
     findings: list[str] | None = None
     ways: dict[str, Ways] = field(default_factory=dict)
     has_members: dict[str, bool] = field(default_factory=dict)  # can a legal instance have a member of the category?
@@ -186,8 +187,9 @@ def facts_of(program: Program, progress: Progress, most_for_pairs: int, seconds:
     """Asks all: what is enough first, then single sources, edges, the audit, ways, pairs and certificates, as time allows."""
     began = time.monotonic()
     text = (program.folder / SCHEMA).read_bytes().decode(errors="replace")
-    schema = texts.in_own_words(texts.schema_of(program.must("format", SCHEMA).text), text)
-    facts = Facts(schema, text)
+    canonical = program.must("format", SCHEMA).text
+    schema = texts.in_own_words(texts.schema_of(canonical), text)
+    facts = Facts(schema, text, canonical)
     facts.asks_pairs = len(schema.categories) <= most_for_pairs
     asker = Asker(program, progress)
 
