@@ -4,14 +4,11 @@
 --     members_fault      what is first wrong with those of a record
 --     cube_fact_fault    what is wrong with a record
 --     cube_facts_read    the facts or the fault
-use Rattle.std.specs.Prelude.{◌==◌, ◌+◌, ◌++◌, ◌∷◌, Bool, false, not, ℕ, pos, List, [], length, drop, map, take, codes, Option, Some, None, is_none, unwrap_or, if◌then◌else◌, nat_le, Result, Ok, Err}
-use Rattle.std.specs.Cmp.Lexicographic.{pointwise}
+use Rattle.std.specs.Prelude.{◌==◌, ◌+◌, ◌++◌, ◌∷◌, not, ℕ, pos, List, [], length, map, take, codes, Option, Some, None, is_none, unwrap_or, if◌then◌else◌, nat_le, Result, Ok}
 use Rattle.std.specs.Option.{option_or}
-use Rattle.std.specs.Str.{bytes_eq}
 use Rattle.olap_base.specs.Graph.{Graph}
 use Rattle.olap_base.specs.Instance.{Instance, category_of}
 use Rattle.olap_base.specs.Limits.{most_listed_facts}
-use Rattle.olap_base.specs.Naming.{place_of}
 use Rattle.olap_base.specs.declared.refusals.Fault.{Fault}
 use Rattle.olap_records.specs.Faults.{field, first_fault}
 use Rattle.olap_records.specs.Tables.{or_read, table_read}

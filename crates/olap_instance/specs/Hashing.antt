@@ -4,9 +4,11 @@
 --     stepped      the value after one more coefficient
 --     value_after  the value after bytes
 --     with_bytes   a hasher after bytes that are written at once
-use Rattle.std.specs.Prelude.{ℕ, ◌+◌, ◌*◌, ◌/◌, ◌%◌, ◌^◌, ◌∷◌, List, [], length, bit_or}
+--     key_of       eight times the point that is the key of a text
+use Rattle.std.specs.Prelude.{ℕ, ◌+◌, ◌*◌, ◌/◌, ◌%◌, ◌^◌, ◌∷◌, List, [], length, bit_or, take}
 use Rattle.std.specs.Int.{w64, from_le_bytes}
 use Rattle.std.specs.List.{fold}
+use Rattle.sha2.specs.Sha256.{sha256}
 use Rattle.olap_instance.specs.declared.hashing.IdHasher.{IdHasher}
 
 -- the sum of a value and a coefficient, below 2 ^ 64
@@ -38,3 +40,8 @@ value_after count point value rest = stepped point value (fold with_byte count r
 -- a hasher after these bytes
 abbrev pub with_bytes : IdHasher → List ℕ → IdHasher
 with_bytes h bytes = record { point = h.point; value = value_after (length bytes) h.point h.value bytes }
+
+-- eight times the point that is the key of a text: the first eight bytes of its digest, the lowest first, without the
+-- lowest three bits
+abbrev pub key_of : List ℕ → ℕ
+key_of text = from_le_bytes w64 (take 8 (sha256 text)) / 8 * 8

@@ -2,8 +2,7 @@
 --     instance_read   the instance or the fault
 --     member_fault    what is wrong with a member, its parents aside
 --     parents_fault   what is wrong with a member's parents
-use Rattle.std.specs.Prelude.{◌==◌, ◌&&◌, ◌||◌, ◌+◌, ◌∷◌, ◌++◌, Bool, false, not, ℕ, List, [], length, drop, map, codes, Option, Some, None, is_some, is_none, unwrap_or, if◌then◌else◌, nat_le, nat_lt, Result, Ok, Err}
-use Rattle.std.specs.Cmp.Lexicographic.{pointwise}
+use Rattle.std.specs.Prelude.{◌==◌, ◌&&◌, ◌||◌, ◌+◌, ◌∷◌, ◌++◌, Bool, not, ℕ, List, [], length, map, codes, Option, Some, None, is_some, is_none, unwrap_or, if◌then◌else◌, nat_le, nat_lt, Result, Ok}
 use Rattle.std.specs.List.{list_any, slice_split}
 use Rattle.std.specs.Option.{option_map}
 use Rattle.std.specs.Str.{bytes_eq, is_utf8}

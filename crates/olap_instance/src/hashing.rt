@@ -106,7 +106,9 @@ impl BuildHasher for KeyedHash {
 
 impl KeyedHash {
     /// The hash whose key is the beginning of the text's digest. Goes over the text once.
-    pub(crate) fn by_text(text: &[u8]) -> KeyedHash {
+    pub(crate) fn by_text(text: &[u8]) -> KeyedHash
+        ensures key { result.point ≡ hashing.key_of text.now }
+    {
         let digest = Sha256::digest(text);
         let word = u64::from_le_bytes([
             digest[0], digest[1], digest[2], digest[3], digest[4], digest[5], digest[6], digest[7],

@@ -3,15 +3,12 @@
 --     store_text         its bytes
 --     store_fault        what is wrong with a record
 --     store_read         the views that records stand for, or the first fault
-use Rattle.std.specs.Prelude.{◌==◌, ◌&&◌, ◌+◌, ◌∷◌, Bool, false, not, ℕ, List, [], length, drop, map, filter, filter_map, find, flat_map, codes, Option, Some, None, is_none, unwrap_or, if◌then◌else◌, nat_le, Result, Ok, Err}
-use Rattle.std.specs.Cmp.Lexicographic.{pointwise}
+use Rattle.std.specs.Prelude.{◌==◌, ◌&&◌, ◌∷◌, Bool, not, ℕ, List, [], length, drop, map, filter, filter_map, find, flat_map, codes, Option, Some, None, is_none, unwrap_or, if◌then◌else◌, nat_le, Result, Ok}
 use Rattle.std.specs.List.{list_all, list_any}
 use Rattle.std.specs.Option.{option_and_then, option_map}
-use Rattle.std.specs.Str.{bytes_eq}
 use Rattle.olap_base.specs.Graph.{Graph}
 use Rattle.olap_base.specs.Instance.{Instance, category_of}
 use Rattle.olap_base.specs.Limits.{most_views}
-use Rattle.olap_base.specs.Naming.{place_of}
 use Rattle.olap_base.specs.declared.refusals.Fault.{Fault}
 use Rattle.olap_base.specs.Summaries.{Summary}
 use Rattle.olap_base.specs.Views.{Row, View, members_of, row_at}
