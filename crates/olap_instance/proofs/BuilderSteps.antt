@@ -42,7 +42,8 @@ module _ (d : Draft) (lists : List (Vec (Option MemberId) Global)) (told : d.par
     (v : Vec (Option MemberId) Global) (l : x < length lists) (at : v ≡ get_or lists x v) where
   pub so-far : parents_so_far d x ≡ map parent_number v.items
   so-far =
-      ap (λ (t : List (List (Option ℕ))). get_or t x []) told ∙ get_or-map (λ ps. map parent_number ps.items) lists x v [] l
+      ap (λ (t : List (List (Option ℕ))). get_or t x []) told
+      ∙ get_or-map (λ ps. map parent_number ps.items) lists x v [] l
       ∙ ap (λ (ps : Vec (Option MemberId) Global). map parent_number ps.items) (sym at)
 
   pub kept : (w : Vec (Option MemberId) Global) → w.items ≡ v.items

@@ -182,7 +182,8 @@ module _ (d : Draft) (h : IsDraft d) (id : List ℕ) (category : ℕ) (name : Li
       good-texts =
           let b = neither (length id == 0) (list_any (λ b. b == semicolon) id) ok.good in
           let id-good : IsMemberId id =
-          record { utf8 = text1; short = within (length id) ok.short; filled = not-zero (length id) b.0; whole = b.1 } in
+          record { utf8 = text1; short = within (length id) ok.short; filled = not-zero (length id) b.0; whole = b.1 }
+          in
           (id-good, text2)
 
 -- ---- one parent more

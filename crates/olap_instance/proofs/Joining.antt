@@ -20,7 +20,8 @@ join-next y (z ∷ zs) x =
     ∙ sym (append_assoc y (semicolon ∷ join_with_byte semicolon (z ∷ zs)) (semicolon ∷ x))
 
 -- one piece more, behind those before it
-pub join-more : (ids : List (List ℕ)) (i : ℕ) (old new : List ℕ) → i < length ids → old ≡ join_with_byte semicolon (take i ids)
+pub join-more : (ids : List (List ℕ)) (i : ℕ) (old new : List ℕ) → i < length ids → old
+    ≡ join_with_byte semicolon (take i ids)
     → new ≡ old ++ (if i == 0 then get_or ids i [] else semicolon ∷ get_or ids i [])
     → new ≡ join_with_byte semicolon (take (i + 1) ids)
 join-more ids i old new l eo en =
@@ -56,7 +57,8 @@ split-joined : (y : List ℕ) (ys : List (List ℕ)) → IsPiece y → All IsPie
     → slice_split (λ b. b == semicolon) (join_with_byte semicolon (y ∷ ys)) ≡ y ∷ ys
 split-joined y [] h t = slice_split_none (λ b. b == semicolon) y (none-any (λ b. b == semicolon) y h.1)
 split-joined y (z ∷ zs) h t =
-    slice_split_at (λ b. b == semicolon) y semicolon (join_with_byte semicolon (z ∷ zs)) (none-any (λ b. b == semicolon) y h.1) refl
+    slice_split_at (λ b. b == semicolon) y semicolon (join_with_byte semicolon (z ∷ zs))
+    (none-any (λ b. b == semicolon) y h.1) refl
     ∙ ap (λ (r : List (List ℕ)). y ∷ r) (split-joined z zs (t 0 [] (omega arith)) (λ i d l. t (suc i) d (omega arith)))
 
 -- and are no empty text

@@ -214,10 +214,12 @@ module _ (g : Graph) (i : Instance) (hierarchy : IsHierarchy g) (sound : IsInsta
       let m = length-take-le j rows (omega arith) in
       let named = category-found j l in
       let category : is_utf8 (name_of_category g (at j).category) ≡ true =
-      is_utf8-from_IsUtf8 _ (category-utf8 g hierarchy (at j).category (made.categories j (is-member j l)) (not-all j l)) in
+      is_utf8-from_IsUtf8 _
+      (category-utf8 g hierarchy (at j).category (made.categories j (is-member j l)) (not-all j l)) in
       unrefused g (take j rows) (member_fields g i (at j)) refl
       (four-texts _ _ _ _ h.0.utf8 category h.1 (field-utf8 (at j) (below j) (sound.parents_differ j)))
-      (two (length (at j).id == 0) (list_any (λ b. b == semicolon) (at j).id) (differ-zero (length (at j).id) h.0.filled)
+      (two (length (at j).id == 0) (list_any (λ b. b == semicolon) (at j).id)
+      (differ-zero (length (at j).id) h.0.filled)
       h.0.whole)
       (two (is_too_long (at j).id) (is_too_long (at j).name) (short (length (at j).id) h.0.short)
       (short (length (at j).name) (names j (is-member j l))))
@@ -276,7 +278,8 @@ module _ (g : Graph) (i : Instance) (hierarchy : IsHierarchy g) (sound : IsInsta
 
   member-back : (j : ℕ) → j < length rows → whole_read g (ids_in i) (member_fields g i (at j)) ≡ at j
   member-back j l =
-      let ps : map (parent_read (ids_in i)) (pieces_of (join_with_byte semicolon (parent_ids i (at j)))) ≡ (at j).parents =
+      let ps : map (parent_read (ids_in i)) (pieces_of (join_with_byte semicolon (parent_ids i (at j))))
+      ≡ (at j).parents =
       ap (map (parent_read (ids_in i))) (pieces-are (at j) (below j) (sound.parents_differ j))
       ∙ parents-back (at j) (below j) (sound.parents_differ j) in
       rw (category-found j l, ps) refl

@@ -12,7 +12,8 @@ use Rattle.olap_instance.specs.declared.refusals.InstanceKind.{InstanceKind}
 use Rattle.olap_records.specs.Tables.{begins_with}
 
 -- the second pass's fault is the text's, where the first finds none
-pub refused-second : (g : Graph) (records : List (List (List ℕ))) (ids : List (List ℕ)) (e : Refusal (Fault InstanceKind))
+pub refused-second : (g : Graph) (records : List (List (List ℕ))) (ids : List (List ℕ))
+    (e : Refusal (Fault InstanceKind))
     → begins_with header records ≡ true
     → first_fault (member_fault g) [] (drop 1 records) ≡ None → ids ≡ ids_of (drop 1 records)
     → IsFaultCause (first_fault (parents_fault ids) [] (drop 1 records)) e → IsRefusedBy e (instance_read g records)

@@ -6,8 +6,11 @@ pub returns-in_ok-add-in-Ok-clause-member : goal.returns-in_ok-add-in-Ok-clause-
 returns-in_ok-add-in-Ok-clause-member c = λ earlier h.
     let g = c.args.graph.now in
     let a = c.in-Ok.ensures.member earlier (ids-entered g c.args.roster.now earlier h)
-    (count-entered g c.args.roster.now earlier h) in
-    (a.0, c.in_ok-add-in-Ok.ensures.ok ∙ ap (λ m. c.args.roster.now ++ m ∷ []) (same-member _ _ _ _ _ _ c.field.ensures a.1 c.field-in-Ok.ensures))
+    (count-entered g c.args.roster.now earlier h) in (
+      a.0,
+      c.in_ok-add-in-Ok.ensures.ok
+          ∙ ap (λ m. c.args.roster.now ++ m ∷ []) (same-member _ _ _ _ _ _ c.field.ensures a.1 c.field-in-Ok.ensures),
+    )
 
 pub returns-in_ok-add-in-Ok-clause-others : goal.returns-in_ok-add-in-Ok-clause-others
 returns-in_ok-add-in-Ok-clause-others c = λ h.

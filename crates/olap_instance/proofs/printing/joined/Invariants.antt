@@ -5,4 +5,5 @@ use Rattle.olap_base.specs.Instance.{member_at}
 use Rattle.olap_instance.proofs.printing.joined.Given as goal
 
 abbrev pub invariant-members : goal.invariant-members
-invariant-members l = l.text.items ≡ join_with_byte semicolon (take l.i (map (λ m. (member_at l.instance m.0).id) l.members))
+invariant-members l = l.text.items
+    ≡ join_with_byte semicolon (take l.i (map (λ m. (member_at l.instance m.0).id) l.members))

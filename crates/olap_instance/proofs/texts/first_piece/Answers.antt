@@ -13,4 +13,5 @@ returns-in-Some-clause-pieces c =
     rw (rest_is (end + 1) text) cut
 
 pub returns-in-None-clause-pieces : goal.returns-in-None-clause-pieces
-returns-in-None-clause-pieces c = split-none (λ b. b == semicolon) c.args.text.now (sym c.first_semicolon.ensures ∙ c.in-None.is)
+returns-in-None-clause-pieces c = split-none (λ b. b == semicolon) c.args.text.now
+    (sym c.first_semicolon.ensures ∙ c.in-None.is)
