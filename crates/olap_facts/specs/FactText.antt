@@ -2,14 +2,11 @@
 --     is_bottom     whether a category is a bottom one
 --     fact_fault    what is wrong with a record
 --     facts_read    the facts or the fault
-use Rattle.std.specs.Prelude.{◌==◌, ◌&&◌, ◌+◌, ◌∷◌, Bool, false, not, ℕ, pos, List, [], length, drop, map, codes, Option, Some, None, is_none, unwrap_or, if◌then◌else◌, nat_le, nat_lt, Result, Ok, Err}
-use Rattle.std.specs.Cmp.Lexicographic.{pointwise}
+use Rattle.std.specs.Prelude.{◌==◌, ◌&&◌, ◌∷◌, Bool, not, ℕ, pos, List, [], length, map, codes, Option, Some, None, is_none, unwrap_or, if◌then◌else◌, nat_le, nat_lt, Result, Ok}
 use Rattle.std.specs.List.{list_any}
-use Rattle.std.specs.Str.{bytes_eq}
 use Rattle.olap_base.specs.Graph.{Graph, category_count}
 use Rattle.olap_base.specs.Instance.{Instance, category_of}
 use Rattle.olap_base.specs.Limits.{most_listed_facts}
-use Rattle.olap_base.specs.Naming.{place_of}
 use Rattle.olap_base.specs.declared.refusals.Fault.{Fault}
 use Rattle.olap_base.specs.Views.{Fact}
 use Rattle.olap_records.specs.Faults.{field, first_fault}
