@@ -5,4 +5,5 @@ pub mod TableLemmas
 pub mod FittingLemmas
 mod CountingLemmas
 mod FeedLemmas
+mod PendingLemmas
 mod WholeLemmas

@@ -3,4 +3,5 @@ pub mod Seen
 pub mod FactText
 pub mod Kinds
 pub mod Feeding
+pub mod Pending
 pub mod Laws

@@ -10,52 +10,16 @@ ghost use Rattle.olap_facts.specs.FactText.{fact_fault_within, fact_read, facts_
 ghost use Rattle.olap_facts.specs.Feeding.{Counted, Fed, facts_if, fed_read, feeding_in};
 ghost use Rattle.olap_facts.specs.Seen.{fact_of};
 
-use crate::reading::is_at_bottom;
+use crate::judging::{judged, settle};
+use crate::pending::{Pending, nth_field, told_of};
 use crate::settings::Setting;
 use crate::{Fact, FactKind};
 use olap_base::{Fault, Refusal};
-use olap_graph::Graph;
-use olap_instance::Instance;
-use olap_numerals::value;
 use olap_records::Splitter;
 use std::alloc::Global;
 
-/// The fact of the record that was found last, after this many facts, of at most so many.
-#[inline(always)]
-fn fact(
-    graph: &Graph,
-    instance: &Instance,
-    row: &Splitter,
-    before: u64,
-    most: u64,
-) -> Result<Fact, FactKind>
-    requires made { IsMadeFor graph.now instance.now }
-    ensures fact { (earlier : Items (Items (Items ℕ))) → length earlier ≡ before
-        → MatchResult result
-        (λ f. (fact_fault_within most graph.now instance.now earlier row.now.row ≡ None)
-        × (fact_of f ≡ fact_read instance.now row.now.row))
-        (λ k. fact_fault_within most graph.now instance.now earlier row.now.row ≡ Some k) }
-    ensures member { IfOk result (λ f. f.member.0 < length instance.now) }
-    ensures bottom { IfOk result (λ f. IsBottom graph.now (category_of instance.now f.member.0)) }
-    ensures few { IfOk result (λ f. before < most) }
-{
-    if row.len() != 2 {
-        return Err(FactKind::FieldCount);
-    }
-    let Some(member) = instance.find(row.field(0)) else {
-        return Err(FactKind::UnknownMember);
-    };
-    if !is_at_bottom(graph, instance, member) {
-        return Err(FactKind::NotBottom);
-    }
-    let Some(value) = value(row.field(1)) else {
-        return Err(FactKind::BadNumber);
-    };
-    if before >= most {
-        return Err(FactKind::TooManyFacts);
-    }
-    Ok(Fact { member, value })
-}
+// From so many members on their ids don't stand in a near cache.
+const MANY_MEMBERS: u32 = 16_384;
 
 /// What the record is that was found last: the header where none was found before, else a fact.
 #[inline(always)]
@@ -89,7 +53,7 @@ fn taken(
         }
         return Ok(None);
     }
-    match fact(setting.graph, setting.instance, row, handed, setting.most) {
+    match judged(setting, nth_field(row, 0), told_of(row), handed) {
         Ok(fact) => Ok(Some(fact)),
         Err(kind) => Err(Refusal::Kind(Fault {
             at: handed + 2,
@@ -102,6 +66,8 @@ fn taken(
 #[derive(Drop)]
 pub(crate) struct Front {
     pub(crate) splitter: Splitter,
+    // Empty, or of no more use.
+    pending: Pending,
     pub(crate) handed: u64,
     pub(crate) begun: bool,
 }
@@ -115,6 +81,7 @@ impl Front {
     {
         Front {
             splitter: Splitter::new(alloc),
+            pending: Pending::new(alloc),
             handed: 0,
             begun: false,
         }
@@ -122,6 +89,32 @@ impl Front {
 
     /// Takes a piece of the text, and adds the facts of the records that end in it to an empty batch.
     pub(crate) fn take(
+        &mut self,
+        setting: Setting<'_>,
+        piece: &[u8],
+        batch: &mut Vec<Fact>,
+    ) -> Result<(), Refusal<Fault<FactKind>>>
+        requires few { self.old.handed ≤ setting.most }
+        requires empty { batch.old.items ≡ [] }
+        ensures feeds { let old = feeding_in setting.entry self.old.splitter self.old.handed self.old.begun in
+            (fed : Items ℕ) (facts : Items TheFact) → Fed old fed facts → MatchResult result
+            (λ _. Fed (feeding_in setting.entry self.new.splitter self.new.handed self.new.begun)
+            (fed ++ piece.now) (facts ++ map fact_of batch.new.items))
+            (λ e. (more : Items ℕ) → IsRefusedBy e (fed_read old ((fed ++ piece.now) ++ more))) }
+        ensures table { OnOk result
+            (IsFactTable setting.entry.graph.now setting.entry.instance.now (map fact_of batch.new.items)) }
+        ensures handed { OnOk result (self.new.handed ≡ self.old.handed + length batch.new.items) }
+        ensures few { self.new.handed ≤ setting.entry.most }
+    {
+        if self.begun && setting.instance.members() >= MANY_MEMBERS {
+            self.take_many(setting, piece, batch)
+        } else {
+            self.take_each(setting, piece, batch)
+        }
+    }
+
+    /// The same, record by record.
+    fn take_each(
         &mut self,
         setting: Setting<'_>,
         piece: &[u8],
@@ -153,6 +146,36 @@ impl Front {
                 self.handed += 1;
             }
         }
+    }
+
+    /// The same behind the header, so many records at a time that the looks at the index of ids overlap.
+    fn take_many(
+        &mut self,
+        setting: Setting<'_>,
+        piece: &[u8],
+        batch: &mut Vec<Fact>,
+    ) -> Result<(), Refusal<Fault<FactKind>>>
+        requires few { self.old.handed ≤ setting.most }
+        requires empty { batch.old.items ≡ [] }
+        requires begun { self.old.begun ≡ true }
+        ensures feeds { let old = feeding_in setting.entry self.old.splitter self.old.handed self.old.begun in
+            (fed : Items ℕ) (facts : Items TheFact) → Fed old fed facts → MatchResult result
+            (λ _. Fed (feeding_in setting.entry self.new.splitter self.new.handed self.new.begun)
+            (fed ++ piece.now) (facts ++ map fact_of batch.new.items))
+            (λ e. (more : Items ℕ) → IsRefusedBy e (fed_read old ((fed ++ piece.now) ++ more))) }
+        ensures table { OnOk result
+            (IsFactTable setting.entry.graph.now setting.entry.instance.now (map fact_of batch.new.items)) }
+        ensures handed { OnOk result (self.new.handed ≡ self.old.handed + length batch.new.items) }
+        ensures few { self.new.handed ≤ setting.entry.most }
+    {
+        let mut at = 0;
+        'pieces: while at < piece.len() {
+            let taken = self.pending.cut(&mut self.splitter, &piece[at..])?;
+            at += taken;
+            settle(setting, &self.pending, self.handed, batch)?;
+            self.handed += self.pending.told.len() as u64;
+        }
+        Ok(())
     }
 
     /// The text ends: the fact of a last record that no line break ended, if there is one.

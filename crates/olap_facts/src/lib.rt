@@ -7,8 +7,10 @@
 
 mod feeding;
 mod fronts;
+mod judging;
 mod kinds;
 mod laws;
+mod pending;
 mod reading;
 mod settings;
 mod tables;

@@ -1,5 +1,7 @@
 -- The header, a fact or a fault.
+use Rattle.std.proofs.Common.{ap}
 use Rattle.olap_facts.specs.Seen.{fact_of}
+use Rattle.olap_facts.specs.declared.pending.Told.{Told}
 use Rattle.olap_facts.proofs.CountingLemmas.{counted-fact, counted-header, fact-fault, header-fault}
 use Rattle.olap_facts.proofs.fronts.taken.Goals as goal
 
@@ -19,7 +21,9 @@ pub returns-in-Ok-clause-counts : goal.returns-in-Ok-clause-counts
 returns-in-Ok-clause-counts c = λ done facts h.
     let s = c.args.setting in
     let going = h.going c.if-not-begun.false in
-    let says = c.in-Ok.ensures.fact going.rows going.count in
+    let told = c.told_of.ensures in
+    let says = c.in-Ok.ensures.fact going.rows c.args.row.now.row going.count c.nth_field.ensures
+    (ap (λ (t : Told). t.is_pair) told) (ap (λ (t : Told). t.value) told) in
     counted-fact s.most s.graph.now s.instance.now c.args.handed done facts c.args.row.now.row going
     (fact_of c.in-Ok.fact) says.0 says.1
 
@@ -27,5 +31,7 @@ pub returns-in-Err-clause-counts : goal.returns-in-Err-clause-counts
 returns-in-Err-clause-counts c = λ done facts h left.
     let s = c.args.setting in
     let going = h.going c.if-not-begun.false in
+    let told = c.told_of.ensures in
     fact-fault s.most s.graph.now s.instance.now c.args.handed done facts c.args.row.now.row going
-    c.in-Err.kind (c.in-Err.ensures.fact going.rows going.count) left
+    c.in-Err.kind (c.in-Err.ensures.fact going.rows c.args.row.now.row going.count c.nth_field.ensures
+    (ap (λ (t : Told). t.is_pair) told) (ap (λ (t : Told). t.value) told)) left

@@ -13,7 +13,7 @@ use Rattle.olap_facts.specs.Feeding.{Counted}
 use Rattle.olap_facts.specs.Seen.{fact_of}
 use Rattle.olap_facts.proofs.FeedLemmas.{no-cut, one-cut, stands-on, whole-is}
 use Rattle.olap_facts.proofs.TableLemmas.{table-more}
-use Rattle.olap_facts.proofs.fronts.Front.take.Goals as goal
+use Rattle.olap_facts.proofs.fronts.Front.take_each.Goals as goal
 
 pub returns-then-not-cut-clause-feeds : goal.returns-then-not-cut-clause-feeds
 returns-then-not-cut-clause-feeds c = λ fed facts h.

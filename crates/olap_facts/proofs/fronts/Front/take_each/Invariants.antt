@@ -3,7 +3,7 @@ use Rattle.std.proofs.Common.{◌≡◌, ℕ, ◌+◌, ◌≤◌, ◌-◌, ◌++
 use Rattle.olap_base.specs.Views.{Fact, IsFactTable}
 use Rattle.olap_facts.specs.Feeding.{Fed, feeding_in}
 use Rattle.olap_facts.specs.Seen.{fact_of}
-use Rattle.olap_facts.proofs.fronts.Front.take.Given as goal
+use Rattle.olap_facts.proofs.fronts.Front.take_each.Given as goal
 
 abbrev pub invariant-records : goal.invariant-records
 invariant-records l = record {

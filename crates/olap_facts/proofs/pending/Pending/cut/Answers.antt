@@ -1,0 +1,65 @@
+-- A record more, or none in the rest of the piece.
+use Rattle.std.proofs.Common.{◌∙◌, ap, arith, length, length-drop}
+use Rattle.std.proofs.lemmas.Bool.{not-false, not-true}
+use Rattle.olap_base.proofs.ListLemmas.{rest_is}
+use Rattle.olap_facts.proofs.FeedLemmas.{no-cut, one-cut}
+use Rattle.olap_facts.proofs.PendingLemmas.{cut-end, cut-more, cut-none-yet}
+use Rattle.olap_facts.proofs.pending.Pending.cut.Goals as goal
+
+pub records-init : goal.records-init
+records-init c =
+    let e = c.clear.ensures in
+    record {
+      at = omega arith;
+      some = λ l. let none = ap length e.told in omega (arith, l, none);
+      cut = cut-none-yet c.args.piece.now c.args.splitter.now.stands c.clear.new.self e.ids e.partial e.told;
+    }
+
+pub records-preserved : goal.records-preserved
+records-preserved c =
+    let piece = c.args.piece.now in
+    let at = c.records.at in
+    let n = c.in_ok-cut.cut.taken in
+    let inv = c.records.invariant in
+    let s = c.records.splitter.stands in
+    let new = c.next.new.self in
+    let e = c.in_ok-push.ensures in
+    let is-found = not-false _ c.if-not-cut.false in
+    let one = one-cut piece at n c.in_ok-cut.cut.found new.row s new.stands c.in_ok-cut.ensures.stands is-found in
+    let part = c.in_ok-cut.ensures.taken in
+    let same_size = ap length (rest_is at piece) in
+    let size = length-drop at piece in
+    let some = c.in_ok-cut.ensures.some is-found in
+    record {
+      at = omega (arith, part, same_size, size, inv.at);
+      some = λ _. omega (arith, some);
+      cut = cut-more piece at n c.args.splitter.now.stands s new.stands c.records.self inv.cut c.push.new.self new.row
+          one e.ids e.partial e.told;
+    }
+
+pub returns-then-not-cut-clause-taken : goal.returns-then-not-cut-clause-taken
+returns-then-not-cut-clause-taken c =
+    let piece = c.args.piece.now in
+    let at = c.records.at in
+    let all = c.in_ok-cut.ensures.all (not-true _ c.if-not-cut.true) ∙ ap length (rest_is at piece) in
+    let size = length-drop at piece in
+    omega (arith, all, size, c.records.invariant.at)
+
+pub returns-then-not-cut-clause-some : goal.returns-then-not-cut-clause-some
+returns-then-not-cut-clause-some c = λ l.
+    let piece = c.args.piece.now in
+    let at = c.records.at in
+    let all = c.in_ok-cut.ensures.all (not-true _ c.if-not-cut.true) ∙ ap length (rest_is at piece) in
+    let size = length-drop at piece in
+    omega (arith, all, size, l, c.records.invariant.at)
+
+pub returns-then-not-cut-clause-cut : goal.returns-then-not-cut-clause-cut
+returns-then-not-cut-clause-cut c =
+    let piece = c.args.piece.now in
+    let at = c.records.at in
+    let n = c.in_ok-cut.cut.taken in
+    let s = c.records.splitter.stands in
+    let new = c.next.new.self in
+    let none = no-cut piece at n c.in_ok-cut.cut.found new.row s new.stands c.in_ok-cut.ensures.stands
+    (not-true _ c.if-not-cut.true) in
+    cut-end piece at n c.args.splitter.now.stands s new.stands c.records.self c.records.invariant.cut none
