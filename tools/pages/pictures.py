@@ -35,6 +35,8 @@ SIGNS = {"\n": "\u21b5", "\r": "\u21b5", "\t": "\u21e5"}
 TURNING = ("LRE", "RLE", "LRO", "RLO", "PDF", "LRI", "RLI", "FSI", "PDI")
 NO_GRAPHVIZ = "no dot is in PATH: install Graphviz (Debian's package graphviz)"
 BATCH = 8  # pictures of one run of Graphviz
+MANY_EDGES = 512  # of a picture; with more, Graphviz may not look for the best place of each node, which takes minutes
+QUICK = ", nslimit=0.2, nslimit1=0.2, mclimit=0.1"
 # Of kinds of edges, what Graphviz is told; an edge `above` isn't seen, and only puts the one node over the other.
 LOOKS = {"tied": ", style=dashed, arrowhead=none", "sometimes": ", style=dashed", "idle": ", style=dotted", "above": ", style=invis",
          "twice": ", constraint=false, style=bold"}
@@ -326,9 +328,11 @@ def label(node: Node) -> str:
 
 def dot_text(picture: Picture) -> str:
     place = {key: f"n{i}" for i, key in enumerate(picture.nodes)}
+    quick = QUICK if len(picture.edges) > MANY_EDGES else ""
     lines = [
         "digraph {",
-        'graph [rankdir=BT, nodesep=0.3, ranksep=0.45, bgcolor=transparent]; node [fontname="DejaVu Sans", fontsize=12, '
+        f"graph [rankdir=BT, nodesep=0.3, ranksep=0.45, bgcolor=transparent{quick}];"
+        ' node [fontname="DejaVu Sans", fontsize=12, '
         'margin="0.12,0.06"]; edge [arrowsize=0.7];',
     ]
     for key, node in picture.nodes.items():
