@@ -14,22 +14,22 @@ use Rattle.olap_frozen.specs.Chosen.{IsChoice, Joins}
 use Rattle.olap_frozen.specs.Rows.{AreRows}
 use Rattle.olap_frozen.specs.declared.founding.Found.{Found}
 use Rattle.olap_frozen.proofs.ChosenInstance as made
+use Rattle.olap_frozen.proofs.ChosenLemmas.{choice_of}
 use Rattle.olap_frozen.proofs.RowLemmas.{has_steps}
 use Rattle.olap_cex.specs.CexFor.{IsWay}
-use Rattle.olap_cex.specs.FoundFor.{IsFoundFor, found_edges, found_instance, found_name, found_place}
-use Rattle.olap_cex.proofs.DraftLemmas as draft
+use Rattle.olap_cex.specs.FoundFor.{found_edges, found_instance, found_name, found_place}
 
 -- ---- counting from the front
 
 -- one item more of which it holds
-pub holds_more : (P : ℕ → Type 0) (xs : List ℕ) (n y : ℕ) → HoldsTimes P xs n → P y
+pub holds_more : {A : Type 0} (P : A → Type 0) (xs : List A) (n : ℕ) (y : A) → HoldsTimes P xs n → P y
     → HoldsTimes P (xs ++ y ∷ []) (n + 1)
 holds_more P [] n y e h = inl (h, n, omega arith, e)
 holds_more P (x ∷ xs) n y (inl t) h = inl (t.0, t.1 + 1, omega (arith, t.2), holds_more P xs t.1 y t.3 h)
 holds_more P (x ∷ xs) n y (inr t) h = inr (t.0, holds_more P xs n y t.1 h)
 
 -- one item more of which it doesn't hold
-pub holds_same : (P : ℕ → Type 0) (xs : List ℕ) (n y : ℕ) → HoldsTimes P xs n → (P y → ⊥)
+pub holds_same : {A : Type 0} (P : A → Type 0) (xs : List A) (n : ℕ) (y : A) → HoldsTimes P xs n → (P y → ⊥)
     → HoldsTimes P (xs ++ y ∷ []) n
 holds_same P [] n y e h = inr (h, e)
 holds_same P (x ∷ xs) n y (inl t) h = inl (t.0, t.1, t.2, holds_same P xs t.1 y t.3 h)
@@ -53,7 +53,7 @@ among P xs all n c =
 
 -- ---- a way in the rows is one in the instance
 
-module _ (g : Graph) (found : Found) (ok : IsFoundFor g found) (hier : IsHierarchy g) where
+module _ (g : Graph) (found : Found) (is_root : IsCategory g found.frozen.root.0) (hier : IsHierarchy g) where
   abbrev r : ℕ
   r = found.frozen.root.0
 
@@ -67,7 +67,7 @@ module _ (g : Graph) (found : Found) (ok : IsFoundFor g found) (hier : IsHierarc
   name c = found_name found c
 
   ch : IsChoice g r es
-  ch = draft.choice g found ok hier
+  ch = choice_of g r found.frozen.edges hier is_root
 
   -- what a present category reaches is present
   down : {c d : ℕ} → Steps (Joins es) c d → is_present r es c ≡ true → is_present r es d ≡ true
@@ -80,7 +80,7 @@ module _ (g : Graph) (found : Found) (ok : IsFoundFor g found) (hier : IsHierarc
   module _ {W : ℕ} (rows : List (CatSet W)) (drawn : AreRows g es rows) (c s : ℕ) (source : IsCategory g s) where
     to : IsWay rows r c s → ReachesVia i (found_place g found) s c
     to t =
-        let a = (has_steps g es rows drawn r s ok.root).0 t.0 in
+        let a = (has_steps g es rows drawn r s is_root).0 t.0 in
         let p = down a root in
         let b = (has_steps g es rows drawn s c source).0 t.1 in
         let q = down b p in (
@@ -103,7 +103,7 @@ module _ (g : Graph) (found : Found) (ok : IsFoundFor g found) (hier : IsHierarc
         let b = (made.reaches_walk g r es ch name s c o.0 q.0).0
         (subst (λ w. Reaches i w (made.place g r es ch c)) (sym o.1)
         (subst (λ w. Reaches i t.0 w) (sym q.1) t.3.2)) in
-        ((has_steps g es rows drawn r s ok.root).1 a, (has_steps g es rows drawn s c source).1 b)
+        ((has_steps g es rows drawn r s is_root).1 a, (has_steps g es rows drawn s c source).1 b)
 
     pub way_is : IsWay rows r c s ↔ ReachesVia i (found_place g found) s c
     way_is = (to, from)

@@ -6,7 +6,7 @@ mod ListLemmas
 mod DraftLemmas
 mod ParentLemmas
 mod PlaceLemmas
-mod CountLemmas
+pub mod CountLemmas
 mod CexLemmas
 mod LawLemmas
 mod PrintedLemmas

@@ -10,13 +10,13 @@ use Rattle.olap_base.specs.Views.{ExactlyOne}
 use Rattle.olap_bits.specs.declared.sets.CatSet.{CatSet}
 use Rattle.olap_cube.specs.CubeSummarizable.{AreChosen, Chosen, IsBadChoice, bottoms_of, instances_of}
 use Rattle.olap_cube.specs.Tuples.{IsTupleOf, TupleReachesVia}
-use Rattle.olap_dimensions.specs.Found.{AreSized, IsCubeCounterexampleFound, chosen_of}
+use Rattle.olap_cube_summ.specs.Found.{AreSized, IsCubeCounterexampleFound, chosen_of}
 use Rattle.olap_frozen.specs.declared.founding.Found.{Found}
-use Rattle.olap_patterns.specs.Families.{AreFirst, AreOf, AreUnions, patterns_of}
-use Rattle.olap_patterns.specs.Families as grouped
-use Rattle.olap_patterns.specs.Masks.{CanBeBad, all_of}
-use Rattle.olap_patterns.specs.declared.families.Family.{Family}
-use Rattle.olap_cube_summ.specs.Dimensions.{AreFamiliesOf, AreLeast, Dimension, IsDimension, dimensions_of, sets_of}
+use Rattle.olap_cube_summ.specs.Families.{AreFirst, AreOf, AreUnions, patterns_of}
+use Rattle.olap_cube_summ.specs.Families as grouped
+use Rattle.olap_cube_summ.specs.Masks.{CanBeBad, all_of}
+use Rattle.olap_cube_summ.specs.declared.families.Family.{Family}
+use Rattle.olap_cube_summ.specs.Choices.{AreFamiliesOf, AreLeast, Dimension, IsDimension, dimensions_of, sets_of}
 use Rattle.olap_cube_summ.specs.Questions.{AreQuestions, AreQuestionsOf, sources_in, target_in}
 use Rattle.olap_cube_summ.specs.declared.questions.Question.{Question}
 use Rattle.olap_cube_summ.proofs.BelowLemmas.{one_at_places}

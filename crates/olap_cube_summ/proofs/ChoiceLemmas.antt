@@ -9,10 +9,10 @@ use Rattle.olap_base.specs.Instance.{Instance, IsMemberOf}
 use Rattle.olap_base.specs.Views.{ExactlyOne}
 use Rattle.olap_cube.specs.CubeSummarizable.{AreChosen, AreNotAfter, Chosen, IsChosen, bottoms_of, codes_of, instances_of}
 use Rattle.olap_cube.specs.Tuples.{IsTupleOf, TupleReachesVia}
-use Rattle.olap_dimensions.specs.Found.{AreSized, chosen_of}
+use Rattle.olap_cube_summ.specs.Found.{AreSized, chosen_of}
 use Rattle.olap_frozen.specs.declared.founding.Found.{Found}
-use Rattle.olap_patterns.specs.Masks.{CanBeBad, Has, IsBad, IsIn}
-use Rattle.olap_cube_summ.specs.Dimensions.{AreLeast, Dimension, IsDimension, sets_of}
+use Rattle.olap_cube_summ.specs.Masks.{CanBeBad, Has, IsBad, IsIn}
+use Rattle.olap_cube_summ.specs.Choices.{AreLeast, Dimension, IsDimension, sets_of}
 use Rattle.olap_cube_summ.specs.Patterns.{HasPattern, shape_of}
 use Rattle.olap_cube_summ.specs.Questions.{sources_in, target_in}
 use Rattle.olap_cube_summ.proofs.BelowLemmas.{one_below}

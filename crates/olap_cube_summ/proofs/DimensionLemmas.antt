@@ -5,11 +5,11 @@ use Rattle.std.proofs.lemmas.List.Elements.{All-cons}
 use Rattle.olap_ast.specs.Schema.{Schema}
 use Rattle.olap_base.specs.Graph.{IsBottom}
 use Rattle.olap_cube.specs.CubeSummarizable.{AreChosen, Chosen, bottoms_of}
-use Rattle.olap_dimensions.specs.Dimensions.{no_schema}
-use Rattle.olap_patterns.specs.Families.{AreOf}
-use Rattle.olap_patterns.specs.Families as families
-use Rattle.olap_patterns.specs.declared.families.Family.{Family}
-use Rattle.olap_cube_summ.specs.Dimensions.{AreFamiliesOf, Dimension, IsDimension, dimensions_of}
+use Rattle.olap_cube_summ.specs.Dimensions.{no_schema}
+use Rattle.olap_cube_summ.specs.Families.{AreOf}
+use Rattle.olap_cube_summ.specs.Families as families
+use Rattle.olap_cube_summ.specs.declared.families.Family.{Family}
+use Rattle.olap_cube_summ.specs.Choices.{AreFamiliesOf, Dimension, IsDimension, dimensions_of}
 use Rattle.olap_cube_summ.specs.Patterns.{AreFamilies}
 use Rattle.olap_cube_summ.specs.Questions.{AreQuestionsOf, IsQuestionOf, no_question}
 use Rattle.olap_cube_summ.specs.declared.questions.Question.{Question}

@@ -1,112 +1,301 @@
--- The families of bottom categories, pattern by pattern and category by category.
-use Rattle.std.proofs.Common.{◌≡◌, ℕ, ◌+◌, ◌<◌, ◌≤◌, ◌++◌, List, [], ◌∷◌, Bool, true, false, ◌||◌, not, eqb, get_or, refl, ap, sym, subst, ◌∙◌, inl, inr, arith}
-use Rattle.std.specs.Prelude.{Contains}
-use Rattle.std.specs.FinSet as set
-use Rattle.std.specs.List.{range_with_len}
-use Rattle.std.proofs.lemmas.Bool.{eq-eqb, or_left}
-use Rattle.std.proofs.lemmas.List.Elements.{All-contains_itself, Contains-append_left, Contains-push, Contains-push_cases}
-use Rattle.std.proofs.lemmas.List.Quantifiers.{all_pairs_push}
-use Rattle.olap_ast.specs.Schema.{Schema}
-use Rattle.olap_base.specs.Graph.{IsBottom, category_count}
-use Rattle.olap_base.proofs.ListLemmas.{Contains-nil, Contains-range}
-use Rattle.olap_bits.specs.Sets.{members}
+-- The families of the first bottom categories, dimension by dimension.
+use Rattle.std.proofs.Common.{◌≡◌, ℕ, zero, suc, ◌+◌, ◌-◌, ◌<◌, ◌≤◌, ◌⊎◌, ◌↔◌, ◌++◌, List, [], ◌∷◌, length, map, get_or, take, drop, drop-cons, refl, ap, sym, subst, ◌∙◌, inl, inr, arith}
+use Rattle.std.specs.Prelude.{All, Contains}
+use Rattle.std.proofs.lemmas.List.Elements.{All-head, All-tail}
+use Rattle.std.specs.Int.Bits.{bit_and}
+use Rattle.std.proofs.lemmas.List.{length-drop}
+use Rattle.std.proofs.Math.Seq.{take-length}
+use Rattle.olap_base.specs.Deciding.{contains_cases, contains_cons}
+use Rattle.olap_base.proofs.ListLemmas.{Contains-nil}
+use Rattle.olap_base.specs.Ranks.{IsNotAfter}
 use Rattle.olap_bits.specs.declared.sets.CatSet.{CatSet}
-use Rattle.olap_bits.proofs.CatSetLemmas.{in_insert}
-use Rattle.olap_patterns.specs.Families.{IsOrdered}
-use Rattle.olap_patterns.specs.Masks.{IsIn}
-use Rattle.olap_patterns.specs.declared.families.Family.{Family}
-use Rattle.olap_patterns.proofs.MaskLemmas.{in_with}
-use Rattle.olap_cube_summ.specs.Patterns.{AreFamilies, IsFamily}
-use Rattle.olap_cube_summ.specs.declared.questions.Question.{Question}
-use Rattle.olap_cube_summ.proofs.BelowLemmas.{below_suc, count, fewer}
+use Rattle.olap_cube_summ.specs.Masks.{CanBeBad, IsIn, all_of}
+use Rattle.olap_cube_summ.specs.Families.{AreBad, AreFirst, AreOf, AreUnions, IsOrdered, IsUnion, bottoms_of, patterns_of}
+use Rattle.olap_cube_summ.specs.declared.families.Family.{Family}
+use Rattle.olap_cube_summ.proofs.MaskLemmas.{below_next}
+use Rattle.olap_cube_summ.proofs.LeastLemmas.{CanEnd, Ends, Greedy, NotAfter, greedy_ends, greedy_least}
 
--- ---- patterns
+-- ---- sets in the place of others
 
--- how many masks aren't in the set
-pub left_out : CatSet 4 → ℕ
-left_out patterns = count (λ p. not (set.contains (members patterns) p)) (range_with_len 0 256)
+-- where each pattern of a set is one of another
+wider : (n : ℕ) (s t : CatSet 4) → ((p : ℕ) → IsIn s p → IsIn t p) → (rest : List (CatSet 4)) (m : ℕ)
+    → CanBeBad n (s ∷ rest) m → CanBeBad n (t ∷ rest) m
+wider n s t h rest m b = (b.0, h b.0 b.1, b.2)
 
-module _ (old new : CatSet 4) (p : ℕ) (small : p < 256) (put : members new ≡ set.insert (members old) p) where
-  -- what holds of the patterns, and of the one put in
-  pub each_with : (P : ℕ → Type 0) → P p → ((r : ℕ) → IsIn old r → P r) → (r : ℕ) → IsIn new r → P r
-  each_with P h f r i = elim ((in_with old new p small put r).0 i) [ inl e ↦ subst P (sym e) h | inr o ↦ f r o ]
+-- if sets are bad wherever others are, they are so behind the same sets
+under : (n : ℕ) (done a b : List (CatSet 4)) → ((m : ℕ) → CanBeBad n a m → CanBeBad n b m) → (m : ℕ)
+    → CanBeBad n (done ++ a) m → CanBeBad n (done ++ b) m
+under n [] a b h m t = h m t
+under n (d ∷ done) a b h m t = (t.0, t.1, under n done a b h (bit_and m t.0) t.2)
 
-  has_new : (r : ℕ) → set.contains (members new) r ≡ (eqb r p || set.contains (members old) r)
-  has_new r = ap (λ w. set.contains w r) put ∙ in_insert (members old) p r
+-- by the union of some families, then by one of them
+pub one_of_union : (n : ℕ) (families : List Family) (u : CatSet 4) → IsUnion families u → (done rest : List (CatSet 4))
+    (m : ℕ) → CanBeBad n (done ++ u ∷ rest) m
+    → (f : Family) × Contains families f × CanBeBad n (done ++ f.patterns ∷ rest) m
+one_of_union n families u is [] rest m b = let t = (is b.0).0 b.1 in (t.0, t.1, (b.0, t.2, b.2))
+one_of_union n families u is (d ∷ done) rest m b =
+    let t = one_of_union n families u is done rest (bit_and m b.0) b.2 in (t.0, t.1, (b.0, b.1, t.2))
 
-  stays_out : (a b : Bool) → not (a || b) ≡ true → not b ≡ true
-  stays_out true b e = absurd (let z : false ≡ true = e in cc)
-  stays_out false b e = e
+-- by families of some dimensions, then by their unions
+by_unions : (n : ℕ) (ds : List (List Family)) (us : List (CatSet 4)) → AreUnions ds us → (xs : List Family)
+    → AreOf ds xs → (m : ℕ) → CanBeBad n (patterns_of xs) m → CanBeBad n us m
+by_unions n [] [] u [] a m b = b
+by_unions n [] [] u (x ∷ xs) a m b = absurd a
+by_unions n [] (s ∷ us) u xs a m b = absurd u
+by_unions n (d ∷ ds) [] u xs a m b = absurd u
+by_unions n (d ∷ ds) (s ∷ us) u [] a m b = absurd a
+by_unions n (d ∷ ds) (s ∷ us) u (x ∷ xs) a m b =
+    (b.0, (u.0 b.0).1 (x, a.0, b.1), by_unions n ds us u.1 xs a.1 (bit_and m b.0) b.2)
 
-  -- fewer are left out, if it wasn't there
-  pub fewer_out : (IsIn old p → ⊥) → left_out new < left_out old
-  unfolding left_out
-  fewer_out none = fewer (λ r. not (set.contains (members new) r)) (λ r. not (set.contains (members old) r))
-      (λ r e. stays_out (eqb r p) (set.contains (members old) r) (sym (ap not (has_new r)) ∙ e))
-      (range_with_len 0 256) p (Contains-range 256 p small)
-      (ap not (has_new p ∙ or_left (eqb p p) (set.contains (members old) p) (eq-eqb p p refl)))
-      (out (set.contains (members old) p) refl)
+-- an item doesn't depend on what would stand where there is none
+same_item : {A : Type 0} (xs : List A) (k : ℕ) (d e : A) → k < length xs → get_or xs k d ≡ get_or xs k e
+same_item [] k d e l = absurd (omega arith)
+same_item (x ∷ xs) zero d e l = refl
+same_item (x ∷ xs) (suc k) d e l = same_item xs k d e (let z : suc k < suc (length xs) = l in omega arith)
+
+-- of ordered families one has a bottom category
+same_by_bottom : (d : List Family) (x y : Family) → IsOrdered d → Contains d x → Contains d y
+    → x.bottom.0 ≡ y.bottom.0 → x ≡ y
+same_by_bottom d x y ordered c e q = go (which c.0 e.0)
+  where
+    which : (j k : ℕ) → (j < k) ⊎ ((j ≡ k) ⊎ (k < j))
+    which j k = grind arith
+
+    before : (a b : Family) (j k : ℕ) → j < k → k < length d → get_or d j a ≡ a → get_or d k b ≡ b → j < length d
+        → a.bottom.0 < b.bottom.0
+    before a b j k l m f g o = subst (λ (w : Family). w.bottom.0 < b.bottom.0) (same_item d j b a o ∙ f)
+        (subst (λ (w : Family). (get_or d j b).bottom.0 < w.bottom.0) g (ordered j k b l m))
+
+    go : (c.0 < e.0) ⊎ ((c.0 ≡ e.0) ⊎ (e.0 < c.0)) → x ≡ y
+    go (inl l) = let o = before x y c.0 e.0 l e.1 c.2 e.2 c.1 in absurd (omega arith)
+    go (inr (inl l)) = sym c.2 ∙ ap (λ w. get_or d w x) l ∙ same_item d e.0 x y e.1 ∙ e.2
+    go (inr (inr l)) = let o = before y x e.0 c.0 l c.1 e.2 c.2 e.1 in absurd (omega arith)
+
+-- the first k families have the patterns of a set
+abbrev pub HasOf : List Family → ℕ → CatSet 4 → Type 0
+HasOf families k all = (p : ℕ) → IsIn all p
+    ↔ ((f : Family) × (j : ℕ) × (j < k) × (get_or families j f ≡ f) × IsIn f.patterns p)
+
+-- ---- the greedy choice
+
+module _ (n : ℕ) where
+  abbrev In : List Family → Family → Type 0
+  In d x = IsOrdered d × Contains d x
+
+  abbrev bottom : Family → ℕ
+  bottom x = x.bottom.0
+
+  abbrev after : ℕ → ℕ → Type 0
+  after a b = b < a
+
+  abbrev left : List (CatSet 4) → Family → List (CatSet 4)
+  left m x = m ++ x.patterns ∷ []
+
+  abbrev IsBadBy : List (CatSet 4) → Type 0
+  IsBadBy m = CanBeBad n m (all_of n)
+
+  abbrev pub GreedyOf : List (List Family) → List (CatSet 4) → List Family → Type 0
+  GreedyOf ds m xs = Greedy In bottom after left IsBadBy ds m xs
+
+  next_is : {A : Type 0} (m : List A) (p : A) (rest : List A) → (m ++ p ∷ []) ++ rest ≡ m ++ p ∷ rest
+  next_is [] p rest = refl
+  next_is (x ∷ m) p rest = ap (λ w. x ∷ w) (next_is m p rest)
+
+  nothing_is : {A : Type 0} (m : List A) → m ++ [] ≡ m
+  nothing_is [] = refl
+  nothing_is (x ∷ m) = ap (λ w. x ∷ w) (nothing_is m)
+
+  ends_of : (ds : List (List Family)) → All IsOrdered ds → (m : List (CatSet 4)) (xs : List Family) → AreOf ds xs
+      → IsBadBy (m ++ patterns_of xs) → Ends In bottom after left IsBadBy ds m xs
+  ends_of [] o m [] a b = subst IsBadBy (nothing_is m) b
+  ends_of [] o m (x ∷ xs) a b = absurd a
+  ends_of (d ∷ ds) o m [] a b = absurd a
+  ends_of (d ∷ ds) o m (x ∷ xs) a b =
+      let rest = subst IsBadBy (sym (next_is m x.patterns (patterns_of xs))) b in
+      ((All-head IsOrdered d ds o, a.0), ends_of ds (All-tail IsOrdered d ds o) (left m x) xs a.1 rest)
+
+  of_ends : (ds : List (List Family)) (m : List (CatSet 4)) (xs : List Family)
+      → Ends In bottom after left IsBadBy ds m xs → AreOf ds xs × IsBadBy (m ++ patterns_of xs)
+  of_ends [] m [] e = (tt, subst IsBadBy (sym (nothing_is m)) e)
+  of_ends [] m (x ∷ xs) e = absurd e
+  of_ends (d ∷ ds) m [] e = absurd e
+  of_ends (d ∷ ds) m (x ∷ xs) e = let t = of_ends ds (left m x) xs e.1 in
+      ((e.0.1, t.0), subst IsBadBy (next_is m x.patterns (patterns_of xs)) t.1)
+
+  not_after : (xs ys : List Family) → NotAfter In bottom after left IsBadBy xs ys
+      → IsNotAfter (bottoms_of xs) (bottoms_of ys)
+  not_after [] ys t = tt
+  not_after (x ∷ xs) [] t = absurd t
+  not_after (x ∷ xs) (y ∷ ys) (inl l) = inl l
+  not_after (x ∷ xs) (y ∷ ys) (inr e) = inr (e.0, not_after xs ys e.1)
+
+  order : (a b : ℕ) → after a b ⊎ ((a ≡ b) ⊎ after b a)
+  order a b = grind arith
+
+  -- one dimension more
+  pub greedy_next : (all : List (List Family)) (i : ℕ) (done : List (CatSet 4)) (first : List Family) (d : List Family)
+      (us : List (CatSet 4)) (x : Family) → i < length all → get_or all i d ≡ d → IsOrdered d
+      → AreUnions (drop (i + 1) all) us → Contains d x
+      → ((y : Family) → Contains d y → CanBeBad n (done ++ y.patterns ∷ us) (all_of n) → x.bottom.0 ≤ y.bottom.0)
+      → ((xs : List Family) → GreedyOf (drop i all) done xs → GreedyOf all [] (first ++ xs))
+      → (xs : List Family) → GreedyOf (drop (i + 1) all) (done ++ x.patterns ∷ []) xs
+      → GreedyOf all [] ((first ++ x ∷ []) ++ xs)
+  greedy_next all i done first d us x l e o u c least h xs g =
+      let q : drop i all ≡ d ∷ drop (i + 1) all =
+      drop-cons all i d l ∙ (λ j. e j ∷ (let z : suc i ≡ i + 1 = omega arith in ap (λ w. drop w all) z) j) in
+      subst (GreedyOf all []) (sym (next_is first x xs))
+      (h (x ∷ xs) (subst (λ ds. GreedyOf ds done (x ∷ xs)) (sym q) ((o, c), before, g)))
     where
-      out : (b : Bool) → set.contains (members old) p ≡ b → not (set.contains (members old) p) ≡ true
-      out true e = absurd (none (small, e))
-      out false e = ap not e
+      before : (y : Family) → In d y → CanEnd In bottom after left IsBadBy (drop (i + 1) all) (left done y)
+          → after (bottom x) (bottom y) → ⊥
+      before y k end a =
+          let t = of_ends (drop (i + 1) all) (left done y) end.0 end.1 in
+          let b = subst IsBadBy (next_is done y.patterns (patterns_of end.0)) t.1 in
+          let m = least y k.1 (under n done (y.patterns ∷ patterns_of end.0) (y.patterns ∷ us)
+          (λ m v. (v.0, v.1, by_unions n (drop (i + 1) all) us u end.0 t.0 (bit_and m v.0) v.2)) (all_of n) b) in
+          omega arith
 
--- ---- categories
+  -- after the last dimension these are the first families
+  pub are_first : (all : List (List Family)) → All IsOrdered all → (i : ℕ) (done us : List (CatSet 4))
+      (first : List Family) → length all ≤ i → AreUnions (drop i all) us → CanBeBad n (done ++ us) (all_of n)
+      → ((xs : List Family) → GreedyOf (drop i all) done xs → GreedyOf all [] (first ++ xs)) → AreFirst n all first
+  are_first all o i done us first l u b h =
+      let none = nothing_left all i l in
+      let over = no_sets us (subst (λ ds. AreUnions ds us) none u) in
+      let bad = subst IsBadBy (ap (λ w. done ++ w) over ∙ nothing_is done) b in
+      let g = subst (GreedyOf all []) (nothing_is first) (h [] (subst (λ ds. GreedyOf ds done []) (sym none) bad)) in
+      let e = of_ends all [] first (greedy_ends In bottom after left IsBadBy all [] first g) in record {
+        are_of = e.0;
+        are_bad = e.1;
+        least = λ other a c. not_after first other (greedy_least In bottom after left IsBadBy (λ d x y i j k m.
+            ap (left m) (same_by_bottom d x y i.0 i.1 j.1 k)) order all [] first other g (ends_of all o [] other a c));
+      }
+    where
+      nothing_left : (xs : List (List Family)) (k : ℕ) → length xs ≤ k → drop k xs ≡ []
+      nothing_left [] zero l = refl
+      nothing_left [] (suc k) l = refl
+      nothing_left (x ∷ xs) zero l = let z : suc (length xs) ≤ zero = l in absurd (omega arith)
+      nothing_left (x ∷ xs) (suc k) l = nothing_left xs k (let z : suc (length xs) ≤ suc k = l in omega arith)
 
--- a family of each bottom category below n, in declaration order
-pub record AreFamiliesBelow (s : Schema) (q : Question) (n : ℕ) (families : List Family) : Type 0 where
-  pub each : (f : Family) → Contains families f → IsFamily s q f
-  pub ordered : IsOrdered families
-  pub below : (f : Family) → Contains families f → f.bottom.0 < n
-  pub all : (b : ℕ) → b < n → IsBottom s.graph b → (f : Family) × Contains families f × (f.bottom.0 ≡ b)
+      no_sets : (us : List (CatSet 4)) → AreUnions [] us → us ≡ []
+      no_sets [] u = refl
+      no_sets (s ∷ us) u = absurd u
 
-module _ (s : Schema) (q : Question) where
-  pub no_families : (families : List Family) → families ≡ [] → AreFamiliesBelow s q 0 families
-  no_families families e = subst (AreFamiliesBelow s q 0) (sym e) (record {
-    each = λ f c. absurd (Contains-nil f c);
-    ordered = λ i j d l m. absurd (omega arith);
-    below = λ f c. absurd (Contains-nil f c);
-    all = λ b l. absurd (omega arith);
-  })
+-- ---- steps of loops
 
-  module _ (n : ℕ) (families : List Family) (before : AreFamiliesBelow s q n families) where
-    -- one that isn't a bottom category
-    pub category_passed : (IsBottom s.graph n → ⊥) → AreFamiliesBelow s q (n + 1) families
-    category_passed none = record {
-      each = before.each;
-      ordered = before.ordered;
-      below = λ f c. let l = before.below f c in omega arith;
-      all = λ b l bottom. elim (below_suc b n (omega arith)) [
-        | inl m ↦ before.all b m bottom
-        | inr e ↦ absurd (none (subst (IsBottom s.graph) e bottom))
-      ];
-    }
+-- of ordered families none from this place on has a bottom category before this one's
+pub first_by_order : (P : Family → Type 0) (families : List Family) (k : ℕ) (x : Family) → IsOrdered families
+    → k < length families → x ≡ get_or families k x
+    → ((j : ℕ) (f : Family) → j < k → get_or families j f ≡ f → P f → ⊥)
+    → (f : Family) → Contains families f → P f → x.bottom.0 ≤ f.bottom.0
+first_by_order P families k x ordered l e none f c p = go (which c.0 k)
+  where
+    which : (j k : ℕ) → (j < k) ⊎ ((j ≡ k) ⊎ (k < j))
+    which j k = grind arith
 
-    -- one that is
-    pub family_added : (f : Family) → f.bottom.0 ≡ n → IsFamily s q f → (next : List Family) → next ≡ families ++ f ∷ []
-        → AreFamiliesBelow s q (n + 1) next
-    family_added f e is next made = subst (AreFamiliesBelow s q (n + 1)) (sym made) (record {
-      each = λ g c. elim (Contains-push_cases families f g c) [
-        | inl o ↦ before.each g o
-        | inr r ↦ subst (IsFamily s q) r is
-      ];
-      ordered = all_pairs_push (λ g h. g.bottom.0 < h.bottom.0) families f before.ordered
-          (λ k d l. let m = before.below (get_or families k d) (All-contains_itself families k d l) in omega arith);
-      below = λ g c. elim (Contains-push_cases families f g c) [
-        | inl o ↦ let l = before.below g o in omega arith
-        | inr r ↦ let z = ap (λ (w : Family). w.bottom.0) r in omega arith
-      ];
-      all = λ b l bottom. elim (below_suc b n (omega arith)) [
-        | inl m ↦ let t = before.all b m bottom in (t.0, Contains-append_left families (f ∷ []) t.0 t.1, t.2)
-        | inr r ↦ (f, Contains-push families f, e ∙ sym r)
-      ];
-    })
+    at_k : get_or families k f ≡ x
+    at_k = same_item families k f x l ∙ sym e
 
-  -- all of them
-  pub all_there : (n : ℕ) (families : List Family) → category_count s.graph ≤ n → AreFamiliesBelow s q n families
-      → AreFamilies s q families
-  all_there n families l below = record {
-    each = below.each;
-    ordered = below.ordered;
-    all = λ b bottom. below.all b (let m = bottom.0.1 in omega arith) bottom;
-  }
+    go : (c.0 < k) ⊎ ((c.0 ≡ k) ⊎ (k < c.0)) → x.bottom.0 ≤ f.bottom.0
+    go (inl a) = absurd (none c.0 f a c.2 p)
+    go (inr (inl a)) = let q : x ≡ f = sym at_k ∙ ap (λ w. get_or families w f) (sym a) ∙ c.2 in
+        let r = ap (λ (w : Family). w.bottom.0) q in omega arith
+    go (inr (inr a)) = let o = ordered k c.0 f a c.1 in
+        let r = subst (λ (w : Family). w.bottom.0 < (get_or families c.0 f).bottom.0) at_k o in
+        let s = subst (λ (w : Family). x.bottom.0 < w.bottom.0) c.2 r in omega arith
+
+-- one family more joins the patterns so far
+pub union_next : (families : List Family) (k : ℕ) (all next : CatSet 4) (x : Family) → k < length families
+    → x ≡ get_or families k x → ((m : ℕ) → IsIn next m ↔ (IsIn all m ⊎ IsIn x.patterns m))
+    → HasOf families k all → HasOf families (k + 1) next
+union_next families k all next x l e u h p = (
+  λ i. elim ((u p).0 i) [
+    | inl a ↦ let t = (h p).0 a in (t.0, t.1, (let m = t.2 in omega arith), t.3, t.4)
+    | inr a ↦ (x, k, omega arith, sym e, a)
+  ],
+  λ t. (u p).1 (elim (below_next t.1 k t.2) [
+    | inl m ↦ inl ((h p).1 (t.0, t.1, m, t.3, t.4))
+    | inr q ↦ inr (subst (λ (w : Family). IsIn w.patterns p)
+        (sym t.3 ∙ ap (λ w. get_or families w t.0) q ∙ same_item families k t.0 x l ∙ sym e) t.4)
+  ]),
+)
+
+-- one dimension more has its union behind the others
+pub unions_next : (ds : List (List Family)) (k : ℕ) (ss : List (CatSet 4)) (d : List Family) (s : CatSet 4)
+    → k < length ds → get_or ds k d ≡ d → AreUnions (take k ds) ss → IsUnion d s
+    → AreUnions (take (suc k) ds) (ss ++ s ∷ [])
+unions_next [] k ss d s l e u i = absurd (omega arith)
+unions_next (x ∷ ds) zero [] d s l e u i = (subst (λ w. IsUnion w s) (sym e) i, tt)
+unions_next (x ∷ ds) zero (t ∷ ss) d s l e u i = absurd u
+unions_next (x ∷ ds) (suc k) [] d s l e u i = absurd u
+unions_next (x ∷ ds) (suc k) (t ∷ ss) d s l e u i =
+    (u.0, unions_next ds k ss d s (let z : suc k < suc (length ds) = l in omega arith) e u.1 i)
+
+-- ---- what is left of the sets
+
+-- what is left after one item more
+drop_next : {A : Type 0} (xs : List A) (i : ℕ) (y : A) (ys : List A) → drop i xs ≡ y ∷ ys → drop (suc i) xs ≡ ys
+drop_next [] zero y ys e = absurd (cc)
+drop_next [] (suc i) y ys e = absurd (cc)
+drop_next (x ∷ xs) zero y ys e = cc
+drop_next (x ∷ xs) (suc i) y ys e = drop_next xs i y ys e
+
+-- the sets from the i-th on
+pub record SetsFrom (all : List (List Family)) (sets : List (CatSet 4)) (i : ℕ) (d : List Family) : Type 0 where
+  pub set : CatSet 4
+  pub is : drop i sets ≡ set ∷ drop (i + 1) sets
+  pub union : IsUnion d set
+  pub rest : AreUnions (drop (i + 1) all) (drop (i + 1) sets)
+
+-- the sets from a dimension on: the union of its families, and the others
+pub sets_from : (all : List (List Family)) (sets : List (CatSet 4)) (i : ℕ) (d : List Family) → i < length all
+    → get_or all i d ≡ d → AreUnions (drop i all) (drop i sets) → SetsFrom all sets i d
+sets_from all sets i d l e u = go (drop i sets) refl
+    (subst (λ ds. AreUnions ds (drop i sets))
+    (drop-cons all i d l ∙ (λ j. e j ∷ (let z : suc i ≡ i + 1 = omega arith in ap (λ w. drop w all) z) j)) u)
+  where
+    go : (us : List (CatSet 4)) → drop i sets ≡ us → AreUnions (d ∷ drop (i + 1) all) us → SetsFrom all sets i d
+    go [] q v = absurd v
+    go (s ∷ ss) q v =
+        let r : drop (i + 1) sets ≡ ss = (let z : i + 1 ≡ suc i = omega arith in ap (λ w. drop w sets) z)
+        ∙ drop_next sets i s ss q in
+        record {
+          set = s;
+          is = q ∙ (λ j. s ∷ sym r j);
+          union = v.0;
+          rest = subst (AreUnions (drop (i + 1) all)) (sym r) v.1;
+        }
+
+-- all of what is left
+pub take_left : {A : Type 0} (xs : List A) (k : ℕ) → take (length xs - k) (drop k xs) ≡ drop k xs
+take_left xs k = ap (λ w. take w (drop k xs)) (sym (length-drop k xs)) ∙ take-length (drop k xs)
+
+-- where the sets can be bad, some family of this dimension keeps them so
+pub some_family : (n : ℕ) (all : List (List Family)) (sets : List (CatSet 4)) (i : ℕ) (d items : List Family)
+    (done from to : List (CatSet 4)) → i < length all → get_or all i d ≡ d → items ≡ d
+    → AreUnions (drop i all) (drop i sets) → from ≡ done → to ≡ drop (i + 1) sets
+    → CanBeBad n (done ++ drop i sets) (all_of n)
+    → (f : Family) × Contains items f × CanBeBad n (from ++ f.patterns ∷ to) (all_of n)
+some_family n all sets i d items done from to l e q u a b c =
+    let s = sets_from all sets i d l e u in
+    let t = one_of_union n d s.set s.union done (drop (i + 1) sets) (all_of n)
+    (subst (λ w. CanBeBad n (done ++ w) (all_of n)) s.is c) in (
+      t.0,
+      subst (λ w. Contains w t.0) (sym q) t.1,
+      subst (λ w. CanBeBad n (w ++ t.0.patterns ∷ to) (all_of n)) (sym a)
+          (subst (λ w. CanBeBad n (done ++ t.0.patterns ∷ w) (all_of n)) (sym b) t.2),
+    )
+
+-- the same sets
+pub by_same : (n : ℕ) (from done to rest : List (CatSet 4)) → from ≡ done → to ≡ rest → (p : CatSet 4) (m : ℕ)
+    → CanBeBad n (done ++ p ∷ rest) m → CanBeBad n (from ++ p ∷ to) m
+by_same n from done to rest a b p m h = subst (λ w. CanBeBad n (w ++ p ∷ to) m) (sym a)
+    (subst (λ w. CanBeBad n (done ++ p ∷ w) m) (sym b) h)
+
+-- one set more is done
+pub by_one_more : (n : ℕ) (from done to rest next : List (CatSet 4)) → from ≡ done → to ≡ rest → (p : CatSet 4)
+    → next ≡ done ++ p ∷ [] → (m : ℕ) → CanBeBad n (from ++ p ∷ to) m → CanBeBad n (next ++ rest) m
+by_one_more n from done to rest next a b p e m h =
+    subst (λ w. CanBeBad n (w ++ rest) m) (sym e)
+    (subst (λ w. CanBeBad n w m) (sym (next_is n done p rest))
+    (by_same n done from rest to (sym a) (sym b) p m h))

@@ -1,4 +1,8 @@
 -- Lemmas.
+mod MaskLemmas
+mod FormulaLemmas
+mod LeastLemmas
+mod FamilyLemmas
 mod BelowLemmas
 mod SearchLemmas
 mod PatternLemmas
@@ -6,8 +10,13 @@ mod ChoiceLemmas
 mod DimensionLemmas
 mod AnswerLemmas
 mod WayLemmas
-mod FamilyLemmas
-mod LeastLemmas
+mod BottomLemmas
+mod LeastChoiceLemmas
 mod TupleLemmas
 mod SettingLemmas
 mod LookingLemmas
+mod PlaceLemmas
+mod TextLemmas
+mod ReachingLemmas
+mod SumLemmas
+mod OneText

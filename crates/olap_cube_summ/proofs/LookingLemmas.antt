@@ -4,7 +4,7 @@ use Rattle.olap_ast.specs.Formula.{Formula.Reach}
 use Rattle.olap_ast.specs.Frozen.{IsFrozen}
 use Rattle.olap_ast.specs.Schema.{Schema}
 use Rattle.olap_base.specs.Graph.{IsBottom}
-use Rattle.olap_dimensions.specs.Found.{chosen_of}
+use Rattle.olap_cube_summ.specs.Found.{chosen_of}
 use Rattle.olap_dimsat.specs.OneFound.{IsOneFound}
 use Rattle.olap_dimsat.specs.Searches.{root_of}
 use Rattle.olap_frozen.specs.declared.frozen.Frozen as kept

@@ -12,8 +12,8 @@ use Rattle.olap_base.specs.declared.ids.CatId.{CatId}
 use Rattle.olap_bits.specs.declared.sets.CatSet.{CatSet}
 use Rattle.olap_cube.proofs.DeterminedLemmas.{same_parts}
 use Rattle.olap_cube.specs.CubeSummarizable.{Chosen, IsChosen}
-use Rattle.olap_patterns.specs.Masks.{CanBeBad, Has, all_of}
-use Rattle.olap_patterns.specs.Ways.{HasWays}
+use Rattle.olap_cube_summ.specs.Masks.{CanBeBad, Has, all_of}
+use Rattle.olap_cube_summ.specs.Ways.{HasWays}
 use Rattle.olap_cube_summ.specs.Patterns.{HasPattern, shape_of}
 use Rattle.olap_cube_summ.specs.Questions.{sources_in, target_in}
 use Rattle.olap_cube_summ.specs.declared.questions.Question.{Question}

@@ -20,14 +20,14 @@ use Rattle.olap_bits.specs.Sets.{members}
 use Rattle.olap_bits.specs.declared.sets.CatSet.{CatSet}
 use Rattle.olap_cube.specs.CubeSummarizable.{Chosen, IsChosen}
 use Rattle.olap_ast.proofs.SameAtoms.{candidates_too, frozen_too}
-use Rattle.olap_dimensions.specs.Found.{chosen_of}
+use Rattle.olap_cube_summ.specs.Found.{chosen_of}
 use Rattle.olap_dimsat.specs.OneFound.{IsOneFound}
 use Rattle.olap_frozen.specs.declared.founding.Found.{Found}
 use Rattle.olap_frozen.specs.LeastFound.{IsLeastFound, frozen_of}
 use Rattle.olap_names.specs.Names.{candidates_of}
-use Rattle.olap_patterns.specs.Masks.{Has, IsIn}
+use Rattle.olap_cube_summ.specs.Masks.{Has, IsIn}
 use Rattle.olap_ast.specs.Trees.{numbers_of}
-use Rattle.olap_patterns.specs.Ways.{HasWays, HasWaysIn, IsAboutWays, IsInside, IsOutside}
+use Rattle.olap_cube_summ.specs.Ways.{HasWays, HasWaysIn, IsAboutWays, IsInside, IsOutside}
 use Rattle.olap_cube_summ.specs.Patterns.{AreAllKnown, IsKnown, IsLeastKnown, IsOther, SomeIsKnown, shape_of}
 use Rattle.olap_cube_summ.specs.Questions.{sources_in, target_in}
 use Rattle.olap_cube_summ.specs.declared.questions.Question.{Question}

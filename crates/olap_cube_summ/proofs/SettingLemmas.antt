@@ -10,11 +10,11 @@ use Rattle.olap_base.specs.Graph.{IsCategory, IsHierarchy}
 use Rattle.olap_base.specs.Limits.{most_views}
 use Rattle.olap_bits.specs.declared.sets.CatSet.{CatSet}
 use Rattle.olap_cube.specs.CubeSummarizable.{CubeSummarizableExactlyIfNoneBad, IsCubeSummarizable, IsKinded, graphs_of}
-use Rattle.olap_dimensions.specs.Dimensions.{AreCategoriesOf, no_schema}
-use Rattle.olap_patterns.specs.Families.{AreUnions, IsOrdered}
-use Rattle.olap_patterns.specs.Masks.{CanBeBad, all_of}
-use Rattle.olap_patterns.specs.declared.families.Family.{Family}
-use Rattle.olap_cube_summ.specs.Dimensions.{AreFamiliesOf}
+use Rattle.olap_cube_summ.specs.Dimensions.{AreCategoriesOf, no_schema}
+use Rattle.olap_cube_summ.specs.Families.{AreUnions, IsOrdered}
+use Rattle.olap_cube_summ.specs.Masks.{CanBeBad, all_of}
+use Rattle.olap_cube_summ.specs.declared.families.Family.{Family}
+use Rattle.olap_cube_summ.specs.Choices.{AreFamiliesOf}
 use Rattle.olap_cube_summ.specs.Patterns.{AreFamilies}
 use Rattle.olap_cube_summ.specs.Questions.{AreQuestions, AreQuestionsOf, no_question, sources_in, target_in}
 use Rattle.olap_cube_summ.specs.declared.questions.Question.{Question}

@@ -13,14 +13,14 @@ use Rattle.olap_ast.specs.Schema.{Constraint, Schema}
 use Rattle.olap_base.specs.Graph.{Graph}
 use Rattle.olap_base.specs.Instance.{Instance, IsMemberOf, ReachesVia}
 use Rattle.olap_ast.proofs.SameAtoms.{candidates_too, frozen_too}
-use Rattle.olap_dimensions.specs.Found.{chosen_of}
+use Rattle.olap_cube_summ.specs.Found.{chosen_of}
 use Rattle.olap_frozen.specs.declared.founding.Found.{Found}
 use Rattle.olap_frozen.specs.LeastFound.{frozen_of}
 use Rattle.olap_names.specs.Names.{candidates_of, with_graph}
-use Rattle.olap_patterns.specs.Masks.{Has}
+use Rattle.olap_cube_summ.specs.Masks.{Has}
 use Rattle.olap_base.specs.declared.ids.CatId.{CatId}
 use Rattle.olap_ast.specs.Trees.{numbers_of}
-use Rattle.olap_patterns.specs.Ways.{HasWaysTo}
+use Rattle.olap_cube_summ.specs.Ways.{HasWaysTo}
 use Rattle.olap_cube_summ.specs.Patterns.{IsFoundFor, shape_of}
 use Rattle.olap_cube_summ.proofs.BelowLemmas.{below_suc}
 use Rattle.olap_cube_summ.proofs.SearchLemmas.{at_root}

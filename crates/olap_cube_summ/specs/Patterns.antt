@@ -13,15 +13,15 @@ use Rattle.olap_base.specs.Instance.{Instance, IsMemberOf}
 use Rattle.olap_base.specs.Limits.{most_views}
 use Rattle.olap_bits.specs.declared.sets.CatSet.{CatSet}
 use Rattle.olap_cube.specs.CubeSummarizable.{Chosen, IsChosen}
-use Rattle.olap_dimensions.specs.Found.{chosen_of}
+use Rattle.olap_cube_summ.specs.Found.{chosen_of}
 use Rattle.olap_frozen.specs.declared.founding.Found.{Found}
 use Rattle.olap_frozen.specs.declared.frozen.Frozen as kept
 use Rattle.olap_frozen.specs.Leaves.{IsSized, IsZeroAtAll}
 use Rattle.olap_names.specs.Names.{Named}
-use Rattle.olap_patterns.specs.Families.{IsOrdered}
-use Rattle.olap_patterns.specs.Masks.{IsIn}
-use Rattle.olap_patterns.specs.Ways.{HasWays}
-use Rattle.olap_patterns.specs.declared.families.Family.{Family}
+use Rattle.olap_cube_summ.specs.Families.{IsOrdered}
+use Rattle.olap_cube_summ.specs.Masks.{IsIn}
+use Rattle.olap_cube_summ.specs.Ways.{HasWays}
+use Rattle.olap_cube_summ.specs.declared.families.Family.{Family}
 use Rattle.olap_cube_summ.specs.Questions.{sources_in, target_in}
 use Rattle.olap_cube_summ.specs.declared.questions.Question.{Question}
 

@@ -7,7 +7,7 @@ use Rattle.std.specs.Prelude.{◌≡◌, ◌<◌, ◌≤◌, ℕ, List, [], All,
 use Rattle.olap_ast.specs.Schema.{Schema}
 use Rattle.olap_base.specs.Graph.{IsCategory}
 use Rattle.olap_base.specs.Limits.{most_views}
-use Rattle.olap_dimensions.specs.Dimensions.{no_schema}
+use Rattle.olap_cube_summ.specs.Dimensions.{no_schema}
 use Rattle.olap_ast.specs.Trees.{numbers_of}
 use Rattle.olap_cube_summ.specs.declared.questions.Question.{Question}
 use Rattle.olap_cube_summ.specs.declared.summarizing.DuplicateSource.{DuplicateSource}

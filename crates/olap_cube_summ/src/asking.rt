@@ -5,11 +5,12 @@ ghost use Rattle.olap_cube_summ.specs.Patterns.{AreAllKnown, IsLeastKnown, IsOth
 ghost use Rattle.olap_cube_summ.specs.Questions.{IsQuestionOf};
 ghost use Rattle.olap_schema.specs.Schemas.{schema_of};
 
+use crate::formulas::{inside, outside};
+use crate::masks::Patterns;
 use crate::questions::Question;
 use olap_base::{CatId, Memory};
 use olap_dimsat::{Wanted, find};
 use olap_frozen::Found;
-use olap_patterns::{Patterns, inside, outside};
 use olap_schema::Schema;
 use std::alloc::Global;
 

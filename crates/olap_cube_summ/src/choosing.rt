@@ -1,19 +1,20 @@
 // The least bad choice of frozen dimensions with given roots.
 ghost use Rattle.std.specs.Prelude.{◌≡◌, ◌<◌, ◌≤◌, ◌^◌, ◌∷◌, All, IfOk, length};
 ghost use Rattle.olap_base.specs.Limits.{most_views};
-ghost use Rattle.olap_cube_summ.specs.Dimensions.{AreLeast, IsDimension, IsLeastBefore, dimensions_of};
-ghost use Rattle.olap_dimensions.specs.Dimensions.{schemas_of};
-ghost use Rattle.olap_patterns.specs.Families.{patterns_of};
-ghost use Rattle.olap_patterns.specs.Masks.{CanBeBad, all_of};
+ghost use Rattle.olap_cube_summ.specs.Choices.{AreLeast, IsDimension, IsLeastBefore, dimensions_of};
+ghost use Rattle.olap_cube_summ.specs.Dimensions.{schemas_of};
+ghost use Rattle.olap_cube_summ.specs.Families.{patterns_of};
+ghost use Rattle.olap_cube_summ.specs.Masks.{CanBeBad, all_of};
 ghost use Rattle.olap_schema.specs.Schemas.{schema_of};
 
 use crate::asking::least_found;
+use crate::cubes::Cube;
+use crate::families::Family;
+use crate::masks::{Patterns, all, possible};
 use crate::questions::Question;
 use crate::ways::pattern;
 use olap_base::{List, Memory};
-use olap_dimensions::Cube;
 use olap_frozen::{Found, Room};
-use olap_patterns::{Family, Patterns, all, possible};
 use olap_schema::Schema;
 use std::alloc::Global;
 

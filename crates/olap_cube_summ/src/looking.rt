@@ -8,13 +8,13 @@ ghost use Rattle.olap_cube_summ.specs.Questions.{IsQuestionOf};
 ghost use Rattle.olap_dimsat.specs.Searches.{root_of};
 ghost use Rattle.olap_schema.specs.Schemas.{schema_of};
 
+use crate::masks::{PATTERNS, Patterns, all};
 use crate::questions::Question;
 use crate::ways::pattern;
 use olap_ast::Formula;
 use olap_base::{CatId, Memory};
 use olap_dimsat::Search;
 use olap_frozen::Room;
-use olap_patterns::{PATTERNS, Patterns, all};
 use olap_schema::Schema;
 use std::alloc::Global;
 

@@ -5,19 +5,21 @@ ghost use Rattle.olap_base.specs.Limits.{most_views};
 ghost use Rattle.olap_base.specs.declared.refusals.Refusal.TheVariants as refusal;
 ghost use Rattle.olap_cube.specs.CubeSummarizable.{IsCubeSummarizable};
 ghost use Rattle.olap_cube.specs.Told.{tuple_of, tuples_in};
-ghost use Rattle.olap_cube_summ.specs.Dimensions.{AreFamiliesOf};
+ghost use Rattle.olap_cube_summ.specs.Choices.{AreFamiliesOf};
 ghost use Rattle.olap_cube_summ.specs.Questions.{AreQuestionsOf, duplicate_source};
-ghost use Rattle.olap_dimensions.specs.Dimensions.{AreCategoriesOf, schemas_of};
-ghost use Rattle.olap_dimensions.specs.Found.{IsCubeCounterexampleFound};
+ghost use Rattle.olap_cube_summ.specs.Dimensions.{AreCategoriesOf, schemas_of};
+ghost use Rattle.olap_cube_summ.specs.Found.{IsCubeCounterexampleFound};
 
+use crate::bottoms::families;
 use crate::choosing::least_choice;
+use crate::cubes::Cube;
 use crate::distinct::are_distinct;
-use crate::families::families;
+use crate::families::{Family, first_families, unions};
+use crate::found::CubeFound;
+use crate::masks::{all, can_be_bad};
 use crate::questions::{Question, questions};
 use olap_base::{List, Memory, Refusal};
 use olap_cube::{Tuple, cube_summarizable_exactly_if_none_bad};
-use olap_dimensions::{Cube, CubeFound};
-use olap_patterns::{Family, all, can_be_bad, first_families, unions};
 use std::alloc::Global;
 
 /// Why a question on a cube has no answer: a source stands twice.

@@ -5,7 +5,7 @@ ghost use Rattle.olap_base.specs.Instance.{IsMemberOf, ReachesVia};
 ghost use Rattle.olap_base.specs.Limits.{most_views};
 ghost use Rattle.olap_cube_summ.specs.Patterns.{HasPattern, IsFoundFor, named_by, shape_of};
 ghost use Rattle.olap_cube_summ.specs.Questions.{target_in};
-ghost use Rattle.olap_dimensions.specs.Found.{chosen_of};
+ghost use Rattle.olap_cube_summ.specs.Found.{chosen_of};
 ghost use Rattle.olap_schema.specs.Schemas.{schema_of};
 
 use crate::questions::Question;

@@ -18,7 +18,7 @@ use Rattle.olap_ast.specs.Schema.{Schema}
 use Rattle.olap_cube.specs.CubeSummarizable.{graphs_of}
 use Rattle.olap_cube_views.specs.Dimensions.{AreMadeFor}
 use Rattle.olap_base.specs.declared.ids.CatId.{CatId}
-use Rattle.olap_dimensions.specs.Dimensions.{AreCategoriesOf, no_schema}
+use Rattle.olap_cube_summ.specs.Dimensions.{AreCategoriesOf, no_schema}
 use Rattle.olap_instance.specs.Made.{IsMadeFor}
 use Rattle.olap_order.specs.Order.{Done, and_then}
 use Rattle.olap_order.specs.Steps.{schema_file}

@@ -7,7 +7,7 @@ use Rattle.std.proofs.Math.Facts.{yes_eqb}
 use Rattle.std.proofs.lemmas.List.{drop_all, drop_more, take_all}
 use Rattle.olap_base.specs.Graph.{IsCategory}
 use Rattle.olap_ast.specs.Schema.{Schema}
-use Rattle.olap_dimensions.specs.Dimensions.{AreCategoriesOf, no_schema}
+use Rattle.olap_cube_summ.specs.Dimensions.{AreCategoriesOf, no_schema}
 use Rattle.olap_graph.specs.Lookups.{category_named}
 use Rattle.olap_grammar.specs.Words.{pieces_of}
 use Rattle.olap_order.specs.Order.{ok_or, refused}

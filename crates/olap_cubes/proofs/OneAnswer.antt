@@ -4,7 +4,7 @@ use Rattle.std.specs.Prelude.{codes}
 use Rattle.olap_ast.specs.Schema.{Schema}
 use Rattle.olap_cube.specs.CubeSummarizable.{BadChoicesHaveTwoSums, Chosen, IsCubeCounterexample, IsCubeSummarizable, TheCubeCounterexampleIsOne, instances_of, only_cube_sum}
 use Rattle.olap_cube.specs.CubeViews.{one_cube_fact}
-use Rattle.olap_cube_cex.specs.Laws.{OneChoiceHasOneText}
+use Rattle.olap_cube_summ.specs.Laws.{OneChoiceHasOneText}
 use Rattle.olap_order.specs.Outputs.{line}
 use Rattle.olap_cubes.specs.Laws.{AnswersAreOne}
 use Rattle.olap_cubes.specs.Questions.{ByCube}

@@ -15,7 +15,7 @@ use Rattle.olap_ast.proofs.Uniqueness.{not_after_both}
 use Rattle.olap_cube.specs.Tuples.{IsTupleOf, TupleReachesVia}
 use Rattle.olap_cube.specs.CubeSummarizable.{AreChosen, AreNotAfter, Chosen, CubeSummarizableExactlyIfNoneBad, IsBadChoice, bottoms_of, codes_of, instances_of}
 use Rattle.olap_cube.proofs.ChoiceLemmas.{dec_one, dec_tuple_via}
-use Rattle.olap_cube_cex.specs.CubeCexText.{cube_counterexample_text}
+use Rattle.olap_cube_summ.specs.CubeCexText.{cube_counterexample_text}
 use Rattle.olap_cubes.specs.Existing.{AnswersExist}
 use Rattle.olap_cubes.specs.Questions.{ByCube, IsAnswer}
 use Rattle.olap_cubes.proofs.AllChoicesLemmas.{AreAll, AreSame, all_choices, same_bottoms, same_codes, same_instances}

@@ -17,7 +17,7 @@ use Rattle.olap_ast.specs.Schema.{Schema}
 use Rattle.olap_ast.proofs.Shape.{Distinct-push}
 use Rattle.olap_base.specs.declared.ids.CatId.{CatId}
 use Rattle.olap_base.proofs.ListLemmas.{Distinct, list_any_is}
-use Rattle.olap_dimensions.specs.Dimensions.{AreCategoriesOf}
+use Rattle.olap_cube_summ.specs.Dimensions.{AreCategoriesOf}
 use Rattle.olap_order.specs.Judged.{Replies}
 use Rattle.olap_order.specs.Order.{Order, Done, and_then, refused}
 use Rattle.olap_order.specs.Refusals.{IsOutOfMemory, IsRefusal}

@@ -6,7 +6,7 @@
 use Rattle.std.specs.Prelude.{◌≡◌, ◌⊎◌, ◌++◌, ℕ, List, codes}
 use Rattle.olap_ast.specs.Schema.{Schema}
 use Rattle.olap_cube.specs.CubeSummarizable.{Chosen, IsCubeCounterexample, IsCubeSummarizable}
-use Rattle.olap_cube_cex.specs.CubeCexText.{cube_counterexample_text}
+use Rattle.olap_cube_summ.specs.CubeCexText.{cube_counterexample_text}
 use Rattle.olap_order.specs.Outputs.{line}
 use Rattle.olap_order.specs.declared.status.Status.{Status}
 use Rattle.olap_order.specs.declared.status.Status.TheVariants.{Yes, No}

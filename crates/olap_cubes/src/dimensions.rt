@@ -4,7 +4,7 @@ ghost use Rattle.std.specs.String.{string_bytes};
 ghost use Rattle.olap_cube.specs.CubeSummarizable.{graphs_of};
 ghost use Rattle.olap_cube.specs.Limits.{most_dimensions};
 ghost use Rattle.olap_cube_views.specs.Dimensions.{AreMadeFor, categories_in, instances_in};
-ghost use Rattle.olap_dimensions.specs.Dimensions.{schemas_of};
+ghost use Rattle.olap_cube_summ.specs.Dimensions.{schemas_of};
 ghost use Rattle.olap_instance.specs.Made.{IsMadeFor};
 ghost use Rattle.olap_schema.specs.Schemas.{schema_of};
 ghost use Rattle.olap_view.specs.Seen.{ids};
@@ -15,8 +15,8 @@ ghost use Rattle.olap_reading.specs.Steps.{legal_file};
 ghost use Rattle.olap_cubes.specs.Steps.{legal_files, numbered, schema_files};
 
 use olap_base::CatId;
+use olap_cube_summ::Cube;
 use olap_cube_views::TargetColumns;
-use olap_dimensions::Cube;
 use olap_legal::Legal;
 use olap_order::{Stop, schema_in};
 use olap_outside::Library;

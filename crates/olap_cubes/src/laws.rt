@@ -7,7 +7,7 @@ use olap_cube::{
     bad_choices_have_two_sums, cube_summarizable_exactly_if_none_bad,
     the_cube_counterexample_is_one,
 };
-use olap_cube_cex::one_choice_has_one_text;
+use olap_cube_summ::one_choice_has_one_text;
 use olap_exists::frozen_are_listed;
 
 /// A question has one status and one list of bytes at most. So "exactly if" of each answer is a theorem.

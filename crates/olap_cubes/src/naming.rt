@@ -3,7 +3,7 @@ ghost use Rattle.std.specs.Prelude.{◌≡◌, ◌≢◌, ◌+◌, ◌<◌, ◌^
 ghost use Rattle.std.specs.Cmp.Lexicographic.{pointwise};
 ghost use Rattle.std.specs.List.{list_any};
 ghost use Rattle.olap_cube.specs.Told.{tuple_of, tuples_in};
-ghost use Rattle.olap_dimensions.specs.Dimensions.{AreCategoriesOf, schemas_of};
+ghost use Rattle.olap_cube_summ.specs.Dimensions.{AreCategoriesOf, schemas_of};
 ghost use Rattle.olap_order.specs.Taken.{PlainStep};
 ghost use Rattle.olap_ast.specs.Trees.{numbers_of};
 ghost use Rattle.olap_order.specs.Words.{texts};
@@ -11,7 +11,7 @@ ghost use Rattle.olap_cubes.specs.Steps.{another_tuple, categories_named, differ
 
 use olap_base::{CatId, List, Memory, Text};
 use olap_cube::Tuple;
-use olap_dimensions::Cube;
+use olap_cube_summ::Cube;
 use olap_grammar::pieces;
 use olap_order::{Stop, refuse_at};
 use std::alloc::Global;

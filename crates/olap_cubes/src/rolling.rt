@@ -5,7 +5,7 @@ ghost use Rattle.olap_cube_views.specs.CubeRollingUp.{IsCubeRolledUp};
 ghost use Rattle.olap_cube_views.specs.CubeTallies.{AreMembers};
 ghost use Rattle.olap_cube_views.specs.Dimensions.{AreMadeFor, categories_in, graphs_of as graphs_at, instances_in};
 ghost use Rattle.olap_cube_views.specs.Seen.{cube_view_of};
-ghost use Rattle.olap_dimensions.specs.Dimensions.{schemas_of};
+ghost use Rattle.olap_cube_summ.specs.Dimensions.{schemas_of};
 ghost use Rattle.olap_outside.specs.Faults.{Rose};
 ghost use Rattle.olap_outside.specs.Pieces.{IsKept};
 ghost use Rattle.olap_reading.specs.Rest.{IsOfRest};
@@ -13,8 +13,8 @@ ghost use Rattle.olap_records.specs.Records.{records_of};
 ghost use Rattle.olap_cubes.specs.Rest.{IsWhyUnrolled};
 
 use olap_base::{Fault, Memory, Refusal};
+use olap_cube_summ::Cube;
 use olap_cube_views::{CubeRoller, CubeView, TargetColumns};
-use olap_dimensions::Cube;
 use olap_facts::FactKind;
 use olap_graph::Graph;
 use olap_outside::{Failed, Library, fill};

@@ -18,6 +18,6 @@ returns-clause-count c =
     holds_swap (IsWay rows f.frozen.root.0 c.args.target.0)
     (λ s. ReachesVia (found_instance g f) (found_place g f) s c.args.target.0)
     (map (λ s. s.0) c.args.sources.now) c.count_ways.result
-    (λ s k. way_is g f c.requires.found c.close.ensures.hierarchy rows drawn c.args.target.0 s
+    (λ s k. way_is g f c.requires.found.root c.close.ensures.hierarchy rows drawn c.args.target.0 s
     (among (IsCategory g) c.args.sources.now c.requires.sources s k))
     c.count_ways.ensures

@@ -3,7 +3,7 @@ use Rattle.std.specs.Prelude.{None, Option, Some, IfSome, IsNone}
 use Rattle.olap_ast.specs.Trees.{formula_of}
 use Rattle.olap_frozen.specs.declared.founding.Found.{Found}
 use Rattle.olap_frozen.specs.LeastFound.{IsLeastFound}
-use Rattle.olap_patterns.specs.Ways.{IsInside}
+use Rattle.olap_cube_summ.specs.Ways.{IsInside}
 use Rattle.olap_schema.specs.Schemas.{schema_of}
 use Rattle.olap_cube_summ.proofs.SearchLemmas.{about_same, is_least, some_found}
 use Rattle.olap_cube_summ.proofs.asking.least_found.Goals as goal

@@ -1,7 +1,7 @@
 use Rattle.std.proofs.lemmas.Option.{IfSome_then}
 use Rattle.std.proofs.lemmas.Result.{IfOk-weaker}
 use Rattle.olap_ast.specs.Trees.{formula_of}
-use Rattle.olap_patterns.specs.Ways.{IsOutside}
+use Rattle.olap_cube_summ.specs.Ways.{IsOutside}
 use Rattle.olap_schema.specs.Schemas.{schema_of}
 use Rattle.olap_cube_summ.proofs.SearchLemmas.{about_same, all_known, is_other}
 use Rattle.olap_cube_summ.proofs.asking.other_found.Goals as goal

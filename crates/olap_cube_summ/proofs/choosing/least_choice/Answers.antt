@@ -1,10 +1,10 @@
 use Rattle.std.proofs.Common.{◌++◌, ◌+◌, ◌-◌, ◌∷◌, drop, length, sym, subst, take, ◌∙◌, arith}
-use Rattle.olap_dimensions.specs.Dimensions.{schemas_of}
-use Rattle.olap_patterns.specs.Masks.{CanBeBad, all_of}
+use Rattle.olap_cube_summ.specs.Dimensions.{schemas_of}
+use Rattle.olap_cube_summ.specs.Masks.{CanBeBad, all_of}
 use Rattle.olap_schema.specs.Schemas.{schema_of}
-use Rattle.olap_cube_summ.proofs.LeastLemmas.{all_least, bad_here, bad_next, by_its_own, dimension_at, first_bad, least_next, sets_left}
+use Rattle.olap_cube_summ.proofs.LeastChoiceLemmas.{all_least, bad_here, bad_next, by_its_own, dimension_at, first_bad, least_next, sets_left}
 use Rattle.olap_cube_summ.proofs.DimensionLemmas.{dimension_taken}
-use Rattle.olap_cube_summ.specs.Dimensions.{AreLeast, Dimension, IsLeastBefore, dimensions_of}
+use Rattle.olap_cube_summ.specs.Choices.{AreLeast, Dimension, IsLeastBefore, dimensions_of}
 use Rattle.olap_cube_summ.proofs.choosing.least_choice.Goals as goal
 
 pub dimensions-init : goal.dimensions-init

@@ -1,9 +1,9 @@
 use Rattle.std.proofs.Common.{◌↔◌, ℕ, ap, length, subst}
 use Rattle.std.specs.Int.Bits.{bit_and}
-use Rattle.olap_patterns.specs.Masks.{CanBeBad, IsIn}
+use Rattle.olap_cube_summ.specs.Masks.{CanBeBad, IsIn}
 use Rattle.olap_schema.specs.Schemas.{schema_of}
-use Rattle.olap_cube_summ.proofs.LeastLemmas.{is_least_before}
-use Rattle.olap_cube_summ.specs.Dimensions.{Dimension}
+use Rattle.olap_cube_summ.proofs.LeastChoiceLemmas.{is_least_before}
+use Rattle.olap_cube_summ.specs.Choices.{Dimension}
 use Rattle.olap_cube_summ.proofs.choosing.take_least.Goals as goal
 
 pub returns-clause-least : goal.returns-clause-least

@@ -1,6 +1,6 @@
 use Rattle.std.proofs.Common.{◌<◌, ◌≤◌, length, arith}
 use Rattle.std.proofs.lemmas.Grind.{common_steps}
-use Rattle.olap_dimensions.specs.Dimensions.{schemas_of}
+use Rattle.olap_cube_summ.specs.Dimensions.{schemas_of}
 use Rattle.olap_schema.specs.Schemas.{schema_of}
 use Rattle.olap_cube_summ.proofs.SettingLemmas.{all_valid, families_next, valid_next}
 use Rattle.olap_cube_summ.proofs.summarizing.all_families.Goals as goal

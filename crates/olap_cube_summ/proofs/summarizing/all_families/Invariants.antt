@@ -2,7 +2,7 @@
 use Rattle.std.proofs.Common.{◌≡◌, ℕ, ◌<◌, [], length}
 use Rattle.std.specs.Prelude.{slice_index_or}
 use Rattle.olap_ast.specs.Valid.{IsValidSchema}
-use Rattle.olap_dimensions.specs.Dimensions.{no_schema, schemas_of}
+use Rattle.olap_cube_summ.specs.Dimensions.{no_schema, schemas_of}
 use Rattle.olap_cube_summ.specs.Patterns.{AreFamilies}
 use Rattle.olap_cube_summ.specs.Questions.{no_question}
 use Rattle.olap_cube_summ.proofs.summarizing.all_families.Given as goal

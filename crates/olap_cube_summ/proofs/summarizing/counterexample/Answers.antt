@@ -3,11 +3,11 @@ use Rattle.std.specs.Prelude.{All}
 use Rattle.std.proofs.lemmas.List.{length-map}
 use Rattle.olap_base.specs.Limits.{most_views}
 use Rattle.olap_cube.specs.Told.{tuple_of, tuples_in}
-use Rattle.olap_dimensions.specs.Dimensions.{schemas_of}
-use Rattle.olap_patterns.specs.Families.{AreFirst, AreUnions, IsOrdered}
-use Rattle.olap_patterns.specs.Masks.{all_of}
-use Rattle.olap_patterns.specs.declared.families.Family.{Family}
-use Rattle.olap_cube_summ.specs.Dimensions.{AreFamiliesOf, AreLeast, IsDimension, dimensions_of}
+use Rattle.olap_cube_summ.specs.Dimensions.{schemas_of}
+use Rattle.olap_cube_summ.specs.Families.{AreFirst, AreUnions, IsOrdered}
+use Rattle.olap_cube_summ.specs.Masks.{all_of}
+use Rattle.olap_cube_summ.specs.declared.families.Family.{Family}
+use Rattle.olap_cube_summ.specs.Choices.{AreFamiliesOf, AreLeast, IsDimension, dimensions_of}
 use Rattle.olap_cube_summ.specs.Questions.{AreQuestionsOf}
 use Rattle.olap_cube_summ.proofs.AnswerLemmas.{dimensions, is_bad, is_counterexample}
 use Rattle.olap_cube_summ.proofs.DimensionLemmas.{of_length}

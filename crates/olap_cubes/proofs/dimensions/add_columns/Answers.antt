@@ -6,7 +6,7 @@ use Rattle.olap_ast.specs.Schema.{Schema}
 use Rattle.olap_base.specs.Instance.{Instance}
 use Rattle.olap_base.specs.declared.ids.CatId.{CatId}
 use Rattle.olap_cube.specs.CubeSummarizable.{graphs_of}
-use Rattle.olap_dimensions.specs.Dimensions.{no_schema, schemas_of}
+use Rattle.olap_cube_summ.specs.Dimensions.{no_schema, schemas_of}
 use Rattle.olap_instance.specs.Made.{IsMadeFor}
 use Rattle.olap_order.specs.Order.{Order}
 use Rattle.olap_order.specs.Taken.{FileStep}

@@ -2,7 +2,7 @@
 use Rattle.std.proofs.Common.{◌≡◌, ◌+◌, [], drop, length, take}
 use Rattle.olap_cube.specs.CubeSummarizable.{graphs_of}
 use Rattle.olap_cube_views.specs.Dimensions.{AreMadeFor, categories_in, instances_in}
-use Rattle.olap_dimensions.specs.Dimensions.{schemas_of}
+use Rattle.olap_cube_summ.specs.Dimensions.{schemas_of}
 use Rattle.olap_order.specs.Words.{texts}
 use Rattle.olap_view.specs.Seen.{ids}
 use Rattle.olap_cubes.specs.Steps.{legal_files}

@@ -2,7 +2,7 @@ use Rattle.std.proofs.Common.{◌≡◌, ◌+◌, ◌<◌, ◌≤◌, ℕ, List,
 use Rattle.std.proofs.lemmas.List.{length-map, length_push}
 use Rattle.std.specs.String.{string_bytes}
 use Rattle.olap_ast.specs.Schema.{Schema}
-use Rattle.olap_dimensions.specs.Dimensions.{schemas_of}
+use Rattle.olap_cube_summ.specs.Dimensions.{schemas_of}
 use Rattle.olap_order.specs.Order.{Order}
 use Rattle.olap_order.specs.Steps.{schema_file}
 use Rattle.olap_order.specs.Taken.{FileStep}

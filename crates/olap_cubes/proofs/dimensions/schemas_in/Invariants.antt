@@ -1,6 +1,6 @@
 -- So many schemas are read.
 use Rattle.std.proofs.Common.{◌≡◌, ◌+◌, [], drop, length}
-use Rattle.olap_dimensions.specs.Dimensions.{schemas_of}
+use Rattle.olap_cube_summ.specs.Dimensions.{schemas_of}
 use Rattle.olap_order.specs.Words.{texts}
 use Rattle.olap_cubes.specs.Steps.{schema_files}
 use Rattle.olap_cubes.proofs.FilesLemmas.{AreReadTo}

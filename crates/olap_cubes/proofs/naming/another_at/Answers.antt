@@ -5,7 +5,7 @@ use Rattle.std.specs.List.{list_any}
 use Rattle.olap_ast.specs.Trees.{numbers_of}
 use Rattle.olap_base.specs.declared.ids.CatId.{CatId}
 use Rattle.olap_cube.specs.Told.{tuples_in}
-use Rattle.olap_dimensions.specs.Dimensions.{AreCategoriesOf, schemas_of}
+use Rattle.olap_cube_summ.specs.Dimensions.{AreCategoriesOf, schemas_of}
 use Rattle.olap_order.specs.Order.{Done}
 use Rattle.olap_order.specs.Steps.{fault_text}
 use Rattle.olap_order.proofs.Stepping.{ends_both}

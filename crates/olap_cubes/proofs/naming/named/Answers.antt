@@ -3,7 +3,7 @@ use Rattle.std.proofs.lemmas.List.{get_or_read, map-append}
 use Rattle.olap_ast.specs.Schema.{Schema}
 use Rattle.olap_base.specs.Graph.{Graph, IsCategory}
 use Rattle.olap_base.specs.declared.ids.CatId.{CatId}
-use Rattle.olap_dimensions.specs.Dimensions.{no_schema, schemas_of}
+use Rattle.olap_cube_summ.specs.Dimensions.{no_schema, schemas_of}
 use Rattle.olap_graph.specs.Lookups.{category_named}
 use Rattle.olap_ast.specs.Trees.{numbers_of}
 use Rattle.olap_cubes.proofs.NameLemmas.{categories_all, named_all, named_more, named_not}

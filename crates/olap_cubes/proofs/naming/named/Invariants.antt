@@ -1,5 +1,5 @@
 -- So many names are known.
-use Rattle.olap_dimensions.specs.Dimensions.{schemas_of}
+use Rattle.olap_cube_summ.specs.Dimensions.{schemas_of}
 use Rattle.olap_ast.specs.Trees.{numbers_of}
 use Rattle.olap_cubes.proofs.NameLemmas.{AreNamedTo}
 use Rattle.olap_cubes.proofs.naming.named.Given as goal

@@ -1,7 +1,7 @@
 -- A word with as many names as dimensions is looked up.
 use Rattle.std.proofs.Common.{◌≡◌, Some, None, ap, arith, codes, length, ◌∙◌}
 use Rattle.olap_ast.specs.Trees.{numbers_of}
-use Rattle.olap_dimensions.specs.Dimensions.{schemas_of}
+use Rattle.olap_cube_summ.specs.Dimensions.{schemas_of}
 use Rattle.olap_grammar.specs.Words.{pieces_of}
 use Rattle.olap_order.specs.Steps.{fault_text}
 use Rattle.olap_cubes.specs.Steps.{categories_named, tuple_word}

@@ -6,7 +6,7 @@ use Rattle.std.specs.String.{string_bytes}
 use Rattle.olap_base.proofs.ListLemmas.{AllPairs-from_Distinct}
 use Rattle.olap_cube.specs.Told.{tuple_of, tuples_in}
 use Rattle.olap_cube.specs.declared.tuples.Tuple.{Tuple}
-use Rattle.olap_dimensions.specs.Dimensions.{schemas_of}
+use Rattle.olap_cube_summ.specs.Dimensions.{schemas_of}
 use Rattle.olap_order.specs.Judged.{Replies}
 use Rattle.olap_order.specs.Order.{Done}
 use Rattle.olap_order.specs.Taken.{NoAnswer}

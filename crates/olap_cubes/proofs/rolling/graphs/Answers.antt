@@ -3,7 +3,7 @@ use Rattle.std.proofs.lemmas.List.{map-append}
 use Rattle.olap_ast.specs.Schema.{Schema}
 use Rattle.olap_base.specs.Graph.{Graph}
 use Rattle.olap_cube_views.specs.Dimensions.{graphs_of as graphs_at}
-use Rattle.olap_dimensions.specs.Dimensions.{schemas_of}
+use Rattle.olap_cube_summ.specs.Dimensions.{schemas_of}
 use Rattle.olap_cubes.proofs.DimensionLemmas.{graphs_all, graphs_more}
 use Rattle.olap_cubes.proofs.rolling.graphs.Goals as goal
 

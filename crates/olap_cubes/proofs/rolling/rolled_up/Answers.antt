@@ -1,7 +1,7 @@
 -- The same, on the graphs of the dimensions.
 use Rattle.olap_cube.specs.CubeSummarizable.{graphs_of}
 use Rattle.olap_cube_views.specs.Dimensions.{instances_in}
-use Rattle.olap_dimensions.specs.Dimensions.{schemas_of}
+use Rattle.olap_cube_summ.specs.Dimensions.{schemas_of}
 use Rattle.olap_cubes.proofs.RollingLemmas.{no-memory}
 use Rattle.olap_cubes.proofs.rolling.rolled_up.Goals as goal
 

@@ -1,7 +1,7 @@
 use Rattle.std.proofs.Common.{◌+◌, List, subst}
 use Rattle.olap_ast.specs.Trees.{numbers_of}
 use Rattle.olap_base.specs.declared.ids.CatId.{CatId}
-use Rattle.olap_dimensions.specs.Dimensions.{schemas_of}
+use Rattle.olap_cube_summ.specs.Dimensions.{schemas_of}
 use Rattle.olap_order.specs.Judged.{Replies}
 use Rattle.olap_order.specs.Words.{texts}
 use Rattle.olap_order.proofs.Stepping.{ended_unread, followed_unread}

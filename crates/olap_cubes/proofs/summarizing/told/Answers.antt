@@ -1,8 +1,8 @@
 -- The answer is `yes`, or `no` and the counterexample.
 use Rattle.std.proofs.Common.{inl, inr, map, refl, subst, sym, ◌∙◌}
 use Rattle.olap_cube.specs.Told.{tuple_of, tuples_in}
-use Rattle.olap_dimensions.specs.Dimensions.{schemas_of}
-use Rattle.olap_dimensions.specs.Found.{chosen_of}
+use Rattle.olap_cube_summ.specs.Dimensions.{schemas_of}
+use Rattle.olap_cube_summ.specs.Found.{chosen_of}
 use Rattle.olap_order.specs.Judged.{IsVerdict}
 use Rattle.olap_order.proofs.Replying.{done, replies_no_memory}
 use Rattle.olap_cubes.specs.Questions.{ByCube}

@@ -1,6 +1,6 @@
 use Rattle.std.proofs.Common.{List, ap, length, subst, ◌∙◌}
 use Rattle.olap_base.specs.declared.ids.CatId.{CatId}
-use Rattle.olap_dimensions.specs.Dimensions.{schemas_of}
+use Rattle.olap_cube_summ.specs.Dimensions.{schemas_of}
 use Rattle.olap_order.specs.Judged.{Judged}
 use Rattle.olap_order.specs.Words.{texts}
 use Rattle.olap_order.proofs.Stepping.{ended, followed, unread}

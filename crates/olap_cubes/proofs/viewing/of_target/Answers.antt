@@ -2,7 +2,7 @@ use Rattle.std.proofs.Common.{List, ℕ, subst}
 use Rattle.olap_cube.specs.CubeViews.{cube_direct_view}
 use Rattle.olap_cube_views.specs.Dimensions.{instances_in}
 use Rattle.olap_cube_views.specs.CubeViewText.{cube_view_text}
-use Rattle.olap_dimensions.specs.Dimensions.{schemas_of}
+use Rattle.olap_cube_summ.specs.Dimensions.{schemas_of}
 use Rattle.olap_order.specs.Judged.{Judged}
 use Rattle.olap_order.specs.Order.{Told, and_then}
 use Rattle.olap_order.specs.declared.status.Status.TheVariants.{Yes}

@@ -2,7 +2,7 @@
 use Rattle.std.proofs.Common.{◌∙◌, ap, arith, subst}
 use Rattle.olap_cube.specs.CubeSummarizable.{graphs_of}
 use Rattle.olap_cube_views.specs.Dimensions.{instances_in}
-use Rattle.olap_dimensions.specs.Dimensions.{schemas_of}
+use Rattle.olap_cube_summ.specs.Dimensions.{schemas_of}
 use Rattle.olap_cubes.specs.Rest.{IsWhyUnrolled}
 use Rattle.olap_cubes.specs.declared.rolling.Unrolled.{Unrolled}
 use Rattle.olap_cubes.specs.declared.rolling.Unrolled.TheVariants as unrolled

@@ -4,7 +4,7 @@ use Rattle.std.specs.Prelude.{IfSome}
 use Rattle.olap_dimsat.specs.Searches.{root_of}
 use Rattle.olap_schema.specs.Schemas.{schema_of}
 use Rattle.olap_cube_summ.specs.Patterns.{IsPatternOf, IsSmallPatternOf}
-use Rattle.olap_cube_summ.proofs.FamilyLemmas.{each_with}
+use Rattle.olap_cube_summ.proofs.BottomLemmas.{each_with}
 use Rattle.olap_cube_summ.proofs.looking.Lookout.joined.Goals as goal
 
 pub with-requires : goal.with-requires

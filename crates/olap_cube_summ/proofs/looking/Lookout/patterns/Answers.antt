@@ -2,7 +2,7 @@
 use Rattle.std.proofs.Common.{◌<◌, length, List, sym, subst}
 use Rattle.olap_base.specs.declared.ids.CatId.{CatId}
 use Rattle.olap_dimsat.specs.Searches.{root_of}
-use Rattle.olap_patterns.proofs.MaskLemmas.{in_empty}
+use Rattle.olap_cube_summ.proofs.MaskLemmas.{in_empty}
 use Rattle.olap_schema.specs.Schemas.{schema_of}
 use Rattle.olap_cube_summ.specs.Looking.{IsLookout}
 use Rattle.olap_cube_summ.specs.Patterns.{AreFound}

@@ -1,6 +1,0 @@
--- Lemmas.
-mod DimensionLemmas
-mod TextLemmas
-mod WayLemmas
-mod SumLemmas
-mod OneText

@@ -1,8 +1,0 @@
--- The dimensions so far are drawn.
-use Rattle.std.proofs.Common.{take}
-use Rattle.olap_cube_cex.specs.Founds.{AreDrawn}
-use Rattle.olap_dimensions.specs.Dimensions.{schemas_of}
-use Rattle.olap_cube_cex.proofs.reaching.drawn_of_each.Given as goal
-
-abbrev pub invariant-dimensions : goal.invariant-dimensions
-invariant-dimensions l = AreDrawn (take l.i (schemas_of l.cube)) (take l.i l.founds) l.rooms.items

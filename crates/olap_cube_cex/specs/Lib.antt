@@ -1,5 +1,0 @@
--- Definitions that contracts cite.
-pub mod CubeCexText
-pub mod Founds
-pub mod Ways
-pub mod Laws

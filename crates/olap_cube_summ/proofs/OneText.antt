@@ -1,0 +1,61 @@
+-- Choices that can't be told apart have one text.
+use Rattle.std.proofs.Common.{◌≡◌, ℕ, ◌+◌, List, [], ◌∷◌, ◌++◌, codes, length, refl}
+use Rattle.std.specs.Prelude.{flat_map}
+use Rattle.olap_base.specs.Graph.{Graph}
+use Rattle.olap_ast.specs.Frozen.{Candidates, Frozen, chosen, name_in}
+use Rattle.olap_ast.specs.Schema.{Schema}
+use Rattle.olap_cex.specs.FrozenText.{edge_bits, frozen_text}
+use Rattle.olap_cex.specs.Present.{first_present}
+use Rattle.olap_cube.specs.CubeSummarizable.{AreOneChoice, Chosen, bottoms_of, graphs_of, instances_of}
+use Rattle.olap_grammar.specs.Quoting.{quoted}
+use Rattle.olap_graph.specs.Lookups.{name_of_category}
+use Rattle.olap_instance.specs.Printing.{text_of_instance}
+use Rattle.olap_cube_summ.specs.CubeCexText.{cube_direct_sum, cube_sums_text, cube_views_sum, dimensions_text, number_line, roots_of}
+use Rattle.olap_cube_summ.specs.Laws.{OneChoiceHasOneText}
+
+-- frozen dimensions that can't be told apart have one line
+same_line : (g : Graph) (k h : Candidates) (r d : ℕ) (f w : Frozen) → r ≡ d → f ≡ w
+    → ((c : ℕ) → name_in k f c ≡ name_in h w c) → frozen_text g k r f ≡ frozen_text g h d w
+same_line g k h r d f w q p n = λ i.
+    codes "frozen " ++ (edge_bits (p i).edges ++ (flat_map
+    (λ c. 32 ∷ (name_of_category g c ++ 61 ∷ quoted (n c i)))
+    (first_present (q i) (chosen g.edges (p i).edges) (length g.names)) ++ 10 ∷ []))
+
+-- all that the text is made of is the same
+record IsTheSame (ss : List Schema) (ps qs : List Chosen) : Type 0 where
+  bottoms : bottoms_of ps ≡ bottoms_of qs
+  instances : instances_of ss ps ≡ instances_of ss qs
+  roots : roots_of ss ps ≡ roots_of ss qs
+  texts : (n : ℕ) → dimensions_text n ss ps ≡ dimensions_text n ss qs
+
+-- choices that can't be told apart have the same roots, instances and lines
+the_same : (ss : List Schema) (ps qs : List Chosen) → AreOneChoice ss ps qs → IsTheSame ss ps qs
+the_same [] [] [] a = record { bottoms = refl; instances = refl; roots = refl; texts = λ n. refl }
+the_same [] [] (q ∷ qs) a = absurd a
+the_same [] (p ∷ ps) qs a = absurd a
+the_same (s ∷ ss) [] qs a = absurd a
+the_same (s ∷ ss) (p ∷ ps) [] a = absurd a
+the_same (s ∷ ss) (p ∷ ps) (q ∷ qs) a =
+    let one = a.0 in
+    let root = one.root in
+    let instance = one.instance in
+    let place = one.place in
+    let line = same_line s.graph p.candidates q.candidates p.bottom q.bottom p.frozen q.frozen root one.value one.names in
+    let rest = the_same ss ps qs a.1 in
+    record {
+      bottoms = λ i. root i ∷ rest.bottoms i;
+      instances = λ i. instance i ∷ rest.instances i;
+      roots = λ i. place i ∷ rest.roots i;
+      texts = λ n i. (number_line n ++ (line i ++ text_of_instance s.graph (instance i))) ++ rest.texts (n + 1) i;
+    }
+
+-- so they have one text
+pub one_text : OneChoiceHasOneText
+one_text ss ps qs c sources a =
+    let t = the_same ss ps qs a in
+    let is = t.instances in
+    let xs = t.roots in
+    let bs = t.bottoms in
+    let texts = t.texts 1 in
+    λ i. texts i ++ cube_sums_text (graphs_of ss) (bs i) c (cube_direct_sum (is i) (xs i) c)
+    (cube_views_sum (is i) (xs i) c sources)
