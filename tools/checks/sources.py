@@ -9,7 +9,7 @@ TOP = Path(__file__).resolve().parent.parent.parent
 CRATES = TOP / "crates"
 
 # The crates that are tests of others.
-TESTS = ("olap_compare", "olap_rows", "olap_search_tests", "olap_tests", "olap_view_tests")
+TESTS = ("olap_rows", "olap_search_tests", "olap_tests")
 
 FUNCTION = re.compile(r"( *)(?:pub(?:\([a-z]+\))? )?(?:const )?(?:unsafe )?fn (\w+)")
 BLOCK = re.compile(r"(?:pub )?(impl|trait)\b\s*(?:<[^{]*?>)?\s*([^{;]*)")

@@ -1,10 +1,11 @@
-// What the texts are read as, a schema, a legal instance and stored views, and the one test that owns them.
+// Locations: a schema, a legal instance of it and stored views, and the one test of views, which owns them.
 ghost use Rattle.std.specs.Prelude.{◌≡◌, ◌<◌, All, length};
 ghost use Rattle.olap_instance.specs.Made.{IsMadeFor};
 ghost use Rattle.olap_schema.specs.Schemas.{schema_of};
 ghost use Rattle.olap_view.specs.Seen.{views_of};
 ghost use Rattle.olap_view.specs.Stores.{Fits, IsStore};
 
+use crate::reading::read;
 use crate::stored::are_from_stored_views;
 use crate::view::are_views;
 use olap_base::{CatId, List, MemberId};
@@ -12,7 +13,6 @@ use olap_check::check;
 use olap_instance::{Instance, read_instance};
 use olap_legal::Legal;
 use olap_schema::Schema;
-use olap_schema_text::read_schema;
 use olap_view::{Row, Store, View};
 use std::alloc::Global;
 use std::process::Abort;
@@ -95,14 +95,6 @@ const MERIDA: Row = Row {
     greatest: 7,
 };
 
-// The schema of the locations.
-fn locations(alloc: Global, rt: &impl Abort) -> Schema {
-    match read_schema(alloc, LOCATION) {
-        Ok(schema) => schema,
-        Err(_) => panic!(rt; "a schema"),
-    }
-}
-
 // The members, which are a legal instance.
 fn legal(alloc: Global, rt: &impl Abort, schema: &Schema) -> Legal
     ensures { IsMadeFor (schema_of schema.now).graph result }
@@ -147,7 +139,7 @@ pub(crate) fn stored(alloc: Global, rt: &impl Abort, instance: &Instance) -> Sto
 
 #[test]
 fn views_of_locations(rt: HostRuntime) {
-    let schema = locations(rt.alloc(), &rt);
+    let schema = read(&rt, rt.alloc(), LOCATION);
     let legal = legal(rt.alloc(), &rt, &schema);
     are_views(rt.alloc(), &rt, &schema, &legal);
     are_from_stored_views(rt.alloc(), &rt, &legal);

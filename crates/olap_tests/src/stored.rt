@@ -3,7 +3,7 @@ ghost use Rattle.std.specs.Prelude.{◌≡◌, ◌<◌, ◌^◌, All, length};
 ghost use Rattle.olap_view.specs.Seen.{views_of};
 ghost use Rattle.olap_view.specs.Stores.{Fits, IsStore};
 
-use crate::reading::stored;
+use crate::locations::stored;
 use olap_base::CatId;
 use olap_legal::Legal;
 use olap_view::{Store, from_views, print_view};

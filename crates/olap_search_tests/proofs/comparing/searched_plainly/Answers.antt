@@ -5,7 +5,7 @@ use Rattle.olap_ast.specs.Valid.{IsQuestion, IsValidSchema}
 use Rattle.olap_schema.specs.Schemas.{schema_of}
 use Rattle.olap_names.proofs.NameableLemmas.{valid_named}
 use Rattle.olap_dimsat.proofs.MadeLemmas.{whole}
-use Rattle.olap_compare.proofs.comparing.searched_plainly.Goals as goal
+use Rattle.olap_search_tests.proofs.comparing.searched_plainly.Goals as goal
 
 pub new-requires-clause-named : goal.new-requires-clause-named
 new-requires-clause-named c =
