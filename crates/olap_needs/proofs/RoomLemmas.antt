@@ -1,19 +1,19 @@
 -- With the constraints that are needed a schema stays readable, within the limits.
-use Rattle.std.proofs.Common.{◌≡◌, ◌∙◌, ◌↔◌, ℕ, suc, ◌+◌, ◌*◌, ◌≤◌, List, [], ◌∷◌, ◌++◌, append-nil, length, map, refl, ap, sym, subst, inl, inr, arith}
+use Rattle.std.proofs.Common.{◌≡◌, ◌∙◌, ◌↔◌, ℕ, suc, ◌+◌, ◌*◌, ◌<◌, ◌≤◌, List, [], ◌∷◌, ◌++◌, append-nil, length, map, refl, ap, sym, subst, inl, inr, arith}
 use Rattle.std.specs.Prelude.{Contains, flat_map, max, sum_by}
 use Rattle.std.proofs.lemmas.List.{length-append, length-map}
 use Rattle.std.proofs.lemmas.List.Concat.{flat_map-append}
-use Rattle.std.proofs.lemmas.List.Elements.{Contains-append_cases}
+use Rattle.std.proofs.lemmas.List.Elements.{Contains-append_cases, Contains-append_right}
 use Rattle.std.proofs.lemmas.List.Sums.{sum_by-append, sum_by-cons}
 use Rattle.olap_base.specs.Graph.{IsDeclared}
-use Rattle.olap_base.proofs.ListLemmas.{Contains-from_map}
+use Rattle.olap_base.proofs.ListLemmas.{Contains-from_map, contains_head}
 use Rattle.olap_ast.specs.Formula.{comparisons, equalities}
 use Rattle.olap_ast.specs.Schema.{Constraint, Schema}
 use Rattle.olap_ast.specs.Summarizable.{vias}
 use Rattle.olap_ast.specs.Trees.{formula_of}
 use Rattle.olap_ast.specs.Valid.{IsFormulaAt, depth_of, depth_of_terms, node_count, node_count_of_terms, pair_count}
 use Rattle.olap_ast.specs.declared.formulas.Constraint as stored
-use Rattle.olap_base.specs.Limits.{most_constants, most_constraints, most_depth, most_nodes, most_words}
+use Rattle.olap_base.specs.Limits.{most_constants, most_constraints, most_depth, most_nodes, most_schema_nodes, most_words}
 use Rattle.olap_ast.proofs.SourceLemmas.{no_more_constants, question_at, question_free, question_numberless}
 use Rattle.olap_schema.specs.Readable.{AreTexts}
 use Rattle.olap_needs.specs.Needs.{HasRoom, by_one, need, with_needs}
@@ -79,7 +79,8 @@ needs_stay_readable s c sources bs r t cs n room =
         names_fit = r.valid.names_fit;
         edges_fit = r.valid.edges_fit;
         constraints_fit = room.constraints;
-        nodes_fit = room.nodes;
+        nodes_fit = room.each;
+        all_nodes_fit = room.nodes;
         depth_fits = both s c sources bs (λ d. depth_of d.formula ≤ most_depth) r.valid.depth_fits
             (λ b k. few_levels c sources);
         constants_fit = subst (λ xs. pair_count xs
@@ -145,11 +146,36 @@ needed_nodes c sources (b ∷ bs) =
     ∙ ap (λ n. nodes_of (need c sources b) + n) (needed_nodes c sources bs)
     ∙ once_more (length bs) (length sources) (nodes_of (need c sources b)) nodes
 
--- with them a schema is within the limits exactly if so many constraints, and their nodes, are
-pub room_exactly : (s : Schema) (c : ℕ) (sources bs : List ℕ) → HasRoom (with_needs s c sources bs)
-    ↔ ((length s.constraints + length bs ≤ most_constraints)
-    × (sum_by (λ (d : Constraint). node_count d.formula) s.constraints + length bs * (3 + length sources) ≤ most_nodes))
-room_exactly s c sources bs =
+-- each of them does
+need_nodes : (c : ℕ) (sources : List ℕ) (b : ℕ) → nodes_of (need c sources b) ≡ 3 + length sources
+need_nodes c sources b = let e = source_nodes c sources in omega arith
+
+-- so where each has few nodes, and there is one of them, so many are few
+few_of_one : (s : Schema) (c : ℕ) (sources bs : List ℕ)
+    → ((d : Constraint) → Contains (with_needs s c sources bs).constraints d → nodes_of d ≤ most_nodes)
+    → 0 < length bs → 3 + length sources ≤ most_nodes
+few_of_one s c sources [] each l = absurd (omega (arith, l))
+few_of_one s c sources (b ∷ bs) each l =
+    let more = map (need c sources) bs in
+    let last = Contains-append_right s.constraints (need c sources b ∷ more) (need c sources b)
+    (contains_head (need c sources b) more) in
+    let few = each (need c sources b) last in
+    let count = need_nodes c sources b in
+    omega (arith, few, count)
+
+-- what holds of a schema that is within the limits with them
+abbrev HasRoomFor : Schema → List ℕ → List ℕ → Type 0
+HasRoomFor s sources bs = (length s.constraints + length bs ≤ most_constraints)
+    × (0 < length bs → 3 + length sources ≤ most_nodes)
+    × (sum_by (λ (d : Constraint). node_count d.formula) s.constraints + length bs * (3 + length sources)
+    ≤ most_schema_nodes)
+
+-- with them a schema whose constraints have few nodes each is within the limits exactly if so many constraints, and
+-- their nodes, are
+pub room_exactly : (s : Schema) (c : ℕ) (sources bs : List ℕ)
+    → ((d : Constraint) → Contains s.constraints d → node_count d.formula ≤ most_nodes)
+    → HasRoom (with_needs s c sources bs) ↔ HasRoomFor s sources bs
+room_exactly s c sources bs old =
     let more = map (need c sources) bs in
     let count : length (s.constraints ++ more) ≡ length s.constraints + length bs =
     length-append s.constraints more ∙ ap (λ n. length s.constraints + n) (length-map bs (need c sources)) in
@@ -157,9 +183,19 @@ room_exactly s c sources bs =
     ≡ sum_by nodes_of s.constraints + length bs * (3 + length sources) =
     sum_by-append nodes_of s.constraints more
     ∙ ap (λ n. sum_by nodes_of s.constraints + n) (needed_nodes c sources bs) in (
-      λ r. (subst (λ n. n ≤ most_constraints) count r.constraints, subst (λ n. n ≤ most_nodes) nodes r.nodes),
+      λ r. (
+        subst (λ n. n ≤ most_constraints) count r.constraints,
+        few_of_one s c sources bs r.each,
+        subst (λ n. n ≤ most_schema_nodes) nodes r.nodes,
+      ),
       λ t. record {
         constraints = subst (λ n. n ≤ most_constraints) (sym count) t.0;
-        nodes = subst (λ n. n ≤ most_nodes) (sym nodes) t.1;
+        each = both s c sources bs (λ d. node_count d.formula ≤ most_nodes) old
+            (λ b k.
+            let l = k.1 in
+            let few = t.1 (omega (arith, l)) in
+            let n = need_nodes c sources b in
+            omega (arith, few, n));
+        nodes = subst (λ n. n ≤ most_schema_nodes) (sym nodes) t.2;
       },
     )

@@ -8,7 +8,7 @@
 --     needs_text    a line for each of the constraints
 use Rattle.std.specs.Prelude.{ℕ, ◌<◌, ◌≤◌, List, ◌++◌, map, length, sum_by, AllPairs, Contains}
 use Rattle.olap_base.specs.Graph.{Graph, IsBottom}
-use Rattle.olap_base.specs.Limits.{most_constraints, most_nodes}
+use Rattle.olap_base.specs.Limits.{most_constraints, most_nodes, most_schema_nodes}
 use Rattle.olap_ast.specs.Findings.{IsUnsatisfiable}
 use Rattle.olap_ast.specs.Formula.{Formula, Formula.Implies, Formula.One, Formula.Reach}
 use Rattle.olap_ast.specs.Questions.{IsImplied}
@@ -51,7 +51,8 @@ AreEmptied s c sources bs =
 -- there are no more of them than the limits allow
 pub record HasRoom (s : Schema) : Type 0 where
   pub constraints : length s.constraints ≤ most_constraints
-  pub nodes : sum_by (λ c. node_count c.formula) s.constraints ≤ most_nodes
+  pub each : (c : Constraint) → Contains s.constraints c → node_count c.formula ≤ most_nodes
+  pub nodes : sum_by (λ c. node_count c.formula) s.constraints ≤ most_schema_nodes
 
 -- a line for each of the constraints
 abbrev pub needs_text : Graph → ℕ → List ℕ → List ℕ → List ℕ

@@ -6,19 +6,19 @@ use Rattle.std.proofs.Math.Decide.{dec_le}
 use Rattle.std.specs.Prelude.{◌⊎◌, Contains, codes, flat_map, sum_by}
 use native.Mathlib.Decide.{ℕ_discrete}
 use Rattle.olap_base.specs.Deciding.{contains_cases, contains_cons, dec_and, dec_iff}
-use Rattle.olap_base.specs.Limits.{most_constraints, most_nodes}
+use Rattle.olap_base.specs.Limits.{most_constraints, most_nodes, most_schema_nodes}
 use Rattle.olap_base.proofs.ListLemmas.{Contains-nil, contains_head}
 use Rattle.olap_ast.specs.Findings.{Finding.Unsatisfiable, IsUnsatisfiable}
 use Rattle.olap_ast.specs.Formula.{Formula, Formula.Not}
 use Rattle.olap_ast.specs.Frozen.{AreCandidates, Candidates}
 use Rattle.olap_ast.specs.Questions.{ImpliedExactlyIfNoneFrozen, IsImplied, SourcesHaveCandidates}
-use Rattle.olap_ast.specs.Schema.{Schema}
+use Rattle.olap_ast.specs.Schema.{Constraint, Schema}
 use Rattle.olap_ast.specs.Summarizable.{not_by_one}
 use Rattle.olap_ast.specs.Valid.{IsValidSchema, node_count}
 use Rattle.olap_ast.proofs.SameAtoms.{candidates_too}
 use Rattle.olap_exists.specs.Existing.{LeastFrozenExist}
 use Rattle.olap_exists.proofs.Counterexamples.{dec_bottom}
-use Rattle.olap_exists.proofs.Finite.{dec_not}
+use Rattle.olap_exists.proofs.Finite.{dec_each, dec_not}
 use Rattle.olap_exists.proofs.Listed.{AreListed, all_pairs}
 use Rattle.olap_needs.specs.Laws.{NeedsLeaveMembers}
 use Rattle.olap_needs.specs.Needs.{AreAscending, AreEmptied, AreNeeded, HasRoom, IsNeeded, by_one, needs_text, with_needs}
@@ -139,9 +139,13 @@ module _ (least : LeastFrozenExist) (implied : ImpliedExactlyIfNoneFrozen) (leav
 
 -- whether there is room for the constraints of a schema
 dec_room : (s : Schema) → Dec (HasRoom s)
-dec_room s = dec_iff (λ t. record { constraints = t.0; nodes = t.1 }) (λ r. (r.constraints, r.nodes))
+dec_room s =
+    dec_iff (λ t. record { constraints = t.0; each = t.1.0; nodes = t.1.1 })
+    (λ r. (r.constraints, (r.each, r.nodes)))
     (dec_and (dec_le (length s.constraints) most_constraints)
-    (dec_le (sum_by (λ c. node_count c.formula) s.constraints) most_nodes))
+    (dec_and (dec_each (λ (c : Constraint). node_count c.formula ≤ most_nodes)
+    (λ c. dec_le (node_count c.formula) most_nodes) s.constraints)
+    (dec_le (sum_by (λ c. node_count c.formula) s.constraints) most_schema_nodes)))
 
 -- the answer of `needs`
 abbrev NeedsAnswered : Schema → ℕ → List ℕ → Type 0

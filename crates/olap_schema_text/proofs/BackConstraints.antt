@@ -7,7 +7,7 @@ use Rattle.std.specs.List.{list_any}
 use Rattle.std.proofs.lemmas.Bool.{eqb-true, false_from_ne_true}
 use Rattle.std.proofs.lemmas.List.Sums.{fold-append, sum_by-append}
 use Rattle.olap_base.specs.Graph.{Graph, IsCategory, IsHierarchy}
-use Rattle.olap_base.specs.Limits.{most_constants, most_constraints, most_depth, most_nodes, most_text_bytes}
+use Rattle.olap_base.specs.Limits.{most_constants, most_constraints, most_depth, most_nodes, most_schema_nodes, most_text_bytes}
 use Rattle.olap_graph.specs.Lookups.{category_named, name_of_category}
 use Rattle.olap_ast.specs.Formula.{Comparison, Equality, Formula, comparisons, equalities}
 use Rattle.olap_ast.specs.Schema.{Constraint, Schema}
@@ -18,7 +18,7 @@ use Rattle.olap_grammar.specs.Machine.{the_formula}
 use Rattle.olap_grammar.specs.Words.{atoms_of}
 use Rattle.olap_grammar.proofs.ReaderLemmas.{formula_is_found}
 use Rattle.olap_grammar.proofs.Sound.{tighter}
-use Rattle.olap_schema_text.specs.Judging.{Above, constraint_read, form_read}
+use Rattle.olap_schema_text.specs.Judging.{Above, constraint_read, form_read, has_too_many_nodes}
 use Rattle.olap_grammar.specs.declared.tokens.Version.TheVariants as version
 use Rattle.olap_grammar.specs.Nodes.{nodes_of}
 use Rattle.olap_schema_text.specs.Tokens.{is_bad_number, is_long}
@@ -28,6 +28,7 @@ use Rattle.olap_schema_text.proofs.BackGraph.{lengths, stands}
 use Rattle.olap_schema_text.proofs.BackLengths.{AreShort, none_is_long}
 use Rattle.olap_schema_text.proofs.BackNumbers.{none_is_bad}
 use Rattle.olap_schema_text.proofs.BackTokens.{few_open, nodes_are}
+use Rattle.olap_schema_text.proofs.FormLemmas.{not_too_many}
 use Rattle.olap_schema_text.proofs.PrintFormula.{spelt_is_formula}
 use Rattle.olap_schema_text.proofs.PrintNames.{named}
 use Rattle.olap_schema_text.proofs.PrintTokens.{spelt}
@@ -94,13 +95,13 @@ first_numbers numbers c cs =
 
 -- the tokens of a printed formula pass all checks of its form
 form_is : (g : Graph) (h : IsHierarchy g) (r : ℕ) (l : IsCategory g r) (f : Formula) → IsFormulaAt g r f
-    → (before : ℕ) → before + node_count f ≤ most_nodes → depth_of f ≤ most_depth →
+    → (before : ℕ) → node_count f ≤ most_nodes → before + node_count f ≤ most_schema_nodes → depth_of f ≤ most_depth →
     form_read version.Two before (spelt g r f) ≡ Ok (written g r f)
 unfolding form_read
-form_is g h r l f v before few deep =
+form_is g h r l f v before few all deep =
     let nodes = nodes_are g r f in
-    let n : nat_lt most_nodes (before + nodes_of version.Two (spelt g r f)) ≡ false =
-    within before (nodes_of version.Two (spelt g r f)) (node_count f) nodes few in
+    let n : has_too_many_nodes before (nodes_of version.Two (spelt g r f)) ≡ false =
+    not_too_many before (nodes_of version.Two (spelt g r f)) (omega (arith, nodes, few)) (omega (arith, nodes, all)) in
     let o : opens_over 0 0 (spelt g r f) ≡ false = few_open g r f deep in
     let read : the_formula (atoms_of version.Two) (spelt g r f) ≡ Some (written g r f) =
     formula_is_found (atoms_of version.Two) (spelt g r f) (written g r f)
@@ -108,15 +109,12 @@ form_is g h r l f v before few deep =
     let level = written_depth g r f in
     let d : nat_lt most_depth (levels_of (written g r f)) ≡ false = grind (arith, level) in
     rw (n, o, read, d) refl
-  where
-    within : (a b c : ℕ) → b ≡ c → a + c ≤ most_nodes → nat_lt most_nodes (a + b) ≡ false
-    within a b c e l = grind arith
 
 -- a constraint's line adds it
 pub add_constraint : (s : Schema) → IsValidSchema s → AreShort s.graph
     → (done : List Constraint) (c : Constraint) (rest : List Constraint) (nodes : ℕ) (pairs : List Equality)
     (numbers : List Comparison) (lines : List ℕ) →
-    done ++ c ∷ rest ≡ s.constraints → nodes + nodes_in (c ∷ rest) ≤ most_nodes
+    done ++ c ∷ rest ≡ s.constraints → nodes + nodes_in (c ∷ rest) ≤ most_schema_nodes
     → length (pairs_with pairs (c ∷ rest)) + length (numbers_with numbers (c ∷ rest)) ≤ most_constants →
     constraint_read (ruled s.graph done nodes pairs numbers lines) version.Two (name_of_category s.graph c.root)
     (spelt s.graph c.root c.formula)
@@ -128,9 +126,10 @@ add_constraint s v short done c rest nodes pairs numbers lines e few_nodes few_p
     let at_root = v.formulas c there in
     let ts = spelt s.graph c.root c.formula in
     let sum = first_nodes c rest in
-    let fit : nodes + node_count c.formula ≤ most_nodes = omega (arith, sum, few_nodes) in
+    let fit : nodes + node_count c.formula ≤ most_schema_nodes = omega (arith, sum, few_nodes) in
     let form : form_read version.Two nodes ts ≡ Ok (written s.graph c.root c.formula) =
-    form_is s.graph v.hierarchy c.root declared.1 c.formula at_root nodes fit (v.depth_fits c there) in
+    form_is s.graph v.hierarchy c.root declared.1 c.formula at_root nodes (v.nodes_fit c there) fit
+    (v.depth_fits c there) in
     let ln = short c.root declared.1 in
     let sn : nat_lt most_text_bytes (length (name_of_category s.graph c.root)) ≡ false = grind (arith) in
     let sl : list_any is_long ts ≡ false =

@@ -4,7 +4,7 @@ use Rattle.std.specs.Prelude.{Contains, Ok, flat_map, fold}
 use Rattle.std.proofs.lemmas.List.Elements.{Contains-get_or}
 use Rattle.olap_base.specs.Deciding.{contains_cons}
 use Rattle.olap_base.specs.Graph.{Edge, IsCategory, IsCategoryName}
-use Rattle.olap_base.specs.Limits.{most_constants, most_nodes}
+use Rattle.olap_base.specs.Limits.{most_constants, most_schema_nodes}
 use Rattle.olap_graph.specs.Lookups.{name_of_category}
 use Rattle.olap_ast.specs.Formula.{Comparison, Equality, comparisons, equalities}
 use Rattle.olap_ast.specs.Schema.{Constraint, Schema}
@@ -46,7 +46,7 @@ module _ (s : Schema) (v : IsValidSchema s) where
   -- ---- from the last lines to the first
 
   constraints_back : (todo done : List Constraint) (n nodes : ℕ) (pairs : List Equality) (numbers : List Comparison)
-      (lines : List ℕ) → done ++ todo ≡ s.constraints → nodes + nodes_in todo ≤ most_nodes
+      (lines : List ℕ) → done ++ todo ≡ s.constraints → nodes + nodes_in todo ≤ most_schema_nodes
       → length (pairs_with pairs todo) + length (numbers_with numbers todo) ≤ most_constants
       → AreTexts (atoms_in todo) →
       Ends (ruled s.graph done nodes pairs numbers lines) n (map (constraint_text s.graph) todo) s
@@ -88,7 +88,7 @@ module _ (s : Schema) (v : IsValidSchema s) where
   edges_back t [] done n lines e =
       ap (λ es. text_ended (lines_on (Ok (growing s.graph.names s.graph.numbers es lines)) n
       (map (constraint_text s.graph) s.constraints))) (sym (append-nil done) ∙ e)
-      ∙ constraints_back s.constraints [] n 0 [] [] lines refl (let f = v.nodes_fit in omega (arith, f))
+      ∙ constraints_back s.constraints [] n 0 [] [] lines refl (let f = v.all_nodes_fit in omega (arith, f))
       v.constants_fit t
   edges_back t (x ∷ todo) done n lines e =
       let there : Contains s.graph.edges x = rw e at (stands done x todo) in

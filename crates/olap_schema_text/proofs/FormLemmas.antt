@@ -1,9 +1,12 @@
 -- What a reader of tokens says is what they are read as.
 --     same_answer    whatever the formula is
-use Rattle.std.proofs.Common.{◌≡◌, Bool, true, false, cond, Option, None, Some, Ok, Err, nat_le, nat_lt, refl, arith, codes}
-use Rattle.olap_base.specs.Limits.{most_depth}
+--     few_alone, few_in_all, not_too_many    a formula hasn't too many nodes exactly if it has few, by itself and in all
+use Rattle.std.proofs.Common.{◌≡◌, ◌≤◌, ◌+◌, ℕ, Bool, true, false, cond, Option, None, Some, Ok, Err, nat_le, nat_lt, refl, arith, codes}
+use Rattle.std.proofs.lemmas.Bool.{le-ltb, ltb-false, or_from, or_parts}
+use Rattle.olap_base.specs.Limits.{most_depth, most_nodes, most_schema_nodes}
 use Rattle.olap_grammar.specs.Answering.{formula_answer}
 use Rattle.olap_grammar.specs.Forms.{Form, depth_of}
+use Rattle.olap_schema_text.specs.Judging.{has_too_many_nodes}
 use Rattle.olap_schema_text.specs.Reading.{form_answer}
 use Rattle.olap_schema_text.specs.Resolving.{given}
 
@@ -18,3 +21,17 @@ same_answer (Some f) = go (nat_le (depth_of f) most_depth) refl
         → cond (nat_lt most_depth (depth_of f)) (Err (codes "TooDeep")) (Ok f) ≡ form_answer (formula_answer (Some f))
     go true e = let m : nat_lt most_depth (depth_of f) ≡ false = grind (arith, e) in rw (e, m) refl
     go false e = let m : nat_lt most_depth (depth_of f) ≡ true = grind (arith, e) in rw (e, m) refl
+
+-- a formula that hasn't too many nodes has few by itself
+pub few_alone : (before n : ℕ) → has_too_many_nodes before n ≡ false → n ≤ most_nodes
+few_alone before n h = ltb-false most_nodes n (or_parts _ _ h).0
+
+-- and few with those on the lines above
+pub few_in_all : (before n : ℕ) → has_too_many_nodes before n ≡ false → before + n ≤ most_schema_nodes
+few_in_all before n h = ltb-false most_schema_nodes (before + n) (or_parts _ _ h).1
+
+-- one that has few, by itself and with those, hasn't too many
+pub not_too_many : (before n : ℕ) → n ≤ most_nodes → before + n ≤ most_schema_nodes
+    → has_too_many_nodes before n ≡ false
+not_too_many before n few all =
+    or_from _ _ (le-ltb most_nodes n few) (le-ltb most_schema_nodes (before + n) all)

@@ -2,10 +2,10 @@
 --     many_nodes, too_deep, bad_form    the fault of the formula, by what was counted
 --     unversioned, no_constraint, no_formula    the fault of the line
 --     no_question    the fault of the question
-use Rattle.std.proofs.Common.{◌≡◌, ◌≤◌, ◌<◌, ◌+◌, ◌++◌, ◌∷◌, ◌∙◌, true, false, ℕ, suc, List, length, nat_lt, Option, None, Some, Err, refl, sym, ap, subst, arith}
+use Rattle.std.proofs.Common.{◌≡◌, ◌≤◌, ◌<◌, ◌+◌, ◌-◌, ◌++◌, ◌∷◌, ◌∙◌, true, false, ℕ, suc, List, length, Option, None, Some, Err, refl, sym, ap, subst, arith, inl, inr}
 use Rattle.std.specs.Borrow.{Bor}
 use Rattle.std.specs.Prelude.{is_some, unwrap_or, codes}
-use Rattle.std.proofs.lemmas.Bool.{le-ltb, lt-ltb}
+use Rattle.std.proofs.lemmas.Bool.{cases_lt, lt-ltb, or_left}
 use Rattle.std.proofs.lemmas.List.{length-append}
 use Rattle.olap_ast.specs.Schema.{Schema}
 use Rattle.olap_base.specs.Limits.{most_nodes}
@@ -14,6 +14,7 @@ use Rattle.olap_grammar.specs.Forms.{Form}
 use Rattle.olap_grammar.specs.Keeping.{Begins, BeginsFound, IsTallyOf, Kept}
 use Rattle.olap_grammar.specs.Machine.{the_formula}
 use Rattle.olap_grammar.specs.Nodes.{nodes_behind, nodes_of}
+use Rattle.olap_grammar.specs.Tallying.{counted_nodes}
 use Rattle.olap_grammar.specs.Words.{atoms_of}
 use Rattle.olap_grammar.specs.declared.tallying.Tally.{Tally}
 use Rattle.olap_grammar.specs.declared.tokens.Token.{Token}
@@ -23,12 +24,13 @@ use Rattle.olap_grammar.specs.declared.tokens.Version.{Version}
 use Rattle.olap_grammar.specs.declared.tokens.Version.TheVariants as version
 use Rattle.olap_grammar.proofs.FewTokens.{few_tokens}
 use Rattle.olap_grammar.proofs.ReaderLemmas.{found_is_formula}
-use Rattle.olap_schema_text.specs.Judging.{Above, form_read, question_cut, statement_read, tokens_read, version_at}
+use Rattle.olap_schema_text.specs.Judging.{Above, form_read, has_too_many_nodes, question_cut, statement_read, tokens_read, version_at}
 use Rattle.olap_schema_text.specs.Reading.{IsTallyBehind, said}
 use Rattle.olap_schema_text.specs.Statements as says
 use Rattle.olap_schema_text.specs.Statements.{Statement, statement_of}
 use Rattle.olap_schema_text.specs.declared.statements.Statement.{Statement as Said}
 use Rattle.olap_schema_text.specs.declared.statements.Statement.TheVariants as statement
+use Rattle.olap_schema_text.proofs.FormLemmas.{few_alone}
 use Rattle.olap_schema_text.proofs.StatementLemmas.{IsSaid, is_said, long_says, longer}
 
 -- ---- constraints
@@ -64,30 +66,36 @@ tally_behind v y ts root us f h =
 module _ (v : Version) (before front : ℕ) (y : Tally) (ts : List Token)
     (behind : IsTallyBehind v front y ts)
   where
-    nodes_too_many : front ≤ 3 → most_nodes + front < before + y.nodes → most_nodes < before + nodes_of v ts
-    nodes_too_many f l = let few = behind.few in omega (arith, f, l, few)
+    -- where not all nodes were counted, the formula has too many by itself
+    both_many : front ≤ 3 → counted_nodes ≤ y.nodes
+        → has_too_many_nodes before (y.nodes - front) ≡ has_too_many_nodes before (nodes_of v ts)
+    both_many f l =
+        let few = behind.few in
+        or_left _ _ (lt-ltb most_nodes (y.nodes - front) (omega (arith, f, l)))
+        ∙ sym (or_left _ _ (lt-ltb most_nodes (nodes_of v ts) (omega (arith, f, l, few))))
 
-    pub many_nodes : front ≤ 3 → most_nodes + front < before + y.nodes
+    -- so what was counted says whether it has too many
+    same_test : front ≤ 3 → has_too_many_nodes before (y.nodes - front) ≡ has_too_many_nodes before (nodes_of v ts)
+    same_test f = elim (cases_lt y.nodes counted_nodes) [
+      | inl l ↦ ap (has_too_many_nodes before) (let e = behind.nodes l in omega (arith, e))
+      | inr l ↦ both_many f l
+    ]
+
+    pub many_nodes : front ≤ 3 → has_too_many_nodes before (y.nodes - front) ≡ true
         → form_read v before ts ≡ Err (codes "TooManyNodes")
     unfolding form_read
-    many_nodes f l =
-        let t : nat_lt most_nodes (before + nodes_of v ts) ≡ true =
-        lt-ltb most_nodes (before + nodes_of v ts) (nodes_too_many f l) in
-        rw t refl
+    many_nodes f t = rw (sym (same_test f) ∙ t) refl
 
-    few_nodes : front ≤ 3 → before + y.nodes ≤ most_nodes + front → before + nodes_of v ts ≤ most_nodes
-    few_nodes f l = let e = behind.nodes (omega (arith, f, l)) in omega (arith, f, l, e)
+    few_test : front ≤ 3 → has_too_many_nodes before (y.nodes - front) ≡ false
+        → has_too_many_nodes before (nodes_of v ts) ≡ false
+    few_test f t = sym (same_test f) ∙ t
 
-    few_test : front ≤ 3 → before + y.nodes ≤ most_nodes + front
-        → nat_lt most_nodes (before + nodes_of v ts) ≡ false
-    few_test f l = le-ltb most_nodes (before + nodes_of v ts) (few_nodes f l)
-
-    pub too_deep : front ≤ 3 → before + y.nodes ≤ most_nodes + front → y.too_deep ≡ true
+    pub too_deep : front ≤ 3 → has_too_many_nodes before (y.nodes - front) ≡ false → y.too_deep ≡ true
         → form_read v before ts ≡ Err (codes "TooDeep")
     unfolding form_read
-    too_deep f l d = rw (few_test f l, sym behind.too_deep ∙ d) refl
+    too_deep f t d = rw (few_test f t, sym behind.too_deep ∙ d) refl
 
-    none_formed : before + nodes_of v ts ≤ most_nodes → opens_over 0 0 ts ≡ false → most_tokens most_nodes < length ts
+    none_formed : nodes_of v ts ≤ most_nodes → opens_over 0 0 ts ≡ false → most_tokens most_nodes < length ts
         → the_formula (atoms_of v) ts ≡ None
     none_formed l d long = go (the_formula (atoms_of v) ts) refl
       where
@@ -97,12 +105,13 @@ module _ (v : Version) (before front : ℕ) (y : Tally) (ts : List Token)
             let few = few_tokens v (atoms_of v) ts f (found_is_formula (atoms_of v) ts f e) d in
             absurd (omega (arith, l, few, long))
 
-    pub bad_form : front ≤ 3 → before + y.nodes ≤ most_nodes + front → y.too_deep ≡ false
+    pub bad_form : front ≤ 3 → has_too_many_nodes before (y.nodes - front) ≡ false → y.too_deep ≡ false
         → most_tokens most_nodes < length ts → form_read v before ts ≡ Err (codes "BadForm")
     unfolding form_read
-    bad_form f l d long =
+    bad_form f t d long =
+        let few = few_test f t in
         let shallow : opens_over 0 0 ts ≡ false = sym behind.too_deep ∙ d in
-        rw (few_test f l, shallow, none_formed (few_nodes f l) shallow long) refl
+        rw (few, shallow, none_formed (few_alone before (nodes_of v ts) few) shallow long) refl
 
 -- ---- the line
 

@@ -93,7 +93,8 @@ whole_is_readable a p s h = go (first_stuck a.graph) refl h
       names_fit = p.limits.short_names;
       edges_fit = p.limits.few_edges;
       constraints_fit = p.constraints.few;
-      nodes_fit = rw p.constraints.nodes_are p.constraints.few_nodes;
+      nodes_fit = λ c h. (p.constraints.each c h).nodes;
+      all_nodes_fit = rw p.constraints.nodes_are p.constraints.few_nodes;
       depth_fits = λ c h. (p.constraints.each c h).depth;
       constants_fit = rw (p.constraints.pairs_are, p.constraints.numbers_are) p.constraints.few_pairs;
     }

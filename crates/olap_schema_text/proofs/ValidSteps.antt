@@ -15,7 +15,7 @@ use Rattle.olap_ast.specs.Schema.{Constraint}
 use Rattle.olap_ast.specs.Valid.{IsFormulaAt, depth_of, distinct_numbers, distinct_pairs, node_count, with_number, with_pair}
 use Rattle.olap_base.specs.Reaching.{is_category_name, is_category_name_is}
 use Rattle.olap_base.specs.Graph.{Graph, IsCategory, IsDeclared, category_count, is_number}
-use Rattle.olap_base.specs.Limits.{most_categories, most_constants, most_constraints, most_depth, most_edges, most_nodes, most_text_bytes}
+use Rattle.olap_base.specs.Limits.{most_categories, most_constants, most_constraints, most_depth, most_edges, most_nodes, most_schema_nodes, most_text_bytes}
 use Rattle.olap_graph.specs.Building.{IsUnfinished, IsWithinLimits, category_refusal, edge_refusal, with_edge, with_kind}
 use Rattle.olap_graph.specs.Lookups.{category_named, edge_between}
 use Rattle.olap_graph.proofs.GrowthLemmas.{limits-with_category, limits-with_edge, unfinished-with_category, unfinished-with_edge}
@@ -30,6 +30,7 @@ use Rattle.olap_grammar.proofs.ReaderLemmas.{found_is_formula}
 use Rattle.olap_schema_text.specs.Judging.{Above, form_read}
 use Rattle.olap_schema.specs.Readable.{AreTexts}
 use Rattle.olap_schema_text.proofs.StepLemmas.{AddsCategory, AddsConstraint, AddsEdge, given_ok, ok_is, passed_on}
+use Rattle.olap_schema_text.proofs.FormLemmas.{few_alone, few_in_all}
 use Rattle.olap_schema_text.proofs.FoundWords.{found_are_spelt}
 use Rattle.olap_schema_text.proofs.ResolvedLemmas.{resolved_is_sound}
 use Rattle.olap_schema_text.proofs.ValidFormulas.{IsWithin, form_nodes, grown_is_valid}
@@ -39,6 +40,7 @@ use Rattle.olap_schema_text.proofs.ValidNames.{name_at}
 pub record IsSoundConstraint (g : Graph) (c : Constraint) : Type 0 where
   pub declared : IsDeclared g c.root
   pub formula : IsFormulaAt g c.root c.formula
+  pub nodes : node_count c.formula ≤ most_nodes
   pub depth : depth_of c.formula ≤ most_depth
   pub texts : AreTexts (equalities c.formula)
 
@@ -60,7 +62,7 @@ pub record AreSound (g : Graph) (cs : List Constraint) (nodes : ℕ) (pairs : Li
   pub each : (c : Constraint) → Contains cs c → IsSoundConstraint g c
   pub few : length cs ≤ most_constraints
   pub nodes_are : nodes_in cs ≡ nodes
-  pub few_nodes : nodes ≤ most_nodes
+  pub few_nodes : nodes ≤ most_schema_nodes
   pub pairs_are : pairs_in cs ≡ pairs
   pub numbers_are : numbers_in cs ≡ numbers
   pub few_pairs : length pairs + length numbers ≤ most_constants
@@ -78,6 +80,7 @@ sound_within : (g h : Graph) (c : Constraint) → IsWithin g h → IsSoundConstr
 sound_within g h c w s = record {
   declared = (s.declared.0, w.categories c.root s.declared.1);
   formula = grown_is_valid g h w c.root c.formula s.formula;
+  nodes = s.nodes;
   depth = s.depth;
   texts = s.texts;
 }
@@ -201,7 +204,8 @@ edge_kept a b child parent c d s p =
 
 -- what a formula that was read is
 pub record IsFormed (v : Version) (before : ℕ) (ts : List Token) (f : Form) : Type 0 where
-  pub few : before + nodes_of v ts ≤ most_nodes
+  pub few : nodes_of v ts ≤ most_nodes
+  pub few_in_all : before + nodes_of v ts ≤ most_schema_nodes
   pub formed : IsFormula (atoms_of v) 1 ts f
   pub depth : levels_of f ≤ most_depth
 
@@ -216,7 +220,8 @@ formed v before ts f h =
     let u = passed_on (nat_lt most_depth (levels_of t.0)) _ _ f t.2 in
     let same : f ≡ t.0 = ok_is _ _ u.1 in
     record {
-      few = ltb-false most_nodes (before + nodes_of v ts) many.0;
+      few = few_alone before (nodes_of v ts) many.0;
+      few_in_all = few_in_all before (nodes_of v ts) many.0;
       formed = found_is_formula (atoms_of v) ts f (subst (λ x. the_formula (atoms_of v) ts ≡ Some x) (sym same) t.1);
       depth = ltb-false most_depth (levels_of f) (rw same u.0);
     }
@@ -233,7 +238,8 @@ folded_on add atoms cs c =
 -- one constraint more, with its nodes, pairs and numbers
 one_more : (g : Graph) (cs : List Constraint) (nodes : ℕ) (pairs : List Equality) (numbers : List Comparison)
     (c : Constraint) (more : ℕ) → AreSound g cs nodes pairs numbers
-    → IsSoundConstraint g c → length cs < most_constraints → node_count c.formula ≡ more → nodes + more ≤ most_nodes
+    → IsSoundConstraint g c → length cs < most_constraints → node_count c.formula ≡ more
+    → nodes + more ≤ most_schema_nodes
     → length (fold with_pair pairs (equalities c.formula)) + length (fold with_number numbers (comparisons c.formula))
     ≤ most_constants
     → AreSound g (cs ++ c ∷ []) (nodes + more) (fold with_pair pairs (equalities c.formula))
@@ -271,6 +277,7 @@ constraint_kept a b v name ts f root s p =
     let sound : IsSoundConstraint a.graph (record { root = root; formula = f }) = record {
       declared = (eqb-false root 0 s.below_all, (name_at a.graph name root s.root_is).0);
       formula = good.valid;
+      nodes = omega (arith, good.nodes, counted, read.few);
       depth = rw good.levels level;
       texts = good.texts;
     } in
@@ -281,7 +288,7 @@ constraint_kept a b v name ts f root s p =
           one_more a.graph a.constraints a.nodes a.pairs a.numbers (record { root = root; formula = f })
           (nodes_of v ts) p.constraints sound
           (leb-false most_constraints (length a.constraints) s.few)
-          (good.nodes ∙ counted) read.few
+          (good.nodes ∙ counted) read.few_in_all
           (ltb-false most_constants
           (length (fold with_pair a.pairs (equalities f)) + length (fold with_number a.numbers (comparisons f)))
           s.few_pairs);

@@ -10,7 +10,7 @@ use Rattle.std.specs.List.{list_any, range_with_len}
 use Rattle.olap_base.specs.Reaching.{category_reaches}
 use Rattle.olap_base.specs.Graph.{Graph}
 use Rattle.olap_base.specs.declared.refusals.Fault.{Fault}
-use Rattle.olap_base.specs.Limits.{most_constants, most_constraints, most_depth, most_nodes, most_text_bytes}
+use Rattle.olap_base.specs.Limits.{most_constants, most_constraints, most_depth, most_nodes, most_schema_nodes, most_text_bytes}
 use Rattle.olap_graph.specs.Building.{all_alone, category_refusal, edge_refusal, with_edge, with_kind}
 use Rattle.olap_graph.specs.Lookups.{name_of_category}
 use Rattle.olap_graph.specs.declared.refusals.CategoryFault.{CategoryFault}
@@ -93,10 +93,14 @@ edge_read a child parent =
 
 -- ---- formulas
 
+-- a formula of so many nodes has too many, by itself or with those on the lines above
+abbrev pub has_too_many_nodes : ℕ → ℕ → Bool
+has_too_many_nodes before nodes = nat_lt most_nodes nodes || nat_lt most_schema_nodes (before + nodes)
+
 -- the formula over words of the tokens by the version, with so many nodes on the lines above
 unfoldable pub form_read : Version → ℕ → List Token → Result Form (List ℕ)
 form_read v before ts =
-    if nat_lt most_nodes (before + nodes_of v ts) then Err (codes "TooManyNodes")
+    if has_too_many_nodes before (nodes_of v ts) then Err (codes "TooManyNodes")
     else if opens_over 0 0 ts then Err (codes "TooDeep")
     else given (the_formula (atoms_of v) ts) (codes "BadForm")
     (λ f. if nat_lt most_depth (depth_of f) then Err (codes "TooDeep") else Ok f)

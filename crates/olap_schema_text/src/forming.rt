@@ -1,5 +1,5 @@
 // Reading a formula over words, before any name is looked up.
-ghost use Rattle.olap_base.specs.Limits.{most_nodes};
+ghost use Rattle.olap_base.specs.Limits.{most_schema_nodes};
 ghost use Rattle.olap_grammar.specs.Nodes.{nodes_of};
 ghost use Rattle.olap_schema_text.specs.Judging.{form_read, formula_read};
 ghost use Rattle.olap_schema_text.specs.Kinds.{name_of_kind};
@@ -7,8 +7,8 @@ ghost use Rattle.olap_schema_text.specs.Reading.{ReadsForm, form_kind as form_ki
 ghost use Rattle.std.specs.Prelude.{◌≡◌, ◌≤◌, ◌+◌, IfOk};
 
 use crate::SchemaKind;
-use crate::measuring::{has_bad_number, has_long_text, nodes, opens_too_deep};
-use olap_base::{MOST_NODES, MOST_TEXT_BYTES, Refusal};
+use crate::measuring::{has_bad_number, has_long_text, has_too_many_nodes, nodes, opens_too_deep};
+use olap_base::{MOST_TEXT_BYTES, Refusal};
 use olap_grammar::{Form, FormFault, Token, Version, formula};
 use std::alloc::Global;
 
@@ -27,13 +27,13 @@ fn form_kind(fault: FormFault) -> SchemaKind
 fn read_form(
     alloc: Global,
     version: Version,
-    before: u16,
+    before: u32,
     tokens: &[Token],
 ) -> Result<Form, Refusal<SchemaKind>>
     ensures read { ReadsForm result (form_read version before tokens.now) }
-    ensures few { IfOk result (λ f. before + nodes_of version tokens.now ≤ most_nodes) }
+    ensures few { IfOk result (λ f. before + nodes_of version tokens.now ≤ most_schema_nodes) }
 {
-    if before as usize + nodes(version, tokens) > MOST_NODES {
+    if has_too_many_nodes(before, nodes(version, tokens)) {
         return Err(Refusal::Kind(SchemaKind::TooManyNodes));
     }
     if opens_too_deep(tokens) {
@@ -50,12 +50,12 @@ fn read_form(
 pub(crate) fn checked_form(
     alloc: Global,
     version: Version,
-    before: u16,
+    before: u32,
     name: &[u8],
     tokens: &[Token],
 ) -> Result<Form, Refusal<SchemaKind>>
     ensures read { ReadsForm result (formula_read version before name.now tokens.now) }
-    ensures few { IfOk result (λ f. before + nodes_of version tokens.now ≤ most_nodes) }
+    ensures few { IfOk result (λ f. before + nodes_of version tokens.now ≤ most_schema_nodes) }
 {
     let form = read_form(alloc, version, before, tokens)?;
     if name.len() > MOST_TEXT_BYTES || has_long_text(tokens) {

@@ -32,7 +32,7 @@ pub enum SchemaKind {
     TooManyEdges,
     /// More than `MOST_CONSTRAINTS`.
     TooManyConstraints,
-    /// More than `MOST_NODES` nodes of formulas.
+    /// More than `MOST_NODES` nodes in a formula, or `MOST_SCHEMA_NODES` in all.
     TooManyNodes,
     /// More than `MOST_DEPTH` brackets are open, or the formula is deeper.
     TooDeep,

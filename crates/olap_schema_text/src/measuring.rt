@@ -4,7 +4,7 @@ ghost use Rattle.olap_grammar.specs.Brackets.{most_tokens, opens_over};
 ghost use Rattle.olap_grammar.specs.Nodes.{nodes_of};
 ghost use Rattle.olap_grammar.specs.declared.tokens.Token.{Token as Tokens};
 ghost use Rattle.olap_grammar.specs.declared.tokens.Version.{Version as Versions};
-ghost use Rattle.olap_schema_text.specs.Judging.{form_read};
+ghost use Rattle.olap_schema_text.specs.Judging.{form_read, has_too_many_nodes as has_too_many_nodes_of};
 ghost use Rattle.olap_schema_text.specs.Kinds.{name_of_kind};
 ghost use Rattle.olap_schema_text.specs.Reading.{IsTallyBehind};
 ghost use Rattle.olap_grammar.specs.Words.{pieces_of};
@@ -13,7 +13,7 @@ ghost use Rattle.std.specs.List.{list_any};
 ghost use Rattle.std.specs.Prelude.{◌≡◌, ◌≤◌, ◌<◌, List, Err, length};
 
 use crate::SchemaKind;
-use olap_base::{MOST_DEPTH, MOST_NODES, MOST_TEXT_BYTES};
+use olap_base::{MOST_DEPTH, MOST_NODES, MOST_SCHEMA_NODES, MOST_TEXT_BYTES};
 use olap_grammar::{Mark, Tally, Token, Version, first_piece, is_number_token, marks};
 use olap_numerals::number;
 
@@ -21,14 +21,21 @@ use olap_numerals::number;
 /// the three of a word with a string, and the three before it.
 pub(crate) const MOST_TOKENS: usize = (2 * MOST_DEPTH as usize + 3) * MOST_NODES + 3;
 
+/// Whether a formula of so many nodes has too many, by itself or with those on the lines above.
+pub(crate) fn has_too_many_nodes(before: u32, nodes: usize) -> bool
+    ensures { result ≡ has_too_many_nodes_of before nodes }
+{
+    nodes > MOST_NODES || before as usize + nodes > MOST_SCHEMA_NODES
+}
+
 /// Why tokens that are more than a formula may have are none, with so many nodes on the lines above, and so many that
 /// were counted in front of the formula.
-pub(crate) fn long_form_fault(before: u16, front: u16, tally: &Tally) -> SchemaKind
+pub(crate) fn long_form_fault(before: u32, front: u16, tally: &Tally) -> SchemaKind
     requires { front ≤ 3 }
     ensures { (v : Versions) (ts : List Tokens) → IsTallyBehind v front tally.now ts
         → most_tokens most_nodes < length ts → form_read v before ts ≡ Err (name_of_kind result) }
 {
-    if before as usize + tally.nodes as usize > MOST_NODES + front as usize {
+    if has_too_many_nodes(before, tally.nodes.saturating_sub(front) as usize) {
         return SchemaKind::TooManyNodes;
     }
     if tally.too_deep {

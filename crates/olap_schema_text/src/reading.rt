@@ -2,7 +2,7 @@
 ghost use Rattle.olap_ast.specs.Trees.{formula_of};
 ghost use Rattle.olap_base.specs.Reaching.{is_category_name};
 ghost use Rattle.olap_base.specs.Graph.{IsCategory, IsCategoryName};
-ghost use Rattle.olap_base.specs.Limits.{most_nodes, most_text_bytes};
+ghost use Rattle.olap_base.specs.Limits.{most_nodes, most_schema_nodes, most_text_bytes};
 ghost use Rattle.olap_base.specs.Refusing.{IsCause};
 ghost use Rattle.olap_graph.specs.Building.{category_refusal, edge_refusal, with_kind};
 ghost use Rattle.olap_schema_text.specs.Judging.{Above, category_kind as category_kind_of, category_read, constraint_added, constraint_read, edge_added, edge_kind as edge_kind_of, edge_read, line_read, nothing_above, root_read, tokens_read, version_at};
@@ -42,7 +42,7 @@ pub(crate) struct Reading {
     pub(crate) builder: GraphBuilder,
     pub(crate) category_lines: Vec<u64>,
     pub(crate) constraints: Vec<Constraint>,
-    pub(crate) nodes: u16,
+    pub(crate) nodes: u32,
     pub(crate) pairs: Vec<Pair>,
     pub(crate) numbers: Vec<NumberPair>,
 }
@@ -174,8 +174,8 @@ fn read_edge(reading: &mut Reading, child: &[u8], parent: &[u8]) -> Result<(), R
 }
 
 /// Puts a constraint of so many nodes behind the others.
-fn push_constraint(reading: &mut Reading, root: CatId, nodes: u16, f: Formula) -> Result<(), Memory>
-    requires { (above_of reading.old).nodes + nodes ≤ most_nodes }
+fn push_constraint(reading: &mut Reading, root: CatId, nodes: u32, f: Formula) -> Result<(), Memory>
+    requires { (above_of reading.old).nodes + nodes ≤ most_schema_nodes }
     ensures { let old = above_of reading.old in
         let added : Entry = record { root = root.0; formula = formula_of f } in
         OnOk result (above_of reading.new
@@ -195,12 +195,12 @@ fn add_constraint(
     tokens: &[Token],
     f: Formula,
 ) -> Result<(), Refusal<SchemaKind>>
-    requires { (above_of reading.old).nodes + nodes_of version tokens.now ≤ most_nodes }
+    requires { (above_of reading.old).nodes + nodes_of version tokens.now ≤ most_schema_nodes }
     ensures { Reads result (above_of reading.new)
         (constraint_added (above_of reading.old) version root.0 tokens.now (formula_of f)) }
 {
     add_few_pairs(alloc, &mut reading.pairs, &mut reading.numbers, &f)?;
-    push_constraint(reading, root, nodes(version, tokens) as u16, f)?;
+    push_constraint(reading, root, nodes(version, tokens) as u32, f)?;
     Ok(())
 }
 
