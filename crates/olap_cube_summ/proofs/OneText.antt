@@ -40,7 +40,8 @@ the_same (s ∷ ss) (p ∷ ps) (q ∷ qs) a =
     let root = one.root in
     let instance = one.instance in
     let place = one.place in
-    let line = same_line s.graph p.candidates q.candidates p.bottom q.bottom p.frozen q.frozen root one.value one.names in
+    let line = same_line s.graph p.candidates q.candidates p.bottom q.bottom p.frozen q.frozen root one.value
+    one.names in
     let rest = the_same ss ps qs a.1 in
     record {
       bottoms = λ i. root i ∷ rest.bottoms i;

@@ -40,7 +40,8 @@ module _ (gs : List Graph) (is : List Instance) (done : List (List (List ℕ))) 
       → (left : List (List (List ℕ))) → cube_facts_read_within most_facts gs is ((done ++ row ∷ []) ++ left)
       ≡ Err (record { at = 1; kind = kind.BadHeader })
   header-fault h b d e left =
-      let no : begins_with (header (length is)) (row ∷ left) ≡ false = sym (header_is row (header (length is)) b d) ∙ e in
+      let no : begins_with (header (length is)) (row ∷ left) ≡ false = sym (header_is row (header (length is)) b d)
+      ∙ e in
       rw h.none (rw no refl)
 
   module _ (h : IsGoing gs is done facts) where

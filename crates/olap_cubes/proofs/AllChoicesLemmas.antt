@@ -56,7 +56,8 @@ same_codes (s ∷ ss) (p ∷ ps) [] a = absurd a
 same_codes (s ∷ ss) (p ∷ ps) (q ∷ qs) a = let r = same_codes ss ps qs a.1 in λ i. a.0.codes i ∷ r i
 
 -- and the instances
-pub same_instances : (ss : List Schema) (ps qs : List Chosen) → AreSame ss ps qs → instances_of ss ps ≡ instances_of ss qs
+pub same_instances : (ss : List Schema) (ps qs : List Chosen) → AreSame ss ps qs → instances_of ss ps
+    ≡ instances_of ss qs
 same_instances [] [] [] a = refl
 same_instances [] [] (q ∷ qs) a = absurd a
 same_instances [] (p ∷ ps) qs a = absurd a
@@ -132,7 +133,8 @@ module _ (lists : FrozenAreListed) (exist : CandidatesExist) where
       this : Frozen → Chosen
       this f = record { bottom = n; candidates = k; frozen = f }
 
-      go : Dec (IsBottom s.graph n) → (ps : List Chosen) × AreHere s c n ps → (ps : List Chosen) × AreHere s c (suc n) ps
+      go : Dec (IsBottom s.graph n) → (ps : List Chosen) × AreHere s c n ps → (ps : List Chosen)
+          × AreHere s c (suc n) ps
       go (no m) t = (
         t.0,
         record {
@@ -176,7 +178,8 @@ module _ (lists : FrozenAreListed) (exist : CandidatesExist) where
   -- ---- all dimensions
 
   -- there is a list of them
-  pub all_choices : (ss : List Schema) (cs : List ℕ) → All IsValidSchema ss → (all : List (List Chosen)) × AreAll ss cs all
+  pub all_choices : (ss : List Schema) (cs : List ℕ) → All IsValidSchema ss → (all : List (List Chosen))
+      × AreAll ss cs all
   all_choices [] [] v = (
     [] ∷ [],
     record {

@@ -63,7 +63,8 @@ categories_named schemas names = Some []
 abbrev pub tuple_word : List Schema → ℕ → List ℕ → Order (List ℕ)
 tuple_word schemas at word =
     if length (pieces_of comma word) == length schemas
-    then ok_or (categories_named schemas (pieces_of comma word)) (fault_text (codes "word") at (codes "UnknownCategory"))
+    then ok_or (categories_named schemas (pieces_of comma word))
+    (fault_text (codes "word") at (codes "UnknownCategory"))
     else refused (fault_text (codes "word") at (codes "BadForm"))
 
 -- a tuple that is none of those before it

@@ -82,7 +82,8 @@ fn of_target(
     told(alloc, cube, target, &sources)
 }
 
-/// Whether the target that the word of this number names is summarizable from the sources that the words behind it name.
+/// Whether the target that the word of this number names is summarizable from the sources that the words behind it
+/// name.
 fn of_cube(
     alloc: Global,
     at: u64,

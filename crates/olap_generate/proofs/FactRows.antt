@@ -165,7 +165,8 @@ module _ (seed size : ℕ) where
     facts-read = map-numbers (fact_read (made seed size)) (fact_row seed) (fact_of seed size) 1 size (λ k l u.
         let e : (k - 1) + 1 ≡ k = omega arith in
         let named : member_named (made seed size) (field (fact_row seed k) 0) ≡ Some (k - 1) =
-        ap (λ n. member_named (made seed size) (field (fact_row seed n) 0)) (sym e) ∙ store-named (k - 1) (omega arith) in
+        ap (λ n. member_named (made seed size) (field (fact_row seed n) 0)) (sym e)
+        ∙ store-named (k - 1) (omega arith) in
         row-read (made seed size) (fact_row seed k) (k - 1) (value seed k) named (value-spelled seed k))
 
     header-there : begins_with header (fact_rows seed size) ≡ true

@@ -84,7 +84,8 @@ needs_stay_readable s c sources bs r t cs n room =
         depth_fits = both s c sources bs (λ d. depth_of d.formula ≤ most_depth) r.valid.depth_fits
             (λ b k. few_levels c sources);
         constants_fit = subst (λ xs. pair_count xs
-            (flat_map (λ d. comparisons d.formula) (with_needs s c sources bs).constraints) ≤ most_constants) (sym texts)
+            (flat_map (λ d. comparisons d.formula) (with_needs s c sources bs).constraints) ≤ most_constants)
+            (sym texts)
             (subst (λ ys. pair_count (flat_map (λ d. equalities d.formula) s.constraints) ys ≤ most_constants)
             (sym numbers) r.valid.constants_fit);
       };

@@ -68,7 +68,8 @@ module _ (g : Graph) (h : IsHierarchy g) (r : ℕ) (l : IsCategory g r) where
         (written g r f)
     spelt_is_formula Meaning.Formula.Truth v = looser (plain (of_atom true_means))
     spelt_is_formula Meaning.Formula.Falsity v = looser (plain (of_atom false_means))
-    spelt_is_formula (Meaning.Formula.Path cs) v = looser (plain (of_atom (path_means g h r cs l (steps_are g h r cs v.1) v.0)))
+    spelt_is_formula (Meaning.Formula.Path cs) v = looser
+        (plain (of_atom (path_means g h r cs l (steps_are g h r cs v.1) v.0)))
     spelt_is_formula (Meaning.Formula.Reach d) v = looser (plain (of_atom (reach_means g h r d l v)))
     spelt_is_formula (Meaning.Formula.Via d e) v = looser (plain (of_atom (via_means g h r d e l v.0 v.1)))
     spelt_is_formula (Meaning.Formula.Equals d k) v = looser (equal (of_atom (equals_means g h r d k l v.0)))
@@ -76,28 +77,36 @@ module _ (g : Graph) (h : IsHierarchy g) (r : ℕ) (l : IsCategory g r) where
         looser (compared op (number_token n) (token_digits n) (of_atom (compares_means g h r d op n l v.0 v.2)))
     spelt_is_formula (Meaning.Formula.Not f) v = negated (spelt_is_formula f v)
     spelt_is_formula (Meaning.Formula.And f k) v =
-        spelt_join (atoms_of version.Two) joint.And (spelt g r f) (spelt g r k) (written g r f) (written g r k) (spelt_is_formula f v.0)
+        spelt_join (atoms_of version.Two) joint.And (spelt g r f) (spelt g r k) (written g r f) (written g r k)
+        (spelt_is_formula f v.0)
         (spelt_is_formula k v.1)
     spelt_is_formula (Meaning.Formula.Or f k) v =
-        spelt_join (atoms_of version.Two) joint.Or (spelt g r f) (spelt g r k) (written g r f) (written g r k) (spelt_is_formula f v.0)
+        spelt_join (atoms_of version.Two) joint.Or (spelt g r f) (spelt g r k) (written g r f) (written g r k)
+        (spelt_is_formula f v.0)
         (spelt_is_formula k v.1)
     spelt_is_formula (Meaning.Formula.Implies f k) v =
-        spelt_join (atoms_of version.Two) joint.Implies (spelt g r f) (spelt g r k) (written g r f) (written g r k) (spelt_is_formula f v.0)
+        spelt_join (atoms_of version.Two) joint.Implies (spelt g r f) (spelt g r k) (written g r f) (written g r k)
+        (spelt_is_formula f v.0)
         (spelt_is_formula k v.1)
     spelt_is_formula (Meaning.Formula.Iff f k) v =
-        spelt_join (atoms_of version.Two) joint.Iff (spelt g r f) (spelt g r k) (written g r f) (written g r k) (spelt_is_formula f v.0)
+        spelt_join (atoms_of version.Two) joint.Iff (spelt g r f) (spelt g r k) (written g r f) (written g r k)
+        (spelt_is_formula f v.0)
         (spelt_is_formula k v.1)
     spelt_is_formula (Meaning.Formula.Xor f k) v =
-        spelt_join (atoms_of version.Two) joint.Xor (spelt g r f) (spelt g r k) (written g r f) (written g r k) (spelt_is_formula f v.0)
+        spelt_join (atoms_of version.Two) joint.Xor (spelt g r f) (spelt g r k) (written g r f) (written g r k)
+        (spelt_is_formula f v.0)
         (spelt_is_formula k v.1)
     spelt_is_formula (Meaning.Formula.One Meaning.Terms.End) v = looser (listed none)
     spelt_is_formula (Meaning.Formula.One (Meaning.Terms.More f fs)) v =
-        looser (listed (some (spelt_items (atoms_of version.Two) (spelt g r f) (spelt_rest g r fs) (written g r f) (all_written g r fs)
+        looser (listed (some (spelt_items (atoms_of version.Two) (spelt g r f) (spelt_rest g r fs) (written g r f)
+        (all_written g r fs)
         (spelt_is_formula f v.0) (spelt_rests fs v.1))))
 
     -- what follows the first part of a list: nothing, or a comma and the others
-    spelt_rests : (fs : Terms) → AreFormulasAt g r fs → IsRest (atoms_of version.Two) (spelt_rest g r fs) (all_written g r fs)
+    spelt_rests : (fs : Terms) → AreFormulasAt g r fs
+        → IsRest (atoms_of version.Two) (spelt_rest g r fs) (all_written g r fs)
     spelt_rests Meaning.Terms.End v = over
     spelt_rests (Meaning.Terms.More f fs) v =
-        goes (spelt_items (atoms_of version.Two) (spelt g r f) (spelt_rest g r fs) (written g r f) (all_written g r fs) (spelt_is_formula f v.0)
+        goes (spelt_items (atoms_of version.Two) (spelt g r f) (spelt_rest g r fs) (written g r f)
+        (all_written g r fs) (spelt_is_formula f v.0)
         (spelt_rests fs v.1))

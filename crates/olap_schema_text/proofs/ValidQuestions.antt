@@ -67,7 +67,8 @@ module _ (s : Schema) (readable : IsReadable s) (root : ℕ) (declared : IsDecla
         let name = name_of_category s.graph root in
         let t = goes_on_ok (formula_read version.Two 0 name ts) _ f h in
         let u = goes_on_ok (resolved s.graph root t.0) _ f t.2 in
-        let w = passed_on (nat_lt most_constants (pair_count (all_equalities s u.0) (all_comparisons s u.0))) _ _ f u.2 in
+        let w = passed_on (nat_lt most_constants (pair_count (all_equalities s u.0) (all_comparisons s u.0))) _ _ f
+        u.2 in
         let same : f ≡ u.0 = ok_is _ _ w.1 in
         good ts e t.0 (form_is_read version.Two 0 name ts t.0 t.1)
         (subst (λ x. resolved s.graph root t.0 ≡ Ok x) (sym same) u.1) (rw same w.0)

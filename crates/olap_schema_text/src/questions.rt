@@ -90,7 +90,8 @@ fn at_root(
     form: &Form,
 ) -> Result<Formula, Refusal<SchemaKind>>
     requires { IsDeclared (schema_of schema.now).graph root.0 }
-    ensures { let s = schema_of schema.now in ReadsFormula result (goes_on (resolved s.graph root.0 (form_of form.now)) (λ f.
+    ensures { let s = schema_of schema.now in ReadsFormula result
+        (goes_on (resolved s.graph root.0 (form_of form.now)) (λ f.
         if nat_lt most_constants (pair_count (all_equalities s f) (all_comparisons s f))
         then Err (codes "TooManyConstants") else Ok f)) }
 {

@@ -233,7 +233,8 @@ fn rooted(
 ) -> Result<(CatId, Formula), Refusal<SchemaKind>>
     ensures { let above = above_of reading.now in
         (next : ℕ → Meaning → Result Above (List ℕ)) →
-        let read = root_read above name.now (λ root. goes_on (resolved above.graph root (form_of form.now)) (next root)) in
+        let read = root_read above name.now
+        (λ root. goes_on (resolved above.graph root (form_of form.now)) (next root)) in
         MatchResult result (λ r. read ≡ next r.0.0 (formula_of r.1)) (λ e. IsRefusedAs e read) }
 {
     let root = root_of(reading, name)?;

@@ -1,9 +1,9 @@
 //! Public calls of the crates that search, on small inputs and with memory to spare, and the search against the plain
 //! one, which tries all choices of edges and names, on small schemas drawn at random.
 //!
-//! A module is named after the crate that it calls; `comparing` compares the two searches, and `drawing` draws what they
-//! are asked. Nothing is proved here of a crate beyond that the tests keep what its calls require; what is proved of it
-//! stands in the crate.
+//! A module is named after the crate that it calls; `comparing` compares the two searches, and `drawing` draws what
+//! they are asked. Nothing is proved here of a crate beyond that the tests keep what its calls require; what is
+//! proved of it stands in the crate.
 #![tactic(auto)]
 
 #[cfg(test)]

@@ -9,6 +9,7 @@ use Rattle.olap_cube_summ.proofs.reaching.count_ways.Given as goal
 abbrev pub invariant-sources : goal.invariant-sources
 invariant-sources l = record {
   few : l.ways ≤ l.source-index;
-  counted : HoldsTimes (λ t. ReachBy (schemas_of l.cube) l.founds t (tuple_of l.target)) (tuples_in (take l.source-index l.sources))
+  counted : HoldsTimes (λ t. ReachBy (schemas_of l.cube) l.founds t (tuple_of l.target))
+      (tuples_in (take l.source-index l.sources))
       l.ways;
 }

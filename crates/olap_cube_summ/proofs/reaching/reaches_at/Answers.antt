@@ -93,7 +93,8 @@ returns c =
     ) in
     let at = here c.args.source.now c.items-from.result.now c.args.i (record { 0 = 0 }) c.items-from.ensures l in
     let to = here c.args.target.now c.items-to.result.now c.args.i (record { 0 = 0 }) c.items-to.ensures m in
-    let told : IsTrue c.is_way.result ↔ IsWay room.rows.items f.frozen.root.0 (get_or (tuple_of c.args.target.now) c.args.i 0)
+    let told : IsTrue c.is_way.result ↔ IsWay room.rows.items f.frozen.root.0
+    (get_or (tuple_of c.args.target.now) c.args.i 0)
     (get_or (tuple_of c.args.source.now) c.args.i 0) =
     subst (λ rows. IsTrue c.is_way.result ↔ IsWay rows f.frozen.root.0
     (get_or (tuple_of c.args.target.now) c.args.i 0) (get_or (tuple_of c.args.source.now) c.args.i 0))

@@ -11,8 +11,10 @@ use Rattle.olap_cube_summ.proofs.ways.pattern.Given as goal
 
 abbrev pub invariant-sources : goal.invariant-sources
 invariant-sources l = record {
-  has : (x : ℕ) → IsMemberOf (shape_of (schema_of l.schema) (chosen_of (named_by l.candidates l.frozen))) l.frozen.root.0 x
-      → HasWaysTo l.k (shape_of (schema_of l.schema) (chosen_of (named_by l.candidates l.frozen))) x (target_in l.question)
+  has : (x : ℕ) → IsMemberOf
+      (shape_of (schema_of l.schema) (chosen_of (named_by l.candidates l.frozen))) l.frozen.root.0 x
+      → HasWaysTo l.k (shape_of (schema_of l.schema) (chosen_of (named_by l.candidates l.frozen))) x
+      (target_in l.question)
       (sources_in l.question) l.pattern;
   small : l.pattern < 2 ^ l.k;
   room : length l.room.rows.items ≡ category_count (schema_of l.schema).graph;

@@ -16,7 +16,8 @@ returns-in_err-legal-clause-step g c =
 
 pub returns-clause-step : goal.returns-clause-step
 returns-clause-step g c =
-    as_read c.in_ok-column.column (subst (λ (i : Instance). FileStep g.L.Library c.args.lib.now c.dimension_legal.new.lib
+    as_read c.in_ok-column.column
+    (subst (λ (i : Instance). FileStep g.L.Library c.args.lib.now c.dimension_legal.new.lib
     (legal_file (schema_of c.args.schema.now) (numbered (codes "instance") c.args.dimension) c.args.file.now) (λ j. j)
     (Ok i)) (sym (ap (λ (a : Ascent). a.instance) c.in_ok-column.ensures)) c.in_ok-legal.ensures.step)
 

@@ -18,7 +18,8 @@ use Rattle.olap_cubes.proofs.rolling.rolled_up_on.Goals as goal
 
 pub returns-in_err-roller-clause-fault : goal.returns-in_err-roller-clause-fault
 returns-in_err-roller-clause-fault g c =
-    no-memory (graphs_of c.args.graphs.now) (instances_in c.args.columns.now) (g.L.Library.rest c.args.lib.now) c.from_residual.result
+    no-memory (graphs_of c.args.graphs.now) (instances_in c.args.columns.now)
+    (g.L.Library.rest c.args.lib.now) c.from_residual.result
     c.from_residual.ensures.1
 
 pub returns-in_err-roller-2-clause-fault : goal.returns-in_err-roller-2-clause-fault

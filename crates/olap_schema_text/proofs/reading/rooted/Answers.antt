@@ -11,5 +11,6 @@ pub returns-in_err-root : goal.returns-in_err-root
 returns-in_err-root c = λ next.
     let above = above_of c.args.reading.now in
     let why : IsRefusedAs c.in_err-root.field-0.0 (root_read above c.args.name.now
-    (λ root. goes_on (resolved above.graph root (form_of c.args.form.now)) (next root))) = c.in_err-root.ensures.read _ in
+    (λ root. goes_on (resolved above.graph root (form_of c.args.form.now)) (next root))) =
+    c.in_err-root.ensures.read _ in
     search rules

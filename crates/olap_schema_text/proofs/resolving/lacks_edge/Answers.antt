@@ -17,7 +17,8 @@ categories-preserved c =
     let ds = c.in-Some.others.now in
     let first : c.categories.left.now ≡ d ∷ ds = search rules in
     let joined : is_some (edge_between g child d.0) ≡ true = search rules in
-    let there = subst (λ (xs : List CatId). All (λ (x : CatId). IsCategory g x.0) xs) first c.categories.invariant.there in
+    let there = subst (λ (xs : List CatId). All (λ (x : CatId). IsCategory g x.0) xs) first
+    c.categories.invariant.there in
     record {
       so_far =
           c.categories.invariant.so_far
