@@ -14,6 +14,7 @@ mod RollerLemmas
 mod StoredNumbersLemmas
 mod StoredRowsLemmas
 mod StoreReadingLemmas
+mod GuessLemmas
 mod JudgingLemmas
 mod StoreTextLemmas
 pub mod FileOrderLemmas

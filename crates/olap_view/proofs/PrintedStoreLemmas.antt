@@ -3,7 +3,7 @@
 --     said-views               what the records say of a member is its row
 --     printed-stores           the views are read as they were
 --     direct-views             so are direct views
-use Rattle.std.proofs.Common.{◌≡◌, ◌≢◌, ◌+◌, ◌<◌, ◌≤◌, ◌==◌, ◌&&◌, ◌||◌, ◌++◌, ◌∷◌, ◌∙◌, [], ℕ, zero, suc, Bool, true, false, not, cond, List, drop, length, get_or, map, filter, find, flat_map, decimal, Option, Some, None, Ok, is_none, nat_le, option_map, option_and_then, unwrap_or, if◌then◌else◌, refl, sym, ap, subst, arith, append_assoc, zero-add}
+use Rattle.std.proofs.Common.{◌≡◌, ◌≢◌, ◌+◌, ◌<◌, ◌≤◌, ◌==◌, ◌&&◌, ◌||◌, ◌++◌, ◌∷◌, ◌∙◌, [], ℕ, zero, suc, Bool, true, false, not, cond, List, drop, length, get_or, map, filter, find, flat_map, decimal, Option, Some, None, Ok, is_none, nat_le, option_map, option_and_then, unwrap_or, if◌then◌else◌, refl, sym, ap, subst, arith, append_assoc}
 use Rattle.std.specs.Prelude.{All, AllPairs}
 use Rattle.std.specs.List.{list_any}
 use Rattle.std.specs.Option.{option_or}
@@ -14,13 +14,11 @@ use Rattle.std.proofs.lemmas.List.{append-nil, get_or-map, length-append, length
 use Rattle.std.proofs.lemmas.List.Elements.{All-map, filter-append}
 use Rattle.std.proofs.lemmas.List.Folds.{find-append, list_any-append, list_any_none, map_fixed}
 use Rattle.olap_base.specs.Graph.{Graph, IsCategory, IsHierarchy}
-use Rattle.olap_base.specs.Instance.{Instance, IsInstance, IsMember, IsMemberOf, category_of, member_at, nobody}
+use Rattle.olap_base.specs.Instance.{Instance, IsInstance, IsMember, IsMemberOf, category_of, member_at}
 use Rattle.olap_base.specs.Limits.{most_views}
-use Rattle.olap_base.specs.Naming.{place_of}
 use Rattle.olap_base.specs.Views.{Row, View, direct_view, direct_views, row_at, total_of_facts}
 use Rattle.olap_graph.specs.Lookups.{category_named, name_of_category}
 use Rattle.olap_instance.proofs.CategoryNames.{named-category}
-use Rattle.olap_instance.proofs.PlaceFacts.{first-at}
 use Rattle.olap_records.specs.Faults.{field, first_fault, or_after}
 use Rattle.olap_view.specs.StoreLaws.{DirectViewsAreReadBack, PrintedStoresAreRead}
 use Rattle.olap_view.specs.StoreReading.{Record, said_of}
@@ -32,6 +30,7 @@ use Rattle.olap_view.specs.declared.kinds.StoreKind.{StoreKind}
 use Rattle.olap_view.specs.declared.kinds.StoreKind.TheVariants as kind
 use Rattle.olap_view.proofs.FileOrderLemmas.{ascend-on, each-in-order, later-rows, rows-back, store-of}
 use Rattle.olap_view.proofs.FittingLemmas.{direct_stored}
+use Rattle.olap_view.proofs.GuessLemmas.{member-found}
 use Rattle.olap_view.proofs.JudgingLemmas.{last-check}
 use Rattle.olap_view.proofs.StoreLawLemmas.{printed-numbers}
 use Rattle.olap_view.proofs.StoreReadingLemmas.{any-more, begun-more, begun-same, find-none, or-nothing}
@@ -113,16 +112,6 @@ module _ (g : Graph) (i : Instance) (hierarchy : IsHierarchy g) (sound : IsInsta
   named : (c : ℕ) → IsCategory g c → unwrap_or (category_named g (name_of_category g c)) 0 ≡ c
   named c k = ap (λ o. unwrap_or o 0) (named-category g hierarchy c k)
 
-  -- a member's id is that member's
-  member-found : (m : ℕ) → IsMember i m → place_of (member_at i m).id (map (λ x. x.id) i) ≡ Some m
-  member-found m l =
-      let n = length-map i (λ x. x.id) in
-      let at : (j : ℕ) → j < length i → get_or (map (λ x. x.id) i) j [] ≡ (member_at i j).id =
-      λ j k. get_or-map (λ x. x.id) i j nobody [] k in
-      first-at (member_at i m).id (map (λ x. x.id) i) 0 m (omega arith) (at m l) (λ j b e.
-      let same : j ≡ m = sound.ids_differ j m (omega arith) l (sym (at j (omega arith)) ∙ e) in
-      omega arith) ∙ ap (λ (x : ℕ). Some x) (zero-add m)
-
   -- a row's record begins no view
   is-row : (c : ℕ) (r : Row) → IsStored r → is_beginning (record_in c r) ≡ false
   is-row c r h =
@@ -136,7 +125,7 @@ module _ (g : Graph) (i : Instance) (hierarchy : IsHierarchy g) (sound : IsInsta
       → is_row_of i y (record_in c r) ≡ (r.member == y)
   row-of c y r h m =
       ap (λ b. not b && (member_number i (field (record_in c r) 1) == y)) (is-row c r h)
-      ∙ ap (λ o. unwrap_or o 0 == y) (member-found r.member m)
+      ∙ ap (λ o. unwrap_or o 0 == y) (member-found i sound r.member m)
 
   -- the first record of a view passes
   beginning-passes : (before : List Record) (c : ℕ) → IsCategory g c
@@ -153,7 +142,8 @@ module _ (g : Graph) (i : Instance) (hierarchy : IsHierarchy g) (sound : IsInsta
       → fault before (record_in c r) ≡ None
   row-passes before c r k h m above new =
       let x = record_in c r in
-      let number : member_number i (field x 1) ≡ r.member = ap (λ o. unwrap_or o 0) (member-found r.member m.0) in
+      let number : member_number i (field x 1) ≡ r.member =
+      ap (λ o. unwrap_or o 0) (member-found i sound r.member m.0) in
       let same : (category_of i (member_number i (field x 1)) == category_number g x) ≡ true =
       ap (λ y. category_of i y == category_number g x) number ∙ ap (λ d. category_of i r.member == d) (named c k)
       ∙ (Decides-eqb (category_of i r.member) c).1 m.1 in
@@ -164,7 +154,7 @@ module _ (g : Graph) (i : Instance) (hierarchy : IsHierarchy g) (sound : IsInsta
       (category_of i (member_number i (field x 1)) == category_number g x) (is_none (summary_read x))
       (list_any (is_row_of i (member_number i (field x 1))) before)
       (ap (λ y. list_any (λ d. d == y) (begun g before)) (named c k) ∙ above)
-      (ap is_none (member-found r.member m.0)) same (ap is_none (printed-numbers i (name_of_category g c) r h))
+      (ap is_none (member-found i sound r.member m.0)) same (ap is_none (printed-numbers i (name_of_category g c) r h))
       ∙ ap (λ y. if list_any (is_row_of i y) before then Some kind.DuplicateRow else None) number
       ∙ ap (λ b. if b then Some kind.DuplicateRow else None) new)
 

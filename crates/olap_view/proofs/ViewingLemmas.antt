@@ -42,16 +42,6 @@ list_step {A} h p y b o xs e t q =
     go true None t q = rw (t, ← q) (sym (append-nil xs))
     go true (Some x) t q = rw (t, ← q) refl
 
--- one more that gives no item, whether it passes or not
-pub list_skip : {A : Type 0} (h : ℕ → Option A) (p : ℕ → Bool) (y : ℕ) (xs : List A)
-    → xs ≡ filter_map h (filter p (range_with_len 0 y)) → h y ≡ None
-    → xs ≡ filter_map h (filter p (range_with_len 0 (y + 1)))
-list_skip h p y xs e q = go (p y) refl
-  where
-    go : (b : Bool) → p y ≡ b → xs ≡ filter_map h (filter p (range_with_len 0 (y + 1)))
-    go false t = list_step h p y false None xs e t (sym q)
-    go true t = list_step h p y true None xs e t (sym q)
-
 -- equal results for all items give equal lists of results
 pub filter_map_same : {A B : Type 0} (h k : A → Option B) (xs : List A) → ((x : A) → Contains xs x → h x ≡ k x)
     → filter_map h xs ≡ filter_map k xs

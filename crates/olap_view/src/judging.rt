@@ -9,6 +9,7 @@ ghost use Rattle.olap_view.specs.StoreReading.{IsNew, IsRowFor, Record, Says, Te
 ghost use Rattle.olap_view.specs.StoredRows.{IsPlaced, stored_at};
 ghost use Rattle.olap_view.specs.StoreText.{beginning_fault, begun, category_number, is_beginning as begins, row_fault, store_fault};
 
+use crate::guessing::Guess;
 use crate::numbers::summary;
 use crate::stored_rows::StoredRows;
 use crate::tables::is_among;
@@ -60,6 +61,7 @@ fn row(
     instance: &Instance,
     rows: &Rows,
     table: &StoredRows,
+    guess: Guess,
     c: CatId,
 ) -> Result<(MemberId, Summary), StoreKind>
     requires width { length rows.now.row ≡ 6 }
@@ -75,7 +77,7 @@ fn row(
     if !is_among(&table.categories, c) {
         return Err(StoreKind::NoView);
     }
-    let Some(member) = instance.find(rows.field(1)) else {
+    let Some(member) = guess.member(instance, rows.field(1)) else {
         return Err(StoreKind::UnknownMember);
     };
     if instance.category(member).0 != c.0 {
@@ -96,6 +98,7 @@ pub(crate) fn judge(
     instance: &Instance,
     rows: &Rows,
     table: &StoredRows,
+    guess: Guess,
 ) -> Result<Entry, StoreKind>
     requires { length table.now.places.items ≡ length instance.now }
     ensures new { IfOk result (IsNew table.now) }
@@ -107,14 +110,14 @@ pub(crate) fn judge(
     if rows.len() != 6 {
         return Err(StoreKind::FieldCount);
     }
-    let Some(c) = graph.category(rows.field(0)) else {
+    let Some(c) = guess.category(graph, rows.field(0)) else {
         return Err(StoreKind::UnknownCategory);
     };
     if is_beginning(rows) {
         beginning(&table.categories, c)?;
         return Ok(Entry::Beginning(c));
     }
-    let (member, summary) = row(instance, rows, table, c)?;
+    let (member, summary) = row(instance, rows, table, guess, c)?;
     Ok(Entry::Row(member, summary))
 }
 

@@ -8,6 +8,7 @@
 
 mod columns;
 mod fitting;
+mod guessing;
 mod judging;
 mod kinds;
 mod laws;

@@ -81,8 +81,8 @@ impl StoredRows {
         let mut rows = Vec::new(alloc);
         'rows: for y in 0..instance.members() {
             let member = MemberId(y);
-            if let Some(row) = row(member, self.at(member)) {
-                if instance.category(member).0 == c.0 {
+            if instance.category(member).0 == c.0 {
+                if let Some(row) = row(member, self.at(member)) {
                     rows.push(row)?;
                 }
             }

@@ -10,6 +10,7 @@ ghost use Rattle.olap_view.specs.StoreText.{header, records_of_store, store_faul
 ghost use Rattle.olap_view.specs.Stores.{IsInFileOrder, IsSoundStore};
 ghost use Rattle.olap_records.specs.Tables.{begins_with};
 
+use crate::guessing::Guess;
 use crate::judging::{enter, judge};
 use crate::printing::print_rows;
 use crate::stored_rows::StoredRows;
@@ -117,9 +118,13 @@ fn read_rows(
         (λ e. IsStoreFaultOf (first_fault (store_fault graph.now instance.now) [] rows.old.left) e) }
 {
     let mut at = 2;
+    let mut guess = Guess::new();
     'rows: while rows.advance()? {
-        match judge(graph, instance, rows, table) {
-            Ok(entry) => enter(table, entry)?,
+        match judge(graph, instance, rows, table, guess) {
+            Ok(entry) => {
+                guess = guess.after(entry);
+                enter(table, entry)?;
+            }
             Err(kind) => return Err(Refusal::Kind(Fault { at, kind })),
         }
         at += 1;
@@ -173,8 +178,9 @@ fn read_left(
 /// The stored views that a text tells, or the text's first fault. The rows of each view stand in the order of their
 /// members, whatever their order in the text.
 ///
-/// Linear in the text: each record takes a look-up of a category's name and one of a member's id. It takes four bytes
-/// for each member of the instance, and memory for each row. `Memory`: out of memory.
+/// Linear in the text: a record takes a look-up of a category's name and one of a member's id, or where it names the
+/// category of the record before and the member behind that one's, a comparison of each. It takes four bytes for each
+/// member of the instance, and memory for each row. `Memory`: out of memory.
 pub fn read_store(
     alloc: Global,
     graph: &Graph,

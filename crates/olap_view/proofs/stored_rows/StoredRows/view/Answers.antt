@@ -1,5 +1,5 @@
 -- One member more, which gives a row or none.
-use Rattle.std.proofs.Common.{◌≡◌, ◌<◌, ℕ, ◌∷◌, [], List, length, true, false, Option, Some, refl, ap, sym, subst, ◌∙◌, arith}
+use Rattle.std.proofs.Common.{◌≡◌, ◌<◌, ℕ, ◌∷◌, [], List, length, true, false, Option, Some, None, refl, ap, sym, subst, ◌∙◌, arith}
 use Rattle.std.specs.Prelude.{◌==◌, All, filter, filter_map}
 use Rattle.std.specs.List.{range_with_len}
 use Rattle.std.specs.Option.{option_map}
@@ -10,22 +10,23 @@ use Rattle.olap_base.specs.Views.{Row, row_at}
 use Rattle.olap_view.specs.Seen.{row_of, rows_of}
 use Rattle.olap_view.specs.StoredRows.{stored_at}
 use Rattle.olap_view.specs.declared.views.Row as told
-use Rattle.olap_view.proofs.ViewingLemmas.{fails, list_skip, list_step, none_of, passes}
+use Rattle.olap_view.proofs.ViewingLemmas.{fails, list_step, none_of, passes}
 use Rattle.olap_view.proofs.stored_rows.StoredRows.view.Goals as goal
-use Rattle.olap_view.proofs.stored_rows.StoredRows.view.Goals.{in-Some+then-category-c+in_ok-push, in-Some+else-category-c, in_default}
+use Rattle.olap_view.proofs.stored_rows.StoredRows.view.Goals.{then-category-c+in-Some+in_ok-push, then-category-c+in_default, else-category-c}
 
 pub rows-preserved : goal.rows-preserved
 rows-preserved c =
     let i = c.args.instance.now in
-    let h : ℕ → Option Row = λ y. row_at y (stored_at c.args.self.now y) in
+    let t = c.args.self.now in
+    let h : ℕ → Option Row = λ y. row_at y (stored_at t y) in
     let p = λ (y : ℕ). category_of i y == c.args.c.0 in
     let y = c.rows.y in
     let old = rows_of c.rows.rows.items in
     let members = c.rows.invariant.members in
     let inside : c.rows.y < length c.args.instance.now = let t = c.rows-test.true in let e =
     c.members-y-end.ensures.count in omega arith in
-    elim c.match-row.branch [
-      | in-Some+then-category-c+in_ok-push w ↦
+    elim c.if-category-c.branch [
+      | then-category-c+in-Some+in_ok-push w ↦
           let items = w.in_ok-push.ensures.items in
           let new = w.in-Some.row in
           let at : w.in-Some.row.member.0 < length c.args.instance.now = let e = w.in-Some.ensures.member in
@@ -34,24 +35,25 @@ rows-preserved c =
             so_far = ap (λ v. rows_of v.items) w.rows-is ∙ ap rows_of items
                 ∙ map-append row_of c.rows.rows.items (new ∷ [])
                 ∙ list_step h p y true (Some (row_of new)) old c.rows.invariant.so_far
-                (passes w.category.result.0 (category_of i y) c.args.c.0 w.category.ensures w.if-category-c.true)
-                (w.in-Some.ensures.row ∙ ap (row_at y) c.at.ensures);
+                (passes c.category.result.0 (category_of i y) c.args.c.0 c.category.ensures w.if-category-c.true)
+                (w.in-Some.ensures.row ∙ ap (row_at y) w.at.ensures);
             members = subst (λ (l : List told.Row). All (λ r. r.member.0 < length i) l)
                 (sym (ap (λ v. v.items) w.rows-is ∙ items))
                 (All-push (λ (r : told.Row). r.member.0 < length i) c.rows.rows.items new members at);
           }
-      | in-Some+else-category-c w ↦ record {
+      | then-category-c+in_default w ↦ record {
         so_far = ap (λ v. rows_of v.items) w.rows-is
-            ∙ list_step h p y false (h y) old c.rows.invariant.so_far
-            (fails w.category.result.0 (category_of i y) c.args.c.0 w.category.ensures w.if-category-c.false) refl;
+            ∙ list_step h p y true None old c.rows.invariant.so_far
+            (passes c.category.result.0 (category_of i y) c.args.c.0 c.category.ensures w.if-category-c.true)
+            (sym (ap (option_map row_of) (none_of w.row.result w.in_default.not-Some)) ∙ w.row.ensures.row
+            ∙ ap (row_at y) w.at.ensures);
         members = subst (λ (l : List told.Row). All (λ r. r.member.0 < length i) l)
             (sym (ap (λ v. v.items) w.rows-is)) members;
       }
-      | in_default w ↦ record {
+      | else-category-c w ↦ record {
         so_far = ap (λ v. rows_of v.items) w.rows-is
-            ∙ list_skip h p y old c.rows.invariant.so_far
-            (sym (ap (row_at y) c.at.ensures) ∙ sym c.row.ensures.row
-            ∙ ap (option_map row_of) (none_of c.row.result w.in_default.not-Some));
+            ∙ list_step h p y false (h y) old c.rows.invariant.so_far
+            (fails c.category.result.0 (category_of i y) c.args.c.0 c.category.ensures w.if-category-c.false) refl;
         members = subst (λ (l : List told.Row). All (λ r. r.member.0 < length i) l)
             (sym (ap (λ v. v.items) w.rows-is)) members;
       }
