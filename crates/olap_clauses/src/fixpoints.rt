@@ -1,4 +1,6 @@
 // How far a trail needs no second look for what it forces. Nothing here is trusted.
+use crate::trails::Trail;
+use olap_pool::Lit;
 use std::alloc::{AllocError, Global};
 
 /// At which lengths of the trail all stood on it that the clauses force, the least first.
@@ -22,7 +24,8 @@ impl Fixpoints {
 
     /// All is forced at this length, if that was seen.
     pub(crate) fn note(&mut self, length: usize, was_seen: bool) {
-        if was_seen && self.lengths.len() < self.lengths.capacity() {
+        let is_new = self.lengths.last() != Some(&length);
+        if was_seen && is_new && self.lengths.len() < self.lengths.capacity() {
             self.lengths.push(length).unwrap();
         }
     }
@@ -52,10 +55,13 @@ impl Fixpoints {
         self.lengths.clear();
     }
 
-    /// There are other clauses, unless they are the same.
-    pub(crate) fn forget_unless(&mut self, same: bool) {
-        if !same {
+    /// There is one clause more, whose literals are false and in the order of the trail. Leaves the lengths at which two
+    /// of them or more were open.
+    pub(crate) fn keep_before(&mut self, trail: &Trail, clause: &[Lit]) {
+        if clause.len() < 2 {
             self.forget();
+        } else {
+            let _ = self.cut(trail.place(clause[clause.len() - 2].variable));
         }
     }
 }

@@ -1,6 +1,7 @@
 // A solver: clauses, a trail, and the search over them.
 ghost use Rattle.std.specs.Prelude.{◌≡◌, ℕ, ◌+◌, ◌<◌, ◌≤◌, Bool, true, false, List, [], ◌∷◌, ◌++◌, length, take, vec_capacity, IfOk, IsSome};
 ghost use Rattle.olap_clauses.specs.declared.trails.Step.{Step};
+ghost use Rattle.olap_clauses.specs.Admits.{Grown};
 ghost use Rattle.olap_clauses.specs.Standing.{Agrees, AgreesDecisions};
 ghost use Rattle.olap_clauses.specs.Trails.{values_of, IsOpen};
 ghost use Rattle.olap_pool.specs.Pools.{AreTrue, clause_count};
@@ -148,7 +149,8 @@ impl Solver {
     /// Copies what another solver was given, and what it learned on few levels, where this one has no clauses.
     pub(crate) fn fill_from(&mut self, other: &Solver)
         ensures trail { self.new.trail ≡ self.old.trail }
-        ensures clauses { (v : ℕ → Bool) → AreTrue v other.now.pool → AreTrue v self.old.pool → AreTrue v self.new.pool }
+        ensures clauses { (v : ℕ → Bool) → AreTrue v other.now.pool → AreTrue v self.old.pool
+            → AreTrue v self.new.pool }
     {
         if self.pool.len() == 0 {
             copy_some(&other.pool, &mut self.pool, other.given, other.pool.len());
@@ -280,6 +282,7 @@ impl Solver {
         ensures follows { (v : ℕ → Bool) → admits v self.old → Agrees v (trail_of self.old)
             → Agrees v (trail_of self.new) }
         ensures longer { (more : List Step) × (trail_of self.new ≡ trail_of self.old ++ more) }
+        ensures grown { Grown (trail_of self.old) (trail_of self.new) }
         ensures variables { variables_of self.new ≡ variables_of self.old }
         ensures admits { (v : ℕ → Bool) → admits v self.old → admits v self.new }
     {
@@ -329,6 +332,7 @@ impl Solver {
         ensures admits { (v : ℕ → Bool) → admits v self.old → admits v self.new }
     {
         self.last = learn(&self.trail, &mut self.pool, &mut self.notes, id);
+        self.fixpoints.keep_before(&self.trail, &self.notes.work);
         self.notes.scores.age();
         self.effort = self.effort.with_conflict(self.notes.work.len());
     }
@@ -461,16 +465,13 @@ impl Solver {
     {
         let floor = self.trail.len();
         self.done = self.fixpoints.cut(floor);
-        let before = self.effort.conflicts;
         let outcome = self.run(judge, state, budget, floor);
         self.undo(floor);
-        self.fixpoints
-            .forget_unless(self.effort.conflicts == before);
         outcome
     }
 
-    /// Drops about half of what was learned: kept are the newest quarter, and about as many of the others, whose literals
-    /// stood on the fewest levels of decisions.
+    /// Drops about half of what was learned: kept are the newest quarter, and about as many of the others, whose
+    /// literals stood on the fewest levels of decisions.
     fn reduce(&mut self)
         ensures trail { trail_of self.new ≡ trail_of self.old }
         ensures variables { variables_of self.new ≡ variables_of self.old }

@@ -1,6 +1,6 @@
 -- The places at which there may be more.
-use Rattle.std.proofs.Common.{◌≡◌, ℕ, zero, suc, ◌+◌, ◌<◌, ◌≤◌, List, [], ◌∷◌, ◌++◌, length, get_or, Bool, true, false, take, refl, ap, sym, subst, ◌∙◌, ◌⊎◌, inl, inr, arith, length-append}
-use Rattle.std.specs.Prelude.{All, AllPairs, Contains, MatchOption, None, Option, Some, slice_index, slice_index_or}
+use Rattle.std.proofs.Common.{◌≡◌, ℕ, zero, suc, ◌+◌, ◌<◌, ◌≤◌, List, [], ◌∷◌, ◌++◌, length, get_or, take, refl, ap, sym, subst, ◌∙◌, ◌⊎◌, inl, inr, arith, length-append}
+use Rattle.std.specs.Prelude.{All, AllPairs, Contains, MatchOption, None, Option, Some, slice_index}
 use Rattle.std.proofs.lemmas.List.{get_or_append_left, length-take-le, take-append-le, take_all}
 use Rattle.std.proofs.lemmas.List.Elements.{All-append, Contains-append_left, Contains-push, Contains-push_cases}
 use Rattle.std.proofs.lemmas.List.Quantifiers.{all_pairs_push}
@@ -8,26 +8,22 @@ use Rattle.olap_ast.specs.Frozen.{Frozen, code}
 use Rattle.olap_clauses.specs.declared.engine.Engine.{Engine}
 use Rattle.olap_clauses.specs.declared.trails.Step.{Step}
 use Rattle.olap_clauses.specs.declared.trails.Trail.{Trail}
-use Rattle.olap_clauses.specs.Engines.{admits}
-use Rattle.olap_clauses.specs.Standing.{Agrees}
-use Rattle.olap_clauses.specs.Trails.{steps_of}
+use Rattle.olap_clauses.specs.Engines.{trail_of}
 use Rattle.olap_dimsat.specs.declared.branching.Branch.{Branch}
-use Rattle.olap_dimsat.specs.Branches.{AreBranches, IsBehind, IsBranch, IsOpen, IsTopped}
+use Rattle.olap_dimsat.specs.Branches.{AreBranches, IsBehind, IsBranch, IsOpen, IsRefuted, IsTopped}
 use Rattle.olap_dimsat.specs.Following.{IsNext, IsRisen, NoneBeyond, NoneMore}
-use Rattle.olap_dimsat.specs.Pinned.{InRange, IsLonger, IsPinned, IsPlace, IsReady, IsSame, NoneAt}
-use Rattle.olap_dimsat.specs.Reads.{Reads}
+use Rattle.olap_dimsat.specs.Pinned.{InRange, IsLonger, IsPinned, IsPlace, IsReady, IsSame}
 use Rattle.olap_dimsat.specs.Tasks.{Task, IsOne}
 use Rattle.olap_dimsat.proofs.FollowingLemmas.{in_range, next_of, none_beyond}
-use Rattle.olap_dimsat.proofs.SettleLemmas.{at_or_below, pinned_other}
+use Rattle.olap_dimsat.proofs.SettleLemmas.{agreeing, at_or_below, pinned_other}
 
 -- ---- no more at a place
 
 -- where each greater number was refuted, there is no more
-pub topped : (t : Task) (p n most : ℕ) (w : Frozen) (steps : List Step) → IsPlace t p → n ≡ slice_index (code w) p
-    → ((x : ℕ) → InRange t p x → x ≤ most) → ((x : ℕ) → n < x → x ≤ most → NoneAt t p x steps)
-    → (f : Frozen) (v : ℕ → Bool) → IsOne t f → Reads t f v → Agrees v steps
-    → slice_index (code f) p ≤ slice_index (code w) p
-topped t p n most w steps place q top none f v one r a = elim (below (slice_index (code f) p) n) [
+pub topped : (t : Task) (p n most : ℕ) (w : Frozen) (trail : Trail) → IsPlace t p → n ≡ slice_index (code w) p
+    → ((x : ℕ) → InRange t p x → x ≤ most) → ((x : ℕ) → n < x → x ≤ most → IsRefuted t trail p x)
+    → IsTopped t trail p w
+topped t p n most w trail place q top none f v one r a = elim (below (slice_index (code f) p) n) [
   | inl l ↦ omega arith
   | inr g ↦ absurd (let m = top (slice_index (code f) p) (in_range t f p one place) in
       none (slice_index (code f) p) g m f v one r a refl)
@@ -36,30 +32,16 @@ topped t p n most w steps place q top none f v one r a = elim (below (slice_inde
     below : (x y : ℕ) → (x ≤ y) ⊎ (y < x)
     below x y = grind arith
 
--- what is so where more is forced: those that are as w before an earlier place agree
-pub none_more_topped : (t : Task) (from q : ℕ) (w : Frozen) (old : List Step) (after : Trail) (e : Engine)
-    → IsReady t e → IsPinned t from w old → from ≤ q
-    → ((v : ℕ → Bool) → admits v e → Agrees v old → Agrees v (steps_of after)) → IsTopped t after q w
-    → NoneMore t q w
-none_more_topped t from q w old after e ready i l follows topped f one s m =
-    let v = ready f one in
-    let h = topped f v.0 one v.1 (follows v.0 v.2 ((i.exactly f v.0 one v.1).1 (λ k h. s k (omega arith)))) in
-    omega arith
+-- where none that agrees has more, none that is as w before has
+pub none_more_topped : (t : Task) (p : ℕ) (w : Frozen) (e : Engine) → IsReady t e → IsPinned t p w (trail_of e)
+    → IsTopped t e.solver.trail p w → NoneMore t p w
+none_more_topped t p w e ready i topped f one s m =
+    let v = agreeing t p w e ready i f one s in let h = topped f v.0 one v.1 v.2 in omega arith
 
 -- that there is no more at a place rests on the places up to it alone
 none_more_still : (t : Task) (p q : ℕ) (w y : Frozen) → q < p → IsSame p y w → NoneMore t q w → NoneMore t q y
 none_more_still t p q w y l same none f one s m =
     none f one (λ k h. s k h ∙ same k (omega arith)) (let e = same q l in omega arith)
-
--- ---- notes
-
--- one note more
-pub noted : (P : ℕ → Type 0) (notes : List Bool) (b : Bool) → ((q : ℕ) → slice_index_or notes q false ≡ true → P q)
-    → (b ≡ true → P (length notes)) → (q : ℕ) → slice_index_or (notes ++ b ∷ []) q false ≡ true → P q
-noted P [] b old next zero e = next e
-noted P [] b old next (suc q) e = absurd (let z : false ≡ true = e in cc)
-noted P (x ∷ notes) b old next zero e = old zero e
-noted P (x ∷ notes) b old next (suc q) e = noted (λ k. P (suc k)) notes b (λ k. old (suc k)) next q e
 
 -- ---- literals
 
@@ -138,6 +120,21 @@ branches_none t w ss = record {
 -- a trail with more literals has the mark
 longer_mark : (ss ts : List Step) (k : ℕ) → IsLonger ss ts → k ≤ length ss → k ≤ length ts
 longer_mark ss ts k l h = let e = ap length l.1 in let n = length-append ss l.0 in omega arith
+
+-- branches stay when literals come
+pub branches_still : (t : Task) (p : ℕ) (w : Frozen) (ss ts : List Step) (bs : List Branch) → AreBranches t p w ss bs
+    → IsLonger ss ts → AreBranches t p w ts bs
+branches_still t p w ss ts bs b longer = record {
+  ordered = b.ordered;
+  each = λ k d h.
+      let x = get_or bs k d in
+      let i = b.each k d h in record {
+        place = i.place;
+        mark = longer_mark ss ts x.mark longer i.mark;
+        pinned = subst (IsPinned t x.place w) (sym (front_still ss ts x.mark longer i.mark)) i.pinned;
+      };
+  rest = b.rest;
+}
 
 -- a branch stays one when literals and places come
 branch_still : (t : Task) (p : ℕ) (w : Frozen) (ss ts : List Step) (x : Branch) → IsLonger ss ts → IsBranch t p w ss x

@@ -10,7 +10,7 @@ use Rattle.olap_clauses.specs.declared.engine.Engine.{Engine}
 use Rattle.olap_clauses.specs.declared.trails.Step.{Step}
 use Rattle.olap_dimsat.specs.Pinned.{InRange, IsPinned, IsPlace, IsReady, IsReplaced, IsSame, NoneAt, NoneLess}
 use Rattle.olap_dimsat.specs.Tasks.{Task, IsOne, constant_count, graph_of}
-use Rattle.olap_dimsat.proofs.SettleLemmas.{at_least, bit, code_edge, code_name, length-code, not_after, same_bit}
+use Rattle.olap_dimsat.proofs.SettleLemmas.{at_least, below, bit, code_edge, code_name, length-code, not_after, same_bit}
 
 -- ---- lists of numbers
 
@@ -48,10 +48,6 @@ first_place (x ∷ xs) (y ∷ ys) e (inr t) d =
 -- of two numbers one is less, or they are equal
 pub which : (x y : ℕ) → (x < y) ⊎ ((x ≡ y) ⊎ (y < x))
 which x y = grind arith
-
--- of two numbers the first is less, or the second is no more
-pub below : (x y : ℕ) → (x < y) ⊎ (y ≤ x)
-below x y = grind arith
 
 -- where the second list first differs it has no less
 at_first : (xs ys : List ℕ) → Differ xs ys → (q : ℕ)
@@ -228,12 +224,6 @@ in_range t f p one h = record { edge = edge; name = name }
         let r = one.in_range c (let n = one.name_count in omega arith) in
         let s : suc c ≡ c + 1 = omega arith in
         subst (λ k. slice_index (code f) p ≤ constant_count t k) s (omega arith)
-
--- a place with its greatest number can't have more
-pub none_full : (t : Task) (p n most : ℕ) (w : Frozen) → IsPlace t p → n ≡ slice_index (code w) p
-    → ((x : ℕ) → InRange t p x → x ≤ most) → most ≤ n → NoneMore t p w
-none_full t p n most w h q top l f one s m =
-    let r = top (slice_index (code f) p) (in_range t f p one h) in omega arith
 
 -- numbers above n were tried up to this one, and none that agrees has them
 abbrev pub NoneBetween : Task → ℕ → ℕ → ℕ → List Step → Type 0

@@ -16,7 +16,8 @@ use Rattle.olap_dimsat.specs.Listed.{AreAllFrozen, AreMoreThan, IsBefore}
 use Rattle.olap_dimsat.specs.Pinned.{IsLeast, IsPlace, IsSame}
 use Rattle.olap_dimsat.specs.Shapes.{AreMoreShapes, AreShapes}
 use Rattle.olap_dimsat.specs.Tasks.{IsTask, Task, IsOne, graph_of, schema_of}
-use Rattle.olap_dimsat.proofs.FollowingLemmas.{Differ, below, code_one, differ, edges_same, same_code, same_edges, same_length, which}
+use Rattle.olap_dimsat.proofs.SettleLemmas.{below}
+use Rattle.olap_dimsat.proofs.FollowingLemmas.{Differ, code_one, differ, edges_same, same_code, same_edges, same_length, which}
 
 -- ---- the order
 

@@ -11,7 +11,7 @@ use Rattle.olap_pool.specs.declared.pools.Pool.{Pool}
 use Rattle.olap_clauses.specs.declared.trails.Step.{Step}
 use Rattle.olap_clauses.specs.Engines.{admits, trail_of, variables_of}
 use Rattle.olap_pool.specs.Pools.{AreTrue}
-use Rattle.olap_clauses.specs.Standing.{Agrees}
+use Rattle.olap_clauses.specs.Standing.{AgreesDecisions}
 use Rattle.olap_dimsat.specs.declared.asker.Leaf.{Leaf}
 use Rattle.olap_base.specs.declared.ids.CatId.{CatId}
 use Rattle.olap_frozen.specs.declared.frozen.Frozen as kept
@@ -127,11 +127,11 @@ none_shaped t ss e = subst (λ (xs : List Step). AreShaped t xs) (sym e) (λ i s
 
 -- where none agrees with no literals, there is none
 pub none_found : (t : Task) (e : Engine) → IsReady t e → trail_of e ≡ []
-    → ((f : Frozen) (v : ℕ → Bool) → IsOne t f → Reads t f v → Agrees v (trail_of e) → ⊥)
+    → ((f : Frozen) (v : ℕ → Bool) → IsOne t f → Reads t f v → AgreesDecisions v (trail_of e) → ⊥)
     → (f : Frozen) → IsOne t f → ⊥
 none_found t e ready empty none f one =
     let w = ready f one in
-    none f w.0 one w.1 (subst (λ (ss : List Step). Agrees w.0 ss) (sym empty) tt)
+    none f w.0 one w.1 (subst (λ (ss : List Step). AgreesDecisions w.0 ss) (sym empty) tt)
 
 -- what was brought to be handed out has the search's sizes, and gets its root
 pub left_for : (t : Task) (search : Search) (into left : kept.Frozen) → IsFor t search.best → IsSizedFor search into

@@ -1,7 +1,8 @@
 -- The least, place by place.
-use Rattle.std.proofs.Common.{◌≡◌, ◌≢◌, ℕ, zero, suc, ◌+◌, ◌-◌, ◌<◌, ◌≤◌, List, [], ◌∷◌, ◌++◌, length, get_or, map, take, Bool, true, false, cond, refl, ap, sym, subst, ◌∙◌, ◌⊎◌, inl, inr, arith, length-append, append_assoc}
+use Rattle.std.proofs.Common.{◌≡◌, ◌≢◌, ℕ, zero, suc, ◌+◌, ◌-◌, ◌<◌, ◌≤◌, List, [], ◌∷◌, ◌++◌, length, map, take, Bool, true, false, cond, refl, ap, sym, subst, ◌∙◌, ◌⊎◌, inl, inr, arith, length-append, append_assoc}
 use Rattle.std.specs.Prelude.{◌==◌, slice_index, slice_index_or}
 use Rattle.std.proofs.lemmas.List.{get_or-map, get_or_append_left, get_or-append_right, length-map}
+use Rattle.std.proofs.lemmas.List.Elements.{All-append}
 use Rattle.std.proofs.lemmas.Bool.{cases_Bool, false_from_ne_true}
 use Rattle.olap_base.specs.Graph.{category_count}
 use Rattle.olap_ast.specs.Frozen.{Frozen, code}
@@ -9,16 +10,17 @@ use Rattle.olap_base.specs.Ranks.{IsNotAfter}
 use Rattle.olap_clauses.specs.declared.engine.Engine.{Engine}
 use Rattle.olap_pool.specs.declared.literals.Lit.{Lit}
 use Rattle.olap_clauses.specs.declared.trails.Step.{Step}
-use Rattle.olap_clauses.specs.declared.trails.Trail.{Trail}
-use Rattle.olap_clauses.specs.Engines.{admits}
-use Rattle.olap_clauses.specs.Standing.{Agrees}
-use Rattle.olap_clauses.specs.Trails.{steps_of}
+use Rattle.olap_clauses.specs.Admits.{AreForced, Grown}
+use Rattle.olap_clauses.specs.Engines.{trail_of}
+use Rattle.olap_clauses.specs.Standing.{Agrees, AgreesDecisions, is_decision}
 use Rattle.olap_encoding.specs.Layouts.{name_variable, on_variable}
 use Rattle.olap_dimsat.specs.Tasks.{IsTask, Task, IsOne, constant_count, graph_of}
 use Rattle.olap_dimsat.specs.Reads.{Reads, IsShaped, index_in}
 use Rattle.olap_dimsat.specs.Pinned.{AreShaped, IsLeast, IsLonger, IsPinned, IsPlace, IsProbed, IsReady, IsReplaced, IsSame, IsSettled, NoneAt, NoneLess, SayAt, SaysAt}
 use Rattle.olap_dimsat.proofs.Truths.{holds_at, same_is, is_same, none_is_zero}
 use Rattle.olap_dimsat.proofs.ReadLemmas.{index_small}
+use Rattle.olap_dimsat.proofs.StepLemmas.{agrees_both, agrees_front, forced_agree, not_decided}
+use Rattle.olap_dimsat.proofs.WitnessLemmas.{whole}
 
 -- ---- codes
 
@@ -91,6 +93,10 @@ NamedSo t v c i n = (k : ℕ) → k < n → v (name_variable t.layout c k) ≡ (
 pub at_or_below : (q p : ℕ) → q < p + 1 → (q < p) ⊎ (q ≡ p)
 at_or_below q p h = grind arith
 
+-- of two numbers the first is less, or the second is no more
+pub below : (x y : ℕ) → (x < y) ⊎ (y ≤ x)
+below x y = grind arith
+
 -- one constant more of which the valuation says whether it is the name
 pub named_more : (t : Task) (v : ℕ → Bool) (c i n : ℕ) → NamedSo t v c i n
     → v (name_variable t.layout c n) ≡ (suc n == i)
@@ -104,7 +110,8 @@ named_more t v c i n s e k h = elim (at_or_below k n h) [
 eq_sym : (a b : ℕ) → (a == b) ≡ (b == a)
 eq_sym a b = elim (cases_Bool (a == b)) [
   | inl y ↦ y ∙ sym (is_same b a (sym (same_is a b y)))
-  | inr n ↦ n ∙ sym (false_from_ne_true (b == a) (λ y. let z : true ≡ false = sym (is_same a b (sym (same_is b a y))) ∙ n in cc))
+  | inr n ↦ n ∙ sym (false_from_ne_true (b == a)
+      (λ y. let z : true ≡ false = sym (is_same a b (sym (same_is b a y))) ∙ n in cc))
 ]
 
 -- one more than a number isn't 0
@@ -225,6 +232,51 @@ pinned_start t w steps e one = subst (λ ss. IsPinned t 0 w ss) (sym e) (record 
 
 -- ---- literals that are forced
 
+-- what is forced adds no decision
+forced_shaped : (t : Task) (ss ts : List Step) → AreShaped t ss → AreForced ts → AreShaped t (ss ++ ts)
+forced_shaped t ss ts shaped f = All-append (λ (s : Step). is_decision s.reason ≡ true → IsShaped t s.lit) ss ts shaped
+    (λ k d h e. absurd (not_decided ts f k d h e))
+
+-- so decisions stay of edges and names
+pub shaped_grown : (t : Task) (old new : List Step) → Grown old new → AreShaped t old → AreShaped t new
+shaped_grown t old new g shaped = subst (AreShaped t) (sym g.grown) (forced_shaped t old g.more shaped g.forced)
+
+-- who agreed with the decisions agrees still
+pub agrees_grown : (v : ℕ → Bool) (old new : List Step) → Grown old new → AgreesDecisions v old → AgreesDecisions v new
+agrees_grown v old new g a = subst (AgreesDecisions v) (sym g.grown)
+    (agrees_both v old g.more a (forced_agree v g.more g.forced))
+
+-- and agreed before
+pub agreed_before : (v : ℕ → Bool) (old new : List Step) → Grown old new → AgreesDecisions v new
+    → AgreesDecisions v old
+agreed_before v old new g a = agrees_front v old g.more (subst (AgreesDecisions v) g.grown a)
+
+-- places stay pinned
+pub pinned_grown : (t : Task) (p : ℕ) (w : Frozen) (old new : List Step) → Grown old new → IsPinned t p w old
+    → IsPinned t p w new
+pinned_grown t p w old new g i = record {
+  one = i.one;
+  shaped = shaped_grown t old new g i.shaped;
+  exactly = λ f v one r. (
+    λ a. (i.exactly f v one r).0 (agreed_before v old new g a),
+    λ s. agrees_grown v old new g ((i.exactly f v one r).1 s),
+  );
+}
+
+-- and decisions say what they said
+pub say_grown : (t : Task) (p x : ℕ) (old mid new : List Step) → Grown mid new → SayAt t p x old mid
+    → SayAt t p x old new
+say_grown t p x old mid new g say f v one r = (
+  λ a. (say f v one r).0 (agreed_before v mid new g a),
+  λ d. agrees_grown v mid new g ((say f v one r).1 d),
+)
+
+-- those that are as w at the places that are pinned have a valuation that agrees with all that stands
+pub agreeing : (t : Task) (p : ℕ) (w : Frozen) (e : Engine) → IsReady t e → IsPinned t p w (trail_of e)
+    → (f : Frozen) → IsOne t f → IsSame p f w → (v : ℕ → Bool) × Reads t f v × Agrees v (trail_of e)
+agreeing t p w e ready i f one s =
+    let v = ready f one in whole t e f v.0 ready i.shaped one v.1 ((i.exactly f v.0 one v.1).1 s)
+
 -- an edge that is present
 pub says_edge : (t : Task) (p x : ℕ) (l : Lit) → l ≡ record { variable = on_variable p; positive = true }
     → p < length (graph_of t).edges → 0 < x → x ≤ 1 → SaysAt t p x l
@@ -250,14 +302,11 @@ says_name t p c x l e at n h positive most f v o r =
           (r.named c j h within ∙ is_same (index_in f c) (suc j) (sym code ∙ q ∙ sym next)),
     )
 
--- what is settled where more is forced: those that are as w before an earlier place agree
-pub none_less_settled : (t : Task) (from q : ℕ) (w : Frozen) (old : List Step) (after : Trail) (e : Engine)
-    → IsReady t e → IsPinned t from w old → from ≤ q
-    → ((v : ℕ → Bool) → admits v e → Agrees v old → Agrees v (steps_of after)) → IsSettled t after q w
-    → NoneLess t q w
-none_less_settled t from q w old after e ready i l follows settled f one s =
-    let v = ready f one in
-    settled f v.0 one v.1 (follows v.0 v.2 ((i.exactly f v.0 one v.1).1 (λ k h. s k (omega arith))))
+-- what is settled: those that are as w before an earlier place agree
+pub none_less_settled : (t : Task) (from q : ℕ) (w : Frozen) (e : Engine) → IsReady t e → IsPinned t from w (trail_of e)
+    → from ≤ q → IsSettled t e.solver.trail q w → NoneLess t q w
+none_less_settled t from q w e ready i l settled f one s =
+    let v = agreeing t from w e ready i f one (λ k h. s k (omega arith)) in settled f v.0 one v.1 v.2
 
 -- ---- the least
 
@@ -313,16 +362,12 @@ longer_again a b c l m = (l.0 ++ m.0, m.1 ∙ ap (λ x. x ++ m.0) l.1 ∙ append
 pub longer_same : (a b c : List Step) → IsLonger a b → c ≡ b → IsLonger a c
 longer_same a b c l e = (l.0, e ∙ l.1)
 
--- one literal more of an edge or a name
+-- one decision more on an edge or a name
 pub shaped_more : (t : Task) (old : List Step) (s : Step) → AreShaped t old → IsShaped t s.lit
     → AreShaped t (old ++ s ∷ [])
-shaped_more t old s shaped is k d h = elim (which k (length old)) [
-  | inl l ↦ subst (λ (x : Step). IsShaped t x.lit) (sym (get_or_append_left old (s ∷ []) d k l)) (shaped k d l)
-  | inr g ↦
-      let n : k - length old ≡ 0 = let a = length-append old (s ∷ []) in omega arith in
-      subst (λ (x : Step). IsShaped t x.lit)
-      (sym (get_or-append_right old (s ∷ []) (length old) k d refl g ∙ ap (λ i. get_or (s ∷ []) i d) n)) is
-]
+shaped_more t old s shaped is = All-append (λ (x : Step). is_decision x.reason ≡ true → IsShaped t x.lit) old (s ∷ [])
+    shaped last
   where
-    which : (k n : ℕ) → (k < n) ⊎ (n ≤ k)
-    which k n = grind arith
+    last : AreShaped t (s ∷ [])
+    last zero d h = λ e. is
+    last (suc k) d h = absurd (omega arith)

@@ -1,5 +1,6 @@
 -- The places of a code at which there may be more, with what is decided before them.
---     IsTopped      none that agrees with a trail has more at a place
+--     IsRefuted     none that agrees with a trail has a number at a place
+--     IsTopped      none that agrees has more there
 --     IsBranch      what a branch says
 --     IsBehind      one branch is behind another
 --     AreBranches   each place at which there may be more is a branch
@@ -13,6 +14,10 @@ use Rattle.olap_dimsat.specs.Following.{NoneMore}
 use Rattle.olap_dimsat.specs.Pinned.{IsPinned}
 use Rattle.olap_dimsat.specs.Reads.{OfAgreeing}
 use Rattle.olap_dimsat.specs.Tasks.{Task}
+
+-- no frozen dimension that agrees with the trail has x at the place p
+abbrev pub IsRefuted : Task → Trail → ℕ → ℕ → Type 0
+IsRefuted t trail p x = OfAgreeing t trail (λ f. slice_index (code f) p ≡ x → ⊥)
 
 -- no frozen dimension that agrees with the trail has more at the place p than w
 abbrev pub IsTopped : Task → Trail → ℕ → Frozen → Type 0

@@ -1,13 +1,10 @@
 // The places of the best one's code at which there may be more, with what is decided before them.
-ghost use Rattle.std.specs.Prelude.{◌≡◌, ◌+◌, ◌<◌, ◌≤◌, ℕ, IfOk, false, length, true, slice_index, slice_index_or};
-ghost use Rattle.olap_ast.specs.Frozen.{code};
+ghost use Rattle.std.specs.Prelude.{◌≡◌, ◌+◌, ◌<◌, ◌≤◌, ℕ, IfOk, true};
 ghost use Rattle.olap_clauses.specs.Engines.{trail_of, variables_of};
-ghost use Rattle.olap_clauses.specs.Trails.{steps_of};
 ghost use Rattle.olap_frozen.specs.Leaves.{chosen_of};
 ghost use Rattle.olap_dimsat.specs.Asking.{IsFor, task_of};
-ghost use Rattle.olap_dimsat.specs.Branches.{AreBranches, IsTopped};
-ghost use Rattle.olap_dimsat.specs.Following.{NoneMore};
-ghost use Rattle.olap_dimsat.specs.Pinned.{InRange, IsPinned, IsPlace, IsReady, NoneAt};
+ghost use Rattle.olap_dimsat.specs.Branches.{AreBranches, IsRefuted, IsTopped};
+ghost use Rattle.olap_dimsat.specs.Pinned.{InRange, IsLonger, IsPinned, IsPlace, IsReady};
 ghost use Rattle.olap_dimsat.specs.Tasks.{IsOne, IsTask};
 
 use crate::asker::Asker;
@@ -15,7 +12,6 @@ use crate::settling::{keep, literal_at, number_at};
 use olap_base::{CatId, Memory};
 use olap_clauses::{Engine, Trail, Value};
 use olap_frozen::Frozen;
-use std::alloc::Global;
 
 /// A place at which there may be more.
 #[derive(Clone, Copy)]
@@ -49,7 +45,7 @@ fn is_refuted(a: &Asker<'_>, trail: &Trail, p: u16, number: u16) -> bool
     requires place { IsPlace (task_of a.now) p }
     requires number { InRange (task_of a.now) p number }
     requires positive { 0 < number }
-    ensures { result ≡ true → NoneAt (task_of a.now) p number (steps_of trail.now) }
+    ensures { result ≡ true → IsRefuted (task_of a.now) trail.now p number }
 {
     matches!(trail.value(literal_at(a, p, number)), Value::No)
 }
@@ -72,76 +68,33 @@ fn is_topped(a: &Asker<'_>, best: &Frozen, trail: &Trail, p: u16) -> bool
     true
 }
 
-// Whether the best one has the greatest number at this place.
-fn is_full(a: &Asker<'_>, best: &Frozen, p: u16) -> bool
+// Decides that this place stays as it is in the best one, and forces what follows from that.
+fn pin(engine: &mut Engine, a: &Asker<'_>, best: &Frozen, p: u16)
     requires task { IsTask (task_of a.now) }
-    requires best { IsFor (task_of a.now) best.now }
-    requires one { IsOne (task_of a.now) (chosen_of best.now.edges best.now.names) }
     requires place { IsPlace (task_of a.now) p }
-    ensures { result ≡ true → NoneMore (task_of a.now) p (chosen_of best.now.edges best.now.names) }
-{
-    number_at(a, best, p) == most_at(a, p)
-}
-
-// For each of the first places whether none that agrees with the trail has more there than the best one.
-fn topped(
-    alloc: Global,
-    a: &Asker<'_>,
-    best: &Frozen,
-    trail: &Trail,
-    apart: u16,
-) -> Result<Vec<bool>, Memory>
-    requires task { IsTask (task_of a.now) }
-    requires best { IsFor (task_of a.now) best.now }
-    requires one { IsOne (task_of a.now) (chosen_of best.now.edges best.now.names) }
-    requires places { (q : ℕ) → q < apart → IsPlace (task_of a.now) q }
-    ensures topped { IfOk result (λ notes. (q : ℕ) → slice_index_or notes.items q false ≡ true
-        → IsTopped (task_of a.now) trail.now q (chosen_of best.now.edges best.now.names)) }
-    ensures count { IfOk result (λ notes. length notes.items ≡ apart) }
-{
-    let mut notes = Vec::new(alloc);
-    'places: for p in 0..apart {
-        notes.push(is_topped(a, best, trail, p))?;
-    }
-    Ok(notes)
-}
-
-// For each of the first places whether the clauses force that none that agrees before this one has more there.
-fn topped_behind(
-    alloc: Global,
-    engine: &mut Engine,
-    a: &Asker<'_>,
-    best: &Frozen,
-    from: u16,
-    apart: u16,
-) -> Result<Vec<bool>, Memory>
-    requires task { IsTask (task_of a.now) }
     requires ready { IsReady (task_of a.now) engine.old }
     requires best { IsFor (task_of a.now) best.now }
-    requires pinned { IsPinned (task_of a.now) from (chosen_of best.now.edges best.now.names) (trail_of engine.old) }
-    requires places { (q : ℕ) → q < apart → IsPlace (task_of a.now) q }
-    ensures none { IfOk result (λ notes. (q : ℕ) → from ≤ q → slice_index_or notes.items q false ≡ true
-        → NoneMore (task_of a.now) q (chosen_of best.now.edges best.now.names)) }
-    ensures count { IfOk result (λ notes. length notes.items ≡ apart) }
-    ensures trail { trail_of engine.new ≡ trail_of engine.old }
+    requires pinned { IsPinned (task_of a.now) p (chosen_of best.now.edges best.now.names) (trail_of engine.old) }
+    requires variables { variables_of engine.old ≡ a.now.layout.now.variables }
+    ensures pinned { IsPinned (task_of a.now) (p + 1) (chosen_of best.now.edges best.now.names) (trail_of engine.new) }
+    ensures longer { IsLonger (trail_of engine.old) (trail_of engine.new) }
     ensures variables { variables_of engine.new ≡ variables_of engine.old }
     ensures ready { IsReady (task_of a.now) engine.new }
 {
     let stood = engine.trail().len();
-    engine.force();
-    let notes = topped(alloc, a, best, engine.trail(), apart);
-    engine.undo(stood);
-    notes
+    keep(engine, a, best, p);
+    if engine.trail().len() > stood {
+        engine.force();
+    }
 }
 
-// Decides that this place is as it is in the best one, and notes it unless it is known that none has more there.
+// Decides that this place is as it is in the best one, and notes it unless it is forced that none has more there.
 fn branch_at(
     engine: &mut Engine,
     a: &Asker<'_>,
     best: &Frozen,
     branches: &mut Vec<Branch>,
     p: u16,
-    known: bool,
 ) -> Result<(), Memory>
     requires task { IsTask (task_of a.now) }
     requires ready { IsReady (task_of a.now) engine.old }
@@ -149,7 +102,6 @@ fn branch_at(
     requires place { IsPlace (task_of a.now) p }
     requires pinned { IsPinned (task_of a.now) p (chosen_of best.now.edges best.now.names) (trail_of engine.old) }
     requires variables { variables_of engine.old ≡ a.now.layout.now.variables }
-    requires known { known ≡ true → NoneMore (task_of a.now) p (chosen_of best.now.edges best.now.names) }
     requires branches { AreBranches (task_of a.now) p (chosen_of best.now.edges best.now.names) (trail_of engine.old)
         branches.old.items }
     ensures pinned { IsPinned (task_of a.now) (p + 1) (chosen_of best.now.edges best.now.names) (trail_of engine.new) }
@@ -158,8 +110,9 @@ fn branch_at(
     ensures variables { variables_of engine.new ≡ variables_of engine.old }
     ensures ready { IsReady (task_of a.now) engine.new }
 {
+    let known = is_topped(a, best, engine.trail(), p);
     let mark = engine.trail().len();
-    keep(engine, a, best, p);
+    pin(engine, a, best, p);
     if known {
         return Ok(());
     }
@@ -167,15 +120,17 @@ fn branch_at(
     Ok(())
 }
 
-// The same of each place from this one on.
-fn branch_behind(
+/// Decides from this place on that the first places are as they are in the best one, and notes where there may be more.
+/// What is forced stays.
+///
+/// It takes memory for a branch at each of them.
+pub(crate) fn branch_from(
     engine: &mut Engine,
     a: &Asker<'_>,
     best: &Frozen,
     branches: &mut Vec<Branch>,
     from: u16,
     apart: u16,
-    topped: &[bool],
 ) -> Result<(), Memory>
     requires task { IsTask (task_of a.now) }
     requires ready { IsReady (task_of a.now) engine.old }
@@ -184,9 +139,6 @@ fn branch_behind(
     requires variables { variables_of engine.old ≡ a.now.layout.now.variables }
     requires places { (q : ℕ) → q < apart → IsPlace (task_of a.now) q }
     requires from { from ≤ apart }
-    requires topped { (q : ℕ) → from ≤ q → slice_index_or topped.now q false ≡ true
-        → NoneMore (task_of a.now) q (chosen_of best.now.edges best.now.names) }
-    requires count { length topped.now ≡ apart }
     requires branches { AreBranches (task_of a.now) from (chosen_of best.now.edges best.now.names)
         (trail_of engine.old) branches.old.items }
     ensures branches { IfOk result (λ _. AreBranches (task_of a.now) apart (chosen_of best.now.edges best.now.names)
@@ -194,44 +146,9 @@ fn branch_behind(
     ensures variables { variables_of engine.new ≡ variables_of engine.old }
     ensures ready { IsReady (task_of a.now) engine.new }
 {
+    engine.force();
     'places: for p in from..apart {
-        let known = topped[usize::from(p)];
-        branch_at(engine, a, best, branches, p, known)?;
+        branch_at(engine, a, best, branches, p)?;
     }
     Ok(())
-}
-
-/// Decides from this place on that the first places are as they are in the best one, and notes where there may be more.
-///
-/// It takes memory for a note of each of them, and for a branch at each.
-pub(crate) fn branch_from(
-    alloc: Global,
-    engine: &mut Engine,
-    a: &Asker<'_>,
-    best: &Frozen,
-    branches: &mut Vec<Branch>,
-    from: u16,
-    apart: u16,
-) -> Result<(), Memory>
-    requires task { IsTask (task_of a.now) }
-    requires ready { IsReady (task_of a.now) engine.old }
-    requires best { IsFor (task_of a.now) best.now }
-    requires pinned { IsPinned (task_of a.now) from (chosen_of best.now.edges best.now.names) (trail_of engine.old) }
-    requires variables { variables_of engine.old ≡ a.now.layout.now.variables }
-    requires places { (q : ℕ) → q < apart → IsPlace (task_of a.now) q }
-    requires from { from ≤ apart }
-    requires branches { AreBranches (task_of a.now) from (chosen_of best.now.edges best.now.names)
-        (trail_of engine.old) branches.old.items }
-    ensures branches { IfOk result (λ _. AreBranches (task_of a.now) apart (chosen_of best.now.edges best.now.names)
-        (trail_of engine.new) branches.new.items) }
-    ensures variables { variables_of engine.new ≡ variables_of engine.old }
-    ensures ready { IsReady (task_of a.now) engine.new }
-{
-    if from >= apart {
-        return Ok(());
-    }
-    let full = is_full(a, best, from);
-    branch_at(engine, a, best, branches, from, full)?;
-    let notes = topped_behind(alloc, engine, a, best, from + 1, apart)?;
-    branch_behind(engine, a, best, branches, from + 1, apart, &notes)
 }

@@ -2,7 +2,7 @@
 ghost use Rattle.std.specs.Prelude.{◌≡◌, ℕ, Bool, false, true};
 ghost use Rattle.olap_ast.specs.Frozen.{Frozen as TheFrozen};
 ghost use Rattle.olap_clauses.specs.Engines.{trail_of, variables_of};
-ghost use Rattle.olap_clauses.specs.Standing.{Agrees};
+ghost use Rattle.olap_clauses.specs.Standing.{AgreesDecisions};
 ghost use Rattle.olap_frozen.specs.Leaves.{chosen_of};
 ghost use Rattle.olap_dimsat.specs.Tasks.{IsOne};
 ghost use Rattle.olap_dimsat.specs.Reads.{Reads};
@@ -20,9 +20,9 @@ pub(crate) fn exists(engine: &mut Engine, a: &Asker<'_>, leaf: &mut Leaf) -> boo
     ensures one { result ≡ true → IsOne (task_of a.now) (chosen_of leaf.new.frozen.edges leaf.new.frozen.names) }
     ensures agrees { result ≡ true → (v : ℕ → Bool)
         → Reads (task_of a.now) (chosen_of leaf.new.frozen.edges leaf.new.frozen.names) v
-        → Agrees v (trail_of engine.old) }
+        → AgreesDecisions v (trail_of engine.old) }
     ensures none { result ≡ false → (f : TheFrozen) (v : ℕ → Bool) → IsOne (task_of a.now) f → Reads (task_of a.now) f v
-        → Agrees v (trail_of engine.old) → ⊥ }
+        → AgreesDecisions v (trail_of engine.old) → ⊥ }
     ensures trail { trail_of engine.new ≡ trail_of engine.old }
     ensures variables { variables_of engine.new ≡ variables_of engine.old }
     ensures ready { IsReady (task_of a.now) engine.new }

@@ -177,7 +177,7 @@ fn add(alloc: Global, a: &Asker<'_>, best: &Frozen, list: &mut Vec<Frozen>) -> R
 }
 
 /// For each choice of so many first places the first frozen dimension with it, by their codes, where they are at most
-/// `limit`. It takes memory for the list, and for a note of each place and a branch at it.
+/// `limit`. It takes memory for the list, and for a branch at each place.
 pub(crate) fn list(
     alloc: Global,
     engine: &mut Engine,
@@ -211,7 +211,7 @@ pub(crate) fn list(
             return Err(Refusal::Kind(TooMany));
         }
         add(alloc, a, best, &mut list)?;
-        branch_from(alloc, engine, a, best, &mut branches, from, apart)?;
+        branch_from(engine, a, best, &mut branches, from, apart)?;
         place = next(engine, a, leaf, best, &mut branches, apart);
     }
     Ok(List::from_vec(list))

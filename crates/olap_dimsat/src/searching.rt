@@ -155,9 +155,9 @@ impl Search {
         true
     }
 
-    /// Some frozen dimension whose root makes the question true, looked for where the target is likely reached by way of
-    /// exactly the sources whose bits are in the mask. What it finds may be of another kind. It gives up soon: false
-    /// says nothing, and then `into` stays.
+    /// Some frozen dimension whose root makes the question true, looked for where the target is likely reached by way
+    /// of exactly the sources whose bits are in the mask. What it finds may be of another kind. It gives up soon:
+    /// false says nothing, and then `into` stays.
     ///
     /// It can't return out of memory.
     pub fn look(
@@ -198,7 +198,8 @@ impl Search {
 
     /// All frozen dimensions whose root makes the question true, by their codes, where they are at most `limit`.
     ///
-    /// `TooMany`: exactly where there are more. It takes memory for the list, and for a note of each edge and category.
+    /// `TooMany`: exactly where there are more. It takes memory for the list, and for a branch at each edge and
+    /// category.
     pub fn all(
         &mut self,
         schema: &Schema,

@@ -3,12 +3,12 @@ ghost use Rattle.std.specs.Prelude.{◌≡◌, ◌≢◌, ◌↔◌, ◌+◌, �
 ghost use Rattle.olap_base.specs.Graph.{IsCategory};
 ghost use Rattle.olap_clauses.specs.Engines.{admits, trail_of, variables_of};
 ghost use Rattle.olap_pool.specs.Literals.{Holds};
-ghost use Rattle.olap_clauses.specs.Standing.{Agrees};
+ghost use Rattle.olap_clauses.specs.Standing.{AgreesDecisions};
 ghost use Rattle.olap_clauses.specs.Trails.{IsOpen};
 ghost use Rattle.olap_frozen.specs.Leaves.{chosen_of};
 ghost use Rattle.olap_ast.specs.Frozen.{Frozen as TheFrozen, code};
 ghost use Rattle.olap_dimsat.specs.Tasks.{IsOne, IsTask, constant_count};
-ghost use Rattle.olap_dimsat.specs.Reads.{IsShaped};
+ghost use Rattle.olap_dimsat.specs.Reads.{IsShaped, Reads};
 ghost use Rattle.olap_dimsat.specs.Asking.{IsFor, IsSuited, task_of};
 ghost use Rattle.olap_dimsat.specs.Pinned.{AreShaped, InRange, IsLeast, IsLonger, IsPinned, IsPlace, IsProbed, IsReady, IsReplaced, IsSame, IsSettled, NoneAt, NoneLess, SayAt, SaysAt};
 
@@ -20,14 +20,17 @@ use olap_frozen::Frozen;
 use olap_pool::Lit;
 use std::mem::swap;
 
-// Decides the literal, if it is open. False: nothing that agrees with the trail makes it true.
+// Decides the literal, if it is open. False: no frozen dimension that agrees with the decisions makes it true.
 fn assume(engine: &mut Engine, a: &Asker<'_>, lit: Lit) -> bool
+    requires ready { IsReady (task_of a.now) engine.old }
     requires shaped { AreShaped (task_of a.now) (trail_of engine.old) }
     requires lit { IsShaped (task_of a.now) lit }
     requires inside { lit.variable < variables_of engine.old }
-    ensures yes { result ≡ true → (v : ℕ → Bool) → Agrees v (trail_of engine.new)
-        ↔ (Agrees v (trail_of engine.old) × Holds v lit) }
-    ensures no { result ≡ false → (v : ℕ → Bool) → Agrees v (trail_of engine.old) → Holds v lit → ⊥ }
+    ensures yes { result ≡ true → (f : TheFrozen) (v : ℕ → Bool) → IsOne (task_of a.now) f
+        → Reads (task_of a.now) f v → AgreesDecisions v (trail_of engine.new)
+        ↔ (AgreesDecisions v (trail_of engine.old) × Holds v lit) }
+    ensures no { result ≡ false → (f : TheFrozen) (v : ℕ → Bool) → IsOne (task_of a.now) f
+        → Reads (task_of a.now) f v → AgreesDecisions v (trail_of engine.old) → Holds v lit → ⊥ }
     ensures longer { IsLonger (trail_of engine.old) (trail_of engine.new) }
     ensures shaped { AreShaped (task_of a.now) (trail_of engine.new) }
     ensures variables { variables_of engine.new ≡ variables_of engine.old }
@@ -46,6 +49,7 @@ fn assume(engine: &mut Engine, a: &Asker<'_>, lit: Lit) -> bool
 // Decides that the category's name has this index.
 fn assume_name(engine: &mut Engine, a: &Asker<'_>, c: CatId, i: u16) -> bool
     requires task { IsTask (task_of a.now) }
+    requires ready { IsReady (task_of a.now) engine.old }
     requires shaped { AreShaped (task_of a.now) (trail_of engine.old) }
     requires category { IsCategory a.now.question.graph.now c.0 }
     requires declared { c.0 ≢ 0 }
@@ -76,6 +80,7 @@ fn assume_name(engine: &mut Engine, a: &Asker<'_>, c: CatId, i: u16) -> bool
 // Decides that the code has this number at this place.
 fn assume_at(engine: &mut Engine, a: &Asker<'_>, p: u16, x: u16) -> bool
     requires task { IsTask (task_of a.now) }
+    requires ready { IsReady (task_of a.now) engine.old }
     requires shaped { AreShaped (task_of a.now) (trail_of engine.old) }
     requires place { IsPlace (task_of a.now) p }
     requires number { InRange (task_of a.now) p x }
@@ -120,6 +125,7 @@ fn probe(engine: &mut Engine, a: &Asker<'_>, leaf: &mut Leaf, p: u16, x: u16) ->
     if !assume_at(engine, a, p, x) {
         return false;
     }
+    engine.force();
     exists(engine, a, leaf)
 }
 
@@ -220,7 +226,23 @@ fn is_settled(a: &Asker<'_>, best: &Frozen, trail: &Trail, p: u16) -> bool
     number == 0 || matches!(trail.value(literal_at(a, p, number)), Value::Yes)
 }
 
-// From this place on, the first at which one that agrees before it may have less than the best one.
+// From this place on, the first at which one that agrees with the trail may have less than the best one.
+fn first_unsettled(a: &Asker<'_>, best: &Frozen, trail: &Trail, from: u16) -> u16
+    requires task { IsTask (task_of a.now) }
+    requires best { IsFor (task_of a.now) best.now }
+    requires one { IsOne (task_of a.now) (chosen_of best.now.edges best.now.names) }
+    ensures { (q : ℕ) → from ≤ q → q < result
+        → IsSettled (task_of a.now) trail.now q (chosen_of best.now.edges best.now.names) }
+{
+    let mut p = from;
+    'places: while p < places(a) && is_settled(a, best, trail, p) {
+        p += 1;
+    }
+    p
+}
+
+// From this place on, the first at which one that agrees before it may have less than the best one. What is forced
+// stays.
 fn first_open(engine: &mut Engine, a: &Asker<'_>, best: &Frozen, from: u16) -> u16
     requires task { IsTask (task_of a.now) }
     requires ready { IsReady (task_of a.now) engine.old }
@@ -228,18 +250,13 @@ fn first_open(engine: &mut Engine, a: &Asker<'_>, best: &Frozen, from: u16) -> u
     requires pinned { IsPinned (task_of a.now) from (chosen_of best.now.edges best.now.names) (trail_of engine.old) }
     ensures least { (q : ℕ) → from ≤ q → q < result
         → NoneLess (task_of a.now) q (chosen_of best.now.edges best.now.names) }
-    ensures trail { trail_of engine.new ≡ trail_of engine.old }
+    ensures pinned { IsPinned (task_of a.now) from (chosen_of best.now.edges best.now.names) (trail_of engine.new) }
+    ensures longer { IsLonger (trail_of engine.old) (trail_of engine.new) }
     ensures variables { variables_of engine.new ≡ variables_of engine.old }
     ensures ready { IsReady (task_of a.now) engine.new }
 {
-    let stood = engine.trail().len();
     engine.force();
-    let mut p = from;
-    'places: while p < places(a) && is_settled(a, best, engine.trail(), p) {
-        p += 1;
-    }
-    engine.undo(stood);
-    p
+    first_unsettled(a, best, engine.trail(), from)
 }
 
 // One place more.
@@ -333,8 +350,12 @@ pub(crate) fn settle_from(
     ensures suited { IsSuited (task_of a.now) leaf.new (variables_of engine.new) }
     ensures ready { IsReady (task_of a.now) engine.new }
 {
+    let end = places(a);
     let mut known = from;
-    'places: for p in from..places(a) {
+    'places: for p in from..end {
+        if known >= end {
+            return;
+        }
         known = settle_next(engine, a, leaf, best, p, known);
     }
 }

@@ -95,7 +95,8 @@ module _ (g : Graph) (i : Instance) (rows : List Record) (r : Record) (old new :
       let more : begun g (rows ++ r ∷ []) ≡ begun g rows ++ c ∷ [] =
       begun-more g rows r b.begins ∙ ap (λ d. begun g rows ++ d ∷ []) (sym b.named) in
       let same : (y : ℕ) → stored_at new y ≡ stored_at old y = λ y. rw (places, s) refl in
-      let no_row : (y : ℕ) → is_row_of i y r ≡ false = λ y. ap (λ t. not t && (member_number i (field r 1) == y)) b.begins in
+      let no_row : (y : ℕ) → is_row_of i y r
+      ≡ false = λ y. ap (λ t. not t && (member_number i (field r 1) == y)) b.begins in
       record {
         categories = e ∙ ap (λ l. l ++ c ∷ []) t.categories ∙ sym more;
         differ = subst (AllPairs ◌≢◌) (sym more)

@@ -1,9 +1,8 @@
 -- Each greater number is refuted.
 use Rattle.std.proofs.Common.{◌+◌, inl, inr, subst, sym, arith}
-use Rattle.olap_clauses.specs.Trails.{steps_of}
 use Rattle.olap_frozen.specs.Leaves.{chosen_of}
 use Rattle.olap_dimsat.specs.Asking.{task_of}
-use Rattle.olap_dimsat.specs.Pinned.{NoneAt}
+use Rattle.olap_dimsat.specs.Branches.{IsRefuted}
 use Rattle.olap_dimsat.proofs.BranchLemmas.{topped}
 use Rattle.olap_dimsat.proofs.SettleLemmas.{at_or_below}
 use Rattle.olap_dimsat.proofs.branching.is_topped.Goals as goal
@@ -18,13 +17,13 @@ is_refuted-requires-clause-number c =
 pub numbers-preserved : goal.numbers-preserved
 numbers-preserved c = λ x l h. elim (at_or_below x (c.numbers.x + 1) (omega arith)) [
   | inl b ↦ c.numbers.invariant x l (omega arith)
-  | inr e ↦ subst (λ n. NoneAt (task_of c.args.a.now) c.args.p n (steps_of c.args.trail.now)) (sym e)
+  | inr e ↦ subst (λ n. IsRefuted (task_of c.args.a.now) c.args.trail.now c.args.p n) (sym e)
       (c.is_refuted.ensures c.if-not-is_refuted.false)
 ]
 
 pub returns : goal.returns
 returns c = λ _.
     topped (task_of c.args.a.now) c.args.p c.number_at-number.result c.most_at-most.result
-    (chosen_of c.args.best.now.edges c.args.best.now.names) (steps_of c.args.trail.now) c.requires.place
+    (chosen_of c.args.best.now.edges c.args.best.now.names) c.args.trail.now c.requires.place
     c.number_at-number.ensures.number c.most_at-most.ensures.most
     (λ x l h. c.numbers.invariant x l (let b = c.numbers-test.false in omega arith))

@@ -1,6 +1,5 @@
 use Rattle.olap_clauses.specs.Engines.{trail_of}
 use Rattle.olap_dimsat.specs.Asking.{task_of}
-use Rattle.olap_dimsat.proofs.StepLemmas.{only_decisions}
 use Rattle.olap_dimsat.proofs.WitnessLemmas.{ready_still, same_agrees, taken_agrees}
 use Rattle.olap_dimsat.proofs.existing.exists.Goals as goal
 
@@ -22,5 +21,4 @@ returns-clause-none c = λ e f v one r a.
     let t = task_of c.args.a.now in
     let steps = trail_of c.args.engine.now in
     let w = c.requires.ready f one in
-    c.exists.ensures.nothing e w.0 (f, one, w.1) w.2
-    (only_decisions w.0 steps (same_agrees t f v w.0 steps c.requires.shaped r w.1 a))
+    c.exists.ensures.nothing e w.0 (f, one, w.1) w.2 (same_agrees t f v w.0 steps c.requires.shaped r w.1 a)

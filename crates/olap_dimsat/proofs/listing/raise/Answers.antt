@@ -1,7 +1,7 @@
 use Rattle.std.proofs.Common.{◌+◌, List, refl, sym, subst, ◌∙◌, inl, inr, arith}
 use Rattle.olap_clauses.specs.declared.trails.Step.{Step}
 use Rattle.olap_clauses.specs.Engines.{trail_of}
-use Rattle.olap_clauses.specs.Standing.{Agrees}
+use Rattle.olap_clauses.specs.Standing.{AgreesDecisions}
 use Rattle.olap_frozen.specs.declared.frozen.Frozen.{Frozen}
 use Rattle.olap_frozen.specs.Leaves.{chosen_of}
 use Rattle.olap_dimsat.specs.Asking.{IsFor, task_of}
@@ -34,7 +34,7 @@ numbers-preserved c =
       best = s.stays refl ∙ i.best;
       none = λ k l h f v one r a q. elim (at_or_below k (c.numbers.x + 1) (omega arith)) [
         | inl b ↦ i.none k l (omega arith) f v one r a q
-        | inr z ↦ s.no refl f v one r (subst (λ (ss : List Step). Agrees v ss) (sym i.trail) a) (q ∙ z)
+        | inr z ↦ s.no refl f v one r (subst (λ (ss : List Step). AgreesDecisions v ss) (sym i.trail) a) (q ∙ z)
       ];
       suited = c.replace.ensures.suited;
       ready = c.replace.ensures.ready;

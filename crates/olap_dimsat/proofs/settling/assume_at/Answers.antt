@@ -15,8 +15,8 @@ returns-then-p-edges-clause-yes c = λ e f v one r.
     let val = ap v (ap (λ (x : Lit). x.variable) c.on-on.ensures) ∙ r.on c.args.p edge in
     let code = code_edge (task_of c.args.a.now) f c.args.p one edge in
     let own = bit_of_one c.args.x (c.requires.number.edge edge) in (
-      λ a. let b = (c.assume.ensures.yes e v).0 a in (b.0, code ∙ ap bit (sym val ∙ b.1) ∙ own),
-      λ d. (c.assume.ensures.yes e v).1 (d.0, val ∙ same_bit _ _ (sym code ∙ d.1 ∙ sym own)),
+      λ a. let b = (c.assume.ensures.yes e f v one r).0 a in (b.0, code ∙ ap bit (sym val ∙ b.1) ∙ own),
+      λ d. (c.assume.ensures.yes e f v one r).1 (d.0, val ∙ same_bit _ _ (sym code ∙ d.1 ∙ sym own)),
     )
 
 pub returns-then-p-edges-clause-no : goal.returns-then-p-edges-clause-no
@@ -27,7 +27,7 @@ returns-then-p-edges-clause-no c = λ e f v one r a q.
     let val = ap v (ap (λ (x : Lit). x.variable) c.on-on.ensures) ∙ r.on c.args.p edge in
     let code = code_edge (task_of c.args.a.now) f c.args.p one edge in
     let own = bit_of_one c.args.x (c.requires.number.edge edge) in
-    c.assume.ensures.no e v a (val ∙ same_bit _ _ (sym code ∙ q ∙ sym own))
+    c.assume.ensures.no e f v one r a (val ∙ same_bit _ _ (sym code ∙ q ∙ sym own))
 
 pub returns-else-p-edges-clause-yes : goal.returns-else-p-edges-clause-yes
 returns-else-p-edges-clause-yes c = λ e.

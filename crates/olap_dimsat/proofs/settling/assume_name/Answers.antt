@@ -6,6 +6,7 @@ use Rattle.olap_dimsat.specs.Asking.{task_of}
 use Rattle.olap_encoding.specs.Layouts.{name_variable}
 use Rattle.olap_dimsat.specs.Tasks.{constant_count}
 use Rattle.olap_dimsat.proofs.SettleLemmas.{code_index, index_of_named, longer_again, named_more, named_of_index}
+use Rattle.olap_dimsat.proofs.WitnessLemmas.{ready_still}
 use Rattle.olap_dimsat.proofs.settling.assume_name.Goals as goal
 
 pub name-name-requires-clause-inside : goal.name-name-requires-clause-inside
@@ -31,6 +32,10 @@ assume-requires-clause-inside c =
     let n = ap (λ (x : Lit). x.variable) c.name-name.ensures in
     let v = c.indexes.invariant.variables in let w = c.requires.variables in omega arith
 
+pub assume-requires-clause-ready : goal.assume-requires-clause-ready
+assume-requires-clause-ready c = ready_still (task_of c.args.a.now) c.args.engine.now c.indexes.engine c.requires.ready
+    (λ v m a. c.indexes.invariant.admits v a)
+
 pub returns-then-not-assume-clause-no : goal.returns-then-not-assume-clause-no
 returns-then-not-assume-clause-no c = λ e f v one r a q.
     let t = task_of c.args.a.now in
@@ -41,10 +46,10 @@ returns-then-not-assume-clause-no c = λ e f v one r a q.
     let p = c.indexes.j - 1 in
     let next : suc p ≡ c.indexes.j = omega arith in
     let named = named_of_index t f v c.args.c.0 c.args.i r c.requires.category index in
-    let cur = (c.indexes.invariant.say v).1 (a, λ k h. named k (omega arith)) in
+    let cur = (c.indexes.invariant.say f v one r).1 (a, λ k h. named k (omega arith)) in
     let variable = ap (λ (x : Lit). x.variable) c.name-name.ensures
     ∙ ap (λ n. name_variable t.layout c.args.c.0 (n - 1)) c.from.ensures in
-    c.if-not-assume.ensures.no refl v cur
+    c.if-not-assume.ensures.no refl f v one r cur
     (ap v variable ∙ named p (omega arith) ∙ ap (λ k. k == c.args.i) next)
 
 pub returns-then-not-assume-clause-admits : goal.returns-then-not-assume-clause-admits
@@ -62,13 +67,13 @@ indexes-preserved c =
     let variable = ap (λ (x : Lit). x.variable) c.name-name.ensures
     ∙ ap (λ n. name_variable t.layout c.args.c.0 (n - 1)) c.from.ensures in
     record {
-      say = λ v. (
-        λ a. let b = (s.yes refl v).0 a in let d = (i.say v).0 b.0 in (
+      say = λ f v one r. (
+        λ a. let b = (s.yes refl f v one r).0 a in let d = (i.say f v one r).0 b.0 in (
           d.0,
           λ k h. named_more t v c.args.c.0 c.args.i p d.1 (ap v (sym variable) ∙ b.1 ∙ sym same) k (omega arith),
         ),
-        λ d. (s.yes refl v).1 (
-          (i.say v).1 (d.0, λ k h. d.1 k (omega arith)),
+        λ d. (s.yes refl f v one r).1 (
+          (i.say f v one r).1 (d.0, λ k h. d.1 k (omega arith)),
           ap v variable ∙ d.1 p (omega arith) ∙ same,
         ),
       );
@@ -86,12 +91,12 @@ returns-clause-yes c = λ e f v one r.
     let count = c.names-j-end.ensures.count in
     let i = c.indexes.invariant in
     let code = code_index t f c.args.c.0 one c.requires.declared in (
-      λ a. let d = (i.say v).0 a in (
+      λ a. let d = (i.say f v one r).0 a in (
         d.0,
         code ∙ index_of_named t f v c.args.c.0 c.args.i one r c.requires.category c.requires.index
             (λ k h. d.1 k (omega arith)),
       ),
-      λ d. (i.say v).1 (
+      λ d. (i.say f v one r).1 (
         d.0,
         λ k h. named_of_index t f v c.args.c.0 c.args.i r c.requires.category (sym code ∙ d.1) k
             (let b = c.indexes.auto.j-end in omega arith),

@@ -1,16 +1,20 @@
 use Rattle.std.proofs.Common.{◌≡◌, ◌-◌, ℕ, Bool}
 use Rattle.std.specs.Prelude.{◌↔◌}
+use Rattle.olap_ast.specs.Frozen.{Frozen}
 use Rattle.olap_clauses.specs.Engines.{admits, trail_of, variables_of}
-use Rattle.olap_clauses.specs.Standing.{Agrees}
+use Rattle.olap_clauses.specs.Standing.{AgreesDecisions}
 use Rattle.olap_dimsat.specs.Asking.{task_of}
 use Rattle.olap_dimsat.specs.Pinned.{AreShaped, IsLonger}
+use Rattle.olap_dimsat.specs.Reads.{Reads}
+use Rattle.olap_dimsat.specs.Tasks.{IsOne}
 use Rattle.olap_dimsat.proofs.SettleLemmas.{NamedSo}
 use Rattle.olap_dimsat.proofs.settling.assume_name.Given as goal
 
 abbrev pub invariant-indexes : goal.invariant-indexes
 invariant-indexes l = record {
-  say : (v : ℕ → Bool) → Agrees v (trail_of l.engine)
-      ↔ (Agrees v (trail_of l.fn.engine) × NamedSo (task_of l.a) v l.c.0 l.i (l.j - 1));
+  say : (f : Frozen) (v : ℕ → Bool) → IsOne (task_of l.a) f → Reads (task_of l.a) f v
+      → AgreesDecisions v (trail_of l.engine)
+      ↔ (AgreesDecisions v (trail_of l.fn.engine) × NamedSo (task_of l.a) v l.c.0 l.i (l.j - 1));
   longer : IsLonger (trail_of l.fn.engine) (trail_of l.engine);
   shaped : AreShaped (task_of l.a) (trail_of l.engine);
   variables : variables_of l.engine ≡ variables_of l.fn.engine;

@@ -1,7 +1,7 @@
 use Rattle.std.proofs.Common.{List, refl, sym, subst, ◌∙◌, arith}
 use Rattle.olap_clauses.specs.declared.trails.Step.{Step}
 use Rattle.olap_clauses.specs.Engines.{trail_of}
-use Rattle.olap_clauses.specs.Standing.{Agrees}
+use Rattle.olap_clauses.specs.Standing.{AgreesDecisions}
 use Rattle.olap_frozen.specs.declared.frozen.Frozen.{Frozen}
 use Rattle.olap_frozen.specs.Leaves.{chosen_of}
 use Rattle.olap_dimsat.specs.Asking.{IsFor, task_of}
@@ -20,7 +20,7 @@ pub returns-then-not-exists-clause-none : goal.returns-then-not-exists-clause-no
 returns-then-not-exists-clause-none c = λ _ f one.
     let w = c.requires.ready f one in
     c.if-not-exists.ensures.none refl f w.0 one w.1
-    (subst (λ (ss : List Step). Agrees w.0 ss) (sym c.requires.empty) tt)
+    (subst (λ (ss : List Step). AgreesDecisions w.0 ss) (sym c.requires.empty) tt)
 
 pub returns-then-not-exists-clause-suited : goal.returns-then-not-exists-clause-suited
 returns-then-not-exists-clause-suited c = c.exists.ensures.suited

@@ -3,11 +3,11 @@ use Rattle.olap_clauses.specs.Engines.{trail_of}
 use Rattle.olap_frozen.specs.Leaves.{chosen_of}
 use Rattle.olap_dimsat.specs.Asking.{task_of}
 use Rattle.olap_dimsat.specs.Pinned.{NoneLess}
-use Rattle.olap_dimsat.proofs.SettleLemmas.{at_or_below, longer_again, none_less_still}
+use Rattle.olap_dimsat.proofs.SettleLemmas.{at_or_below, below, longer_again, none_less_still}
 use Rattle.olap_dimsat.proofs.settling.settle_from.Goals as goal
 
 pub settle_next-known-requires-clause-place : goal.settle_next-known-requires-clause-place
-settle_next-known-requires-clause-place c = (c.places-p-end.ensures c.places.p).0 c.places-test.true
+settle_next-known-requires-clause-place c = (c.places-end.ensures c.places.p).0 c.places-test.true
 
 pub places-preserved : goal.places-preserved
 places-preserved c =
@@ -34,8 +34,23 @@ places-preserved c =
 
 pub returns-clause-least : goal.returns-clause-least
 returns-clause-least c = λ p f h.
-    let l = (c.places-p-end.ensures p).1 h in
+    let l = (c.places-end.ensures p).1 h in
     c.places.invariant.least p f (let b = c.places-test.false in omega arith)
+
+pub returns-then-known-end-clause-one : goal.returns-then-known-end-clause-one
+returns-then-known-end-clause-one c = c.places.invariant.pinned.one
+
+pub returns-then-known-end-clause-least : goal.returns-then-known-end-clause-least
+returns-then-known-end-clause-least c = λ p f h.
+    let l = (c.places-end.ensures p).1 h in
+    let b = c.if-known-end.true in
+    elim (below p c.places.p) [
+      | inl s ↦ c.places.invariant.least p f s
+      | inr s ↦ c.places.invariant.known p s (omega arith)
+    ]
+
+pub returns-then-known-end-clause-longer : goal.returns-then-known-end-clause-longer
+returns-then-known-end-clause-longer c = c.places.invariant.longer
 
 pub returns-clause-longer : goal.returns-clause-longer
 returns-clause-longer c = c.places.invariant.longer

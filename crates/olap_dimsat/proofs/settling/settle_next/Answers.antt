@@ -1,10 +1,8 @@
-use Rattle.std.proofs.Common.{List, refl, sym, subst, ◌∙◌, arith}
-use Rattle.olap_clauses.specs.declared.trails.Step.{Step}
+use Rattle.std.proofs.Common.{refl, ◌∙◌, arith}
 use Rattle.olap_clauses.specs.Engines.{trail_of, variables_of}
-use Rattle.olap_frozen.specs.Leaves.{chosen_of}
 use Rattle.olap_dimsat.specs.Asking.{task_of}
-use Rattle.olap_dimsat.specs.Pinned.{IsLonger, IsPinned}
 use Rattle.olap_dimsat.proofs.MadeLemmas.{suited_still}
+use Rattle.olap_dimsat.proofs.SettleLemmas.{longer_again}
 use Rattle.olap_dimsat.proofs.settling.settle_next.Goals as goal
 
 pub keep-requires : goal.keep-requires
@@ -40,28 +38,23 @@ first_open-next-requires c = record {
 
 pub settle-requires : goal.settle-requires
 settle-requires c =
-    let t = task_of c.args.a.now in
-    let old = c.args.best.now in
     let s = c.first_open-next.ensures in record {
       place = c.requires.place;
-      suited = suited_still t c.args.leaf.now (variables_of c.args.engine.now)
+      suited = suited_still (task_of c.args.a.now) c.args.leaf.now (variables_of c.args.engine.now)
           (variables_of c.first_open-next.new.engine) c.requires.suited s.variables;
       ready = s.ready;
       best = c.requires.best;
-      pinned = subst (λ (ss : List Step). IsPinned t c.args.p (chosen_of old.edges old.names) ss) (sym s.trail)
-          c.requires.pinned;
+      pinned = s.pinned;
     }
 
 pub keep-requires-then-p-next : goal.keep-requires-then-p-next
 keep-requires-then-p-next c =
-    let old = c.args.best.now in
     let s = c.first_open-next.ensures in record {
       task = c.requires.suited.task;
       place = c.requires.place;
       ready = s.ready;
       best = c.requires.best;
-      pinned = subst (λ (ss : List Step). IsPinned (task_of c.args.a.now) c.args.p (chosen_of old.edges old.names) ss)
-          (sym s.trail) c.requires.pinned;
+      pinned = s.pinned;
       variables = s.variables ∙ c.requires.suited.variables;
     }
 
@@ -69,8 +62,8 @@ pub returns-then-p-next : goal.returns-then-p-next
 returns-then-p-next c =
     let s = c.first_open-next.ensures in record {
       pinned = c.keep-then-p-next.ensures.pinned;
-      longer = subst (λ (ss : List Step). IsLonger ss (trail_of c.keep-then-p-next.new.engine)) s.trail
-          c.keep-then-p-next.ensures.longer;
+      longer = longer_again (trail_of c.args.engine.now) (trail_of c.first_open-next.new.engine)
+          (trail_of c.keep-then-p-next.new.engine) s.longer c.keep-then-p-next.ensures.longer;
       same = λ q h. refl;
       least = let b = c.if-p-next.true in s.least c.args.p (omega arith) (omega arith);
       known = λ q f l. s.least q (omega arith) l;
@@ -84,8 +77,8 @@ returns-then-p-next c =
 pub returns : goal.returns
 returns c = record {
   pinned = c.settle.ensures.pinned;
-  longer = subst (λ (ss : List Step). IsLonger ss (trail_of c.settle.new.engine)) c.first_open-next.ensures.trail
-      c.settle.ensures.longer;
+  longer = longer_again (trail_of c.args.engine.now) (trail_of c.first_open-next.new.engine)
+      (trail_of c.settle.new.engine) c.first_open-next.ensures.longer c.settle.ensures.longer;
   same = c.settle.ensures.same;
   least = c.settle.ensures.least;
   known = λ q f l. absurd (omega arith);

@@ -14,3 +14,10 @@ returns-then-is_none-clause-admits c = λ v a.
 pub returns-else-is_none-clause-follows : goal.returns-else-is_none-clause-follows
 returns-else-is_none-clause-follows c = λ v a h.
     let x = c.force_each_short.ensures.extends in agrees_grown v x.steps (x.kept v a).forced h
+
+pub returns-then-is_none-clause-grown : goal.returns-then-is_none-clause-grown
+returns-then-is_none-clause-grown c =
+    (extends_again c.force_each_short.ensures.extends c.propagate-broken.ensures.extends).steps
+
+pub returns-else-is_none-clause-grown : goal.returns-else-is_none-clause-grown
+returns-else-is_none-clause-grown c = c.force_each_short.ensures.extends.steps

@@ -5,7 +5,7 @@ use Rattle.olap_frozen.specs.Leaves.{chosen_of}
 use Rattle.olap_dimsat.specs.Asking.{task_of}
 use Rattle.olap_dimsat.specs.Branches.{AreBranches}
 use Rattle.olap_dimsat.specs.Pinned.{IsPinned, IsReady}
-use Rattle.olap_dimsat.proofs.branching.branch_behind.Given as goal
+use Rattle.olap_dimsat.proofs.branching.branch_from.Given as goal
 
 abbrev pub invariant-places : goal.invariant-places
 invariant-places l = record {
