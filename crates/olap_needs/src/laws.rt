@@ -31,22 +31,22 @@ pub fn none_needed()
     ensures { NoneNeeded }
 {}
 
-/// There is one such list.
+/// There is at most one such list.
 pub fn needs_are_one()
     ensures { NeedsAreOne }
 {}
 
-/// There is one list of those that they leave without members.
+/// There is at most one list of those that they leave without members.
 pub fn emptied_are_one()
     ensures { EmptiedAreOne }
 {}
 
-/// Within the limits the schema with them is valid.
+/// If there is room for them, a readable schema stays readable with them.
 pub fn needs_stay_readable()
     ensures { NeedsStayReadable }
 {}
 
-/// Each of them by itself keeps all limits.
+/// Each of them by itself is a question within the limits, if there are at most `most_words` sources.
 pub fn each_need_is_question()
     ensures { EachNeedIsQuestion }
 {}

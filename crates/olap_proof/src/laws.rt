@@ -19,22 +19,22 @@ pub fn chain_is_shortly_certified()
     ensures { ChainIsShortlyCertified }
 {}
 
-/// No certificate decides an edge where it is decided.
+/// For the same schema and question, no certificate begins by deciding an edge twice.
 pub fn edges_are_decided_once()
     ensures { EdgesAreDecidedOnce }
 {}
 
-/// Nor a name.
+/// Nor does one begin by deciding a name twice.
 pub fn names_are_decided_once()
     ensures { NamesAreDecidedOnce }
 {}
 
-/// Nor does one call the bottom category of a tree loose.
+/// Nor does one of the long form begin by calling the bottom category of its tree loose.
 pub fn the_root_is_not_loose()
     ensures { TheRootIsNotLoose }
 {}
 
-/// Nor has one two spaces between words.
+/// Nor has one two spaces between the words of its second line.
 pub fn lines_are_spelled_exactly()
     ensures { LinesAreSpelledExactly }
 {}
