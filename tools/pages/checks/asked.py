@@ -328,13 +328,15 @@ def time_faults(room: Path) -> Iterator[str]:
     yield from one_line("compare in no time", tool("compare", schema, schema, "--seconds", "0", folder=room), 1)
     yield from one_line("least in no time", tool("least", schema, "Region", "--seconds", "-1", folder=room), 1)
     slow = room / "slow"
-    slow.write_text(f'#!/bin/sh\n[ "$1" = format ] || {{ touch "{room}/began"; exec sleep 60; }}\nexec "{find()}" "$@"\n')
+    slow.write_text(f'#!/bin/sh\n[ "$1" = format ] || {{ touch "$BEGAN"; exec sleep 60; }}\nexec "{find()}" "$@"\n')
     slow.chmod(0o755)
     for words in (("least", schema, "Region"), ("compare", schema, schema)):
-        environment = {**os.environ, "OLAP": str(slow), "TMPDIR": str(room)}
+        # A file of its own: what one tool started may still make its file while the next begins.
+        began_file = room / f"began-{words[0]}"
+        environment = {**os.environ, "OLAP": str(slow), "TMPDIR": str(room), "BEGAN": str(began_file)}
         running = subprocess.Popen([sys.executable, TOOLS / words[0], *words[1:]], cwd=room, env=environment, stdout=subprocess.DEVNULL,
                                    stderr=subprocess.PIPE, start_new_session=True, preexec_fn=hear_interrupts)
-        while not (room / "began").exists() and running.poll() is None:
+        while not began_file.exists() and running.poll() is None:
             time.sleep(0.02)
         running.send_signal(signal.SIGINT)
         began = time.monotonic()
@@ -345,8 +347,7 @@ def time_faults(room: Path) -> Iterator[str]:
             errors = running.communicate()[1].decode()
         if running.returncode != 130 or errors or time.monotonic() - began > 10:
             yield f"Ctrl-C ends {words[0]} with {running.returncode} after {time.monotonic() - began:.0f} s: {errors.strip()[-200:]}"
-        (room / "began").unlink(missing_ok=True)
-    if left := [each for each in os.listdir(room) if each != "slow"]:
+    if left := [each for each in os.listdir(room) if each != "slow" and not each.startswith("began-")]:
         yield f"Ctrl-C leaves {left}"
 
 
