@@ -16,7 +16,8 @@ use Rattle.olap_records.specs.Records.{records_of}
 use Rattle.olap_records.specs.Texts.{text_of_row, text_of_rows}
 use Rattle.olap_records.proofs.ReadingBack.{text-back, texts-push}
 use Rattle.olap_cube_views.specs.CubeTallies.{AreMembers}
-use Rattle.olap_cube_views.specs.CubeViewText.{cube_view_text, fields_in, header, ids_in, numbers_of, records_of_cube_view}
+use Rattle.olap_cube_views.specs.CubeViewText.{cube_view_text, fields_in, header, ids_in, records_of_cube_view}
+use Rattle.olap_view.specs.ViewText.{numbers_of}
 use Rattle.olap_cube_views.specs.Seen.{cube_row_of, cube_rows_of}
 use Rattle.olap_cube_views.specs.declared.views.CubeRow as told
 use Rattle.olap_cube_views.proofs.AncestorLemmas.{members_length}

@@ -72,17 +72,12 @@ cube_fact_read is r =
 
 -- ---- all of them
 
--- the records after the header, where there may be so many facts
-abbrev pub body_read_within : ℕ → List Graph → List Instance → List (List (List ℕ))
-    → Result (List CubeFact) (Fault FactKind)
-body_read_within most gs is rows =
-    or_read (first_fault (cube_fact_fault_within most gs is) [] rows) (Ok (map (cube_fact_read is) rows))
-
 -- what the records of a text stand for, where there may be so many facts
 abbrev pub cube_facts_read_within : ℕ → List Graph → List Instance → List (List (List ℕ))
     → Result (List CubeFact) (Fault FactKind)
-cube_facts_read_within most gs is records =
-    table_read (header (length is)) kind.BadHeader (body_read_within most gs is) records
+cube_facts_read_within most gs is records = table_read (header (length is)) kind.BadHeader
+    (λ rows. or_read (first_fault (cube_fact_fault_within most gs is) [] rows) (Ok (map (cube_fact_read is) rows)))
+    records
 
 -- the same for a file that is read into a list
 abbrev pub cube_facts_read : List Graph → List Instance → List (List (List ℕ))

@@ -17,9 +17,11 @@ use Rattle.olap_view.specs.declared.views.Store.{Store}
 use Rattle.olap_delta.specs.FactByFact.{fact_after, facts_changed, store_after_facts}
 use Rattle.olap_delta.specs.Changing.{Delta, step_of}
 use Rattle.olap_delta.specs.declared.changes.Change.{Change}
-use Rattle.olap_delta.specs.Reading.{or_refused, views_changed}
+use Rattle.olap_delta.specs.Reading.{views_changed}
 use Rattle.olap_delta.specs.Taking.{AreTaken, HasTaken, IsStoreAfter, IsStoreAfterAll}
+use Rattle.std.specs.Result.{result_map_both}
 use Rattle.olap_delta.specs.declared.kinds.ChangeKind.{ChangeKind}
+use Rattle.olap_delta.specs.declared.kinds.ChangeKind.TheVariants as change
 use Rattle.olap_delta.specs.declared.kinds.DeltaKind.{DeltaKind}
 use Rattle.olap_facts.specs.declared.kinds.FactKind.{FactKind}
 use Rattle.olap_delta.proofs.ChangingLemmas.{fact_behind, facts_behind}
@@ -129,6 +131,10 @@ pub refused_all : (by : Change) (i : Instance) (views : List View) (all : Result
     (e : Refusal (Fault ChangeKind)) → IsRefusedBy e (views_changed (step_of by) i views all)
     → IsStoreAfterAll by i views all (Err e)
 refused_all by i views all e h = record { ok = tt; sound = tt; order = tt; err = h }
+
+-- the fault of a fact as one of a change
+abbrev or_refused : Result (List View) (Fault DeltaKind) → Result (List View) (Fault ChangeKind)
+or_refused r = result_map_both (λ vs. vs) (λ f. record { at = f.at; kind = change.Fact f.kind }) r
 
 -- the store after the facts that were read
 pub after_all : (by : Change) (i : Instance) (views : List View) (all : Result (List Fact) (Fault FactKind))

@@ -8,7 +8,8 @@ use Rattle.olap_base.specs.Reaching.{reaches}
 use Rattle.olap_base.specs.Summaries.{Summary}
 use Rattle.olap_base.specs.Views.{Fact, View, members_of}
 use Rattle.olap_base.specs.declared.refusals.Fault.{Fault}
-use Rattle.olap_records.specs.Tables.{all_read, and_others, goes_on}
+use Rattle.olap_records.specs.Tables.{all_read, and_others}
+use Rattle.std.specs.Result.{result_map_both}
 use Rattle.olap_view.specs.Stores.{summary_in}
 use Rattle.olap_delta.specs.Changes.{Step, store_after, store_changed, view_after, view_with, views_after}
 use Rattle.olap_delta.specs.FactByFact.{facts_changed, store_after_facts, view_after_at, view_after_fact, views_after_fact}
@@ -22,14 +23,14 @@ without_place (Err p) = Err p.1
 module _ (step : Step) (i : Instance) where
   -- the view after a step that may be refused
   gone_on : (v : View) (y : ℕ) (r : Result Summary DeltaKind)
-      → goes_on r (λ s. Ok (view_with i v y s)) ≡ elim r [ Ok s ↦ Ok (view_with i v y s) | Err k ↦ Err k ]
+      → result_map_both (λ s. view_with i v y s) (λ k. k) r ≡ elim r [ Ok s ↦ Ok (view_with i v y s) | Err k ↦ Err k ]
   gone_on v y (Ok s) = refl
   gone_on v y (Err k) = refl
 
   -- the view after the step at a member, if there is one
   abbrev at_member : View → Fact → Option ℕ → Result View DeltaKind
   at_member v f None = Ok v
-  at_member v f (Some y) = goes_on (step (summary_in v.rows y) f.value) (λ s. Ok (view_with i v y s))
+  at_member v f (Some y) = result_map_both (λ s. view_with i v y s) (λ k. k) (step (summary_in v.rows y) f.value)
 
   -- the first member that is reached is the first of those that are
   first_reached : (v : View) (f : Fact) (ys : List ℕ) → at_member v f (find (λ y. reaches i f.member y) ys)
@@ -48,7 +49,7 @@ module _ (step : Step) (i : Instance) where
   -- that is the definition's
   at_member_is : (v : View) (f : Fact) (o : Option ℕ) → elim o [
     | None ↦ Ok v
-    | Some y ↦ goes_on (step (summary_in v.rows y) f.value) (λ s. Ok (view_with i v y s))
+    | Some y ↦ result_map_both (λ s. view_with i v y s) (λ k. k) (step (summary_in v.rows y) f.value)
   ]
       ≡ at_member v f o
   at_member_is v f None = refl

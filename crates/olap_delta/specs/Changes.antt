@@ -1,17 +1,17 @@
 -- Stores after facts came or were withdrawn.
 --     appended, retracted   what a fact's value makes of a row's summary, or its fault
 --     view_after            what a fact makes of a view
---     views_after           what it makes of several, one after another
 --     store_after           what facts make of stored views, one after another, or the first fault
 use Rattle.std.specs.Prelude.{◌==◌, ◌||◌, ◌+◌, ◌-◌, ℕ, ℤ, ◌+ℤ◌, ◌-ℤ◌, int_lt, nat_le, not, List, [], ◌∷◌, filter_map, find, Option, None, Some, Result, Ok, Err, if◌then◌else◌}
 use Rattle.std.specs.Ordering.{int_eq}
+use Rattle.std.specs.Result.{result_map_both}
 use Rattle.olap_base.specs.Instance.{Instance}
 use Rattle.olap_base.specs.Limits.{most_count}
 use Rattle.olap_base.specs.declared.refusals.Fault.{Fault}
 use Rattle.olap_base.specs.Reaching.{reaches}
 use Rattle.olap_base.specs.Summaries.{Summary, joined, of_value}
 use Rattle.olap_base.specs.Views.{Fact, View, members_of, row_at}
-use Rattle.olap_records.specs.Tables.{all_read, goes_on}
+use Rattle.olap_records.specs.Tables.{all_read}
 use Rattle.olap_view.specs.StoredNumbers.{is_sum}
 use Rattle.olap_view.specs.Stores.{summary_in}
 use Rattle.olap_delta.specs.declared.kinds.DeltaKind.{DeltaKind}
@@ -57,22 +57,24 @@ view_with i v y s = record v {
 abbrev pub view_after : Step → Instance → View → Fact → Result View DeltaKind
 view_after step i v f = elim (find (λ y. reaches i f.member y) (members_of i v.category)) [
   | None ↦ Ok v
-  | Some y ↦ goes_on (step (summary_in v.rows y) f.value) (λ s. Ok (view_with i v y s))
+  | Some y ↦ result_map_both (λ s. view_with i v y s) (λ k. k) (step (summary_in v.rows y) f.value)
 ]
 
 -- ---- a store
 
--- each view after the fact, in order, or the first fault, with its view's place
-abbrev pub views_after : Step → Instance → List View → Fact → Result (List View) (ℕ × DeltaKind)
-views_after step i views f = all_read (λ before v. view_after step i v f) [] views
-
 -- the views after the facts, in order, or the first fault, at its fact's record; the first fact's record is this one
 abbrev pub store_after : Step → Instance → ℕ → List View → List Fact → Result (List View) (Fault DeltaKind)
 store_after step i at views [] = Ok views
-store_after step i at views (f ∷ facts) = elim (views_after step i views f) [
+store_after step i at views (f ∷ facts) = elim (all_read (λ before v. view_after step i v f) [] views) [
   | Ok changed ↦ store_after step i (at + 1) changed facts
   | Err p ↦ Err (record { at = at; kind = p.1 })
 ]
+
+-- ---- as it is done
+
+-- each view after the fact, in order, or the first fault, with its view's place
+abbrev pub views_after : Step → Instance → List View → Fact → Result (List View) (ℕ × DeltaKind)
+views_after step i views f = all_read (λ before v. view_after step i v f) [] views
 
 -- the same of stored views, where a header stands before the first fact
 abbrev pub store_changed : Step → Instance → List View → List Fact → Result (List View) (Fault DeltaKind)

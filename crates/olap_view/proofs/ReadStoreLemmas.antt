@@ -27,7 +27,7 @@ use Rattle.olap_numerals.specs.Values.{is_numeral, value_of}
 use Rattle.olap_records.specs.Faults.{field, first_fault, or_after}
 use Rattle.olap_view.specs.StoreLaws.{ReadStoresAreSound}
 use Rattle.olap_view.specs.StoreReading.{IsStoredAt, Record, said_of}
-use Rattle.olap_view.specs.StoreText.{beginning_fault, begun, body_read, category_number, header, is_beginning, is_row_of, row_fault, store_fault, summary_read, views_read}
+use Rattle.olap_view.specs.StoreText.{beginning_fault, begun, category_number, header, is_beginning, is_row_of, row_fault, store_fault, summary_read, views_read}
 use Rattle.olap_view.specs.StoredNumbers.{count_of, is_sum, sum_of}
 use Rattle.olap_view.specs.Stores.{Fits, IsSoundStore, IsStored}
 use Rattle.olap_view.specs.Tables.{view_by}
@@ -228,7 +228,7 @@ read-stores g i records vs e = go (begins_with header records) _ e
         (all-few g i (drop 1 records) [] (record { few = omega arith; differ = λ j k d l w. absurd (omega arith) }) q))
     read (Some p) q e = absurd (cc)
 
-    go : (b : Bool) (fault : Fault StoreKind) → cond b (body_read g i (drop 1 records)) (Err fault) ≡ Ok vs
-        → IsSoundStore g i vs
+    go : (b : Bool) (fault : Fault StoreKind) → cond b (or_read (first_fault (store_fault g i) [] (drop 1 records))
+        (Ok (views_read g i (drop 1 records)))) (Err fault) ≡ Ok vs → IsSoundStore g i vs
     go true fault e = read (first_fault (store_fault g i) [] (drop 1 records)) refl e
     go false fault e = absurd (cc)

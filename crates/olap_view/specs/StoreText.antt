@@ -1,8 +1,9 @@
 -- The text of stored views.
---     records_of_store   its records: the header, and for each view a record that begins it and one for each row
---     store_text         its bytes
+--     records_of_one     the records of a view: one that begins it, and one for each row
+--     store_text         the bytes of stored views
 --     store_fault        what is wrong with a record
 --     store_read         the views that records stand for, or the first fault
+--     records_of_store   the records of stored views
 use Rattle.std.specs.Prelude.{◌==◌, ◌&&◌, ◌∷◌, Bool, not, ℕ, List, [], length, drop, map, filter, filter_map, find, flat_map, codes, Option, Some, None, is_none, unwrap_or, if◌then◌else◌, nat_le, Result, Ok}
 use Rattle.std.specs.List.{list_all, list_any}
 use Rattle.std.specs.Option.{option_and_then, option_map}
@@ -29,25 +30,15 @@ use Rattle.olap_view.specs.declared.kinds.StoreKind.TheVariants as kind
 abbrev pub header : List (List ℕ)
 header = codes "category" ∷ view.header
 
--- a record whose fields behind the category are empty begins a view
-abbrev pub beginning : List ℕ → List (List ℕ)
-beginning name = name ∷ [] ∷ [] ∷ [] ∷ [] ∷ [] ∷ []
-
--- the record that begins the view of that name, and one for each row: the name, and the fields of the row
-abbrev pub records_behind : List ℕ → Instance → List Row → List (List (List ℕ))
-records_behind name i rows = beginning name ∷ map (λ r. name ∷ view.fields_in i r) rows
-
--- the records of a view
+-- the records of a view: one that begins it, with nothing behind the category, and one for each row
 abbrev pub records_of_one : Graph → Instance → View → List (List (List ℕ))
-records_of_one g i v = records_behind (name_of_category g v.category) i v.rows
+records_of_one g i v =
+    let name = name_of_category g v.category in
+    (name ∷ [] ∷ [] ∷ [] ∷ [] ∷ [] ∷ []) ∷ map (λ r. name ∷ view.fields_in i r) v.rows
 
--- the header, and the records of each view
-abbrev pub records_of_store : Graph → Instance → List View → List (List (List ℕ))
-records_of_store g i views = header ∷ flat_map (records_of_one g i) views
-
--- the text of these records
+-- the text of the header, and of the records of each view
 abbrev pub store_text : Graph → Instance → List View → List ℕ
-store_text g i views = text_of_rows (records_of_store g i views)
+store_text g i views = text_of_rows (header ∷ flat_map (records_of_one g i) views)
 
 -- ---- a row's numbers
 
@@ -116,10 +107,21 @@ view_read i rows c = record { category = c; rows = filter_map (row_read i rows) 
 abbrev pub views_read : Graph → Instance → List (List (List ℕ)) → List View
 views_read g i rows = map (view_read i rows) (begun g rows)
 
--- the records after the header
-abbrev pub body_read : Graph → Instance → List (List (List ℕ)) → Result (List View) (Fault StoreKind)
-body_read g i rows = or_read (first_fault (store_fault g i) [] rows) (Ok (views_read g i rows))
-
 -- what the records of a text stand for
 abbrev pub store_read : Graph → Instance → List (List (List ℕ)) → Result (List View) (Fault StoreKind)
-store_read g i = table_read header kind.BadHeader (body_read g i)
+store_read g i = table_read header kind.BadHeader
+    (λ rows. or_read (first_fault (store_fault g i) [] rows) (Ok (views_read g i rows)))
+
+-- ---- as it is printed
+
+-- the header, and the records of each view
+abbrev pub records_of_store : Graph → Instance → List View → List (List (List ℕ))
+records_of_store g i views = header ∷ flat_map (records_of_one g i) views
+
+-- a record whose fields behind the category are empty begins a view
+abbrev pub beginning : List ℕ → List (List ℕ)
+beginning name = name ∷ [] ∷ [] ∷ [] ∷ [] ∷ [] ∷ []
+
+-- the record that begins the view of that name, and one for each row: the name, and the fields of the row
+abbrev pub records_behind : List ℕ → Instance → List Row → List (List (List ℕ))
+records_behind name i rows = beginning name ∷ map (λ r. name ∷ view.fields_in i r) rows
