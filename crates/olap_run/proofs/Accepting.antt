@@ -337,7 +337,8 @@ proved_is_accepted Long schema certificate target sources files text few g held 
     let given = schema ∷ certificate ∷ target ∷ sources in
     few_words files _ _ Yes (line (codes "accepted")) (le-ltb most_words _ few)
     (to_verify files Long given (at_least 3 (verify_order Long) given)
-    (asking OfCubes (cubes.order_named (judging Long) given)) (line (codes "accepted")) (three_or_more_is (verify_order Long) given)
+    (asking OfCubes (cubes.order_named (judging Long) given)) (line (codes "accepted"))
+    (three_or_more_is (verify_order Long) given)
     (accepted Long schema target sources certificate files text held short
     (to_prove files Long asked (at_least 2 (sources_order (ByProof Long)) asked) (behind (proving Long) asked) text
     (two_or_more_is (sources_order (ByProof Long)) asked)
@@ -348,7 +349,8 @@ proved_is_accepted Short schema certificate target sources files text few g held
     let given = schema ∷ certificate ∷ target ∷ sources in
     few_words files _ _ Yes (line (codes "accepted")) (le-ltb most_words _ few)
     (to_verify files Short given (at_least 3 (verify_order Short) given)
-    (asking OfCubes (cubes.order_named (judging Short) given)) (line (codes "accepted")) (three_or_more_is (verify_order Short) given)
+    (asking OfCubes (cubes.order_named (judging Short) given)) (line (codes "accepted"))
+    (three_or_more_is (verify_order Short) given)
     (accepted Short schema target sources certificate files text held short
     (to_prove files Short asked (at_least 2 (sources_order (ByProof Short)) asked) (behind (proving Short) asked) text
     (two_or_more_is (sources_order (ByProof Short)) asked)
