@@ -80,7 +80,8 @@ fn format(words: &[String]) -> Option<Command<'_>>
 
 /// The words after `satisfiable`.
 fn satisfiable(words: &[String]) -> Option<Command<'_>>
-    ensures { option_map seen result ≡ by_two (λ a b. under a (λ s. category_under BySatisfiable s b)) (texts words.now) }
+    ensures { option_map seen result
+        ≡ by_two (λ a b. under a (λ s. category_under BySatisfiable s b)) (texts words.now) }
 {
     match words {
         [schema, category] => Some(Command {

@@ -73,7 +73,7 @@ change_order step words =
     and_then (changed_file step s i views (word 5 words)) (λ changed.
     store_told s.graph i changed))))
 
--- the schema, the target, the sources from left to right, the instance and its laws; the answer is yes if there are none
+-- the schema, the target, the sources from left to right, the instance and its laws; yes if none is found
 abbrev pub breaks_order : List (List ℕ) → Order Question
 breaks_order words =
     and_then (schema_file (codes "schema") (word 2 words)) (λ s.

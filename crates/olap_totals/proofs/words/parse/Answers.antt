@@ -30,9 +30,11 @@ returns-in-breaks c =
 pub returns-in-append : goal.returns-in-append
 returns-in-append c =
     let words = texts c.args.words.now in
-    c.change_command.ensures ∙ four_is (change_order appended) words ∙ ap (λ n. order_named n words) (sym c.in-append.is)
+    c.change_command.ensures ∙ four_is (change_order appended) words
+    ∙ ap (λ n. order_named n words) (sym c.in-append.is)
 
 pub returns-in-retract : goal.returns-in-retract
 returns-in-retract c =
     let words = texts c.args.words.now in
-    c.change_command-in-retract.ensures ∙ four_is (change_order retracted) words ∙ ap (λ n. order_named n words) (sym c.in-retract.is)
+    c.change_command-in-retract.ensures ∙ four_is (change_order retracted) words
+    ∙ ap (λ n. order_named n words) (sym c.in-retract.is)

@@ -14,4 +14,5 @@ returns-in-verify c =
 pub returns-in-text : goal.returns-in-text
 returns-in-text c =
     let words = texts c.args.words.now in
-    c.verify-in-text.ensures ∙ three_or_more_is (verify_order Short) words ∙ ap (λ n. order_named n words) (sym c.in-text.is)
+    c.verify-in-text.ensures ∙ three_or_more_is (verify_order Short) words
+    ∙ ap (λ n. order_named n words) (sym c.in-text.is)
