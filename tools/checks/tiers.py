@@ -11,6 +11,7 @@ from . import families
 from .believed import believed, modules
 
 TOP = families.TOP
+ORDER = re.compile(r"\b\w+_(?:order|told)\b")  # an order, or what it ends in
 TIERS = ("subject", "every run", "schema's text", "its own")
 
 
@@ -29,7 +30,7 @@ def commands():
     """The names of the commands, in the order in which they are told apart, with their families and orders."""
     for family in families.FAMILIES:
         body = "\n".join(modules()[family, "Commands"].declarations["order_named"].body)
-        for name, order in re.findall(r'codes "([\w-]+)"\) then (?:by_\w+ )?\(?(\w[^\n]*?)\)? words', body):
+        for name, order in re.findall(r'codes "([\w-]+)"\) then ([^\n]*) words', body):
             yield name, (family, order)
 
 
@@ -37,14 +38,14 @@ def question_of(family, order):
     """The question that an order of commands is given or ends in; none if it ends in what is told."""
     if asked := re.search(r"\bBy[A-Z]\w+", order):
         return asked.group()
-    left, seen = order.split()[:1], set()
+    left, seen = ORDER.findall(order), set()
     while left:
         name = left.pop()
         seen.add(name)
         body = "\n".join(modules()[family, "Commands"].declarations[name].body)
         if found := re.search(r"\b(?:(By[A-Z]\w+)|Told)", body):
             return found.group(1)
-        left += [word for word in re.findall(r"\w+_(?:order|told)\b", body) if word not in seen]
+        left += [word for word in ORDER.findall(body) if word not in seen]
     raise ValueError(f"{order} has no end")
 
 

@@ -2,6 +2,7 @@
 use Rattle.std.proofs.Common.{ℕ, ◌↔◌, List, [], ◌∷◌, refl, sym, subst, ◌∙◌}
 use Rattle.std.specs.Prelude.{All}
 use Rattle.std.proofs.lemmas.List.Elements.{All-head, All-tail}
+use Rattle.std.specs.List.{AllZip}
 use Rattle.olap_base.specs.Graph.{IsBottom, IsHierarchy}
 use Rattle.olap_base.specs.Instance.{Instance, IsMemberOf, ReachesCategory, ReachesVia, category_of}
 use Rattle.olap_base.specs.Deciding.{dec_and, dec_or}
@@ -9,16 +10,16 @@ use Rattle.olap_base.specs.Views.{ExactlyOne, NoneOf}
 use Rattle.olap_base.proofs.RollingLemmas.{one_same}
 use Rattle.olap_ast.specs.Formula.{Formula.Reach, Formula.Truth, Formula.Via}
 use Rattle.olap_ast.specs.Frozen.{CandidatesExist, thawed}
-use Rattle.olap_ast.specs.Schema.{Schema}
+use Rattle.olap_ast.specs.Schema.{Schema, IsLegal}
 use Rattle.olap_ast.proofs.Decided.{dec_not, dec_via}
 use Rattle.olap_ast.proofs.SameAtoms.{kinds_too}
 use Rattle.olap_ast.proofs.SmallModel.{frozen_alike}
-use Rattle.olap_cube.specs.Tuples.{TupleReaches, IsTupleOf, IsBottomTuple, AreLawful, TupleReachesVia}
-use Rattle.olap_cube.specs.CubeSummarizable.{AreChosen, AreLegal, IsCubeSummarizable, Chosen, IsChosen, IsBadChoice, IsKinded, CubeSummarizableExactlyIfNoneBad, bottoms_of, graphs_of, instances_of}
+use Rattle.olap_cube.specs.Tuples.{AllZip3, AreLawful, IsBottomTuple, IsTupleOf, TupleReaches, TupleReachesVia}
+use Rattle.olap_cube.specs.CubeSummarizable.{Chosen, CubeSummarizableExactlyIfNoneBad, IsBadChoice, IsChosen, IsCubeSummarizable, IsKinded, bottoms_of, graphs_of, instances_of}
 use Rattle.olap_cube.proofs.CubeLemmas.{cubes_agree_exactly}
 
 -- legal instances are lawful
-pub lawful_from_legal : (ss : List Schema) (is : List Instance) → AreLegal ss is → AreLawful (graphs_of ss) is
+pub lawful_from_legal : (ss : List Schema) (is : List Instance) → AllZip IsLegal ss is → AreLawful (graphs_of ss) is
 lawful_from_legal [] [] l = tt
 lawful_from_legal [] (i ∷ is) l = absurd l
 lawful_from_legal (s ∷ ss) [] l = absurd l
@@ -27,8 +28,8 @@ lawful_from_legal (s ∷ ss) (i ∷ is) l = (l.0.lawful, lawful_from_legal ss is
 -- ---- a choice stands for legal instances, with its roots at the bottom, and they reach the target
 
 -- the instances of a choice are legal
-pub chosen_legal : (ss : List Schema) (cs : List ℕ) (ps : List Chosen) → AreChosen ss cs ps
-    → AreLegal ss (instances_of ss ps)
+pub chosen_legal : (ss : List Schema) (cs : List ℕ) (ps : List Chosen) → AllZip3 IsChosen ss cs ps
+    → AllZip IsLegal ss (instances_of ss ps)
 chosen_legal [] [] [] a = tt
 chosen_legal [] [] (p ∷ ps) a = absurd a
 chosen_legal [] (c ∷ cs) ps a = absurd a
@@ -37,7 +38,7 @@ chosen_legal (s ∷ ss) (c ∷ cs) [] a = absurd a
 chosen_legal (s ∷ ss) (c ∷ cs) (p ∷ ps) a = (a.0.is_one.stands_for.legal, chosen_legal ss cs ps a.1)
 
 -- its roots are a tuple of bottom members
-pub chosen_bottom : (ss : List Schema) (cs : List ℕ) (ps : List Chosen) → AreChosen ss cs ps → (roots : List ℕ)
+pub chosen_bottom : (ss : List Schema) (cs : List ℕ) (ps : List Chosen) → AllZip3 IsChosen ss cs ps → (roots : List ℕ)
     → IsTupleOf (instances_of ss ps) (bottoms_of ps) roots
     → IsBottomTuple (graphs_of ss) (instances_of ss ps) roots
 chosen_bottom [] [] [] a [] m = tt
@@ -62,7 +63,7 @@ reaches_target s c p a x m = let f = a.is_one.stands_for in
     (f.one_each f.root x f.root_is.0 m.0 (f.root_is.1 ∙ sym m.1)) f.true_at_root
 
 -- so the roots of a choice reach a tuple of the target
-pub chosen_up : (ss : List Schema) (cs : List ℕ) (ps : List Chosen) → AreChosen ss cs ps → (roots : List ℕ)
+pub chosen_up : (ss : List Schema) (cs : List ℕ) (ps : List Chosen) → AllZip3 IsChosen ss cs ps → (roots : List ℕ)
     → IsTupleOf (instances_of ss ps) (bottoms_of ps) roots
     → (y : List ℕ) × IsTupleOf (instances_of ss ps) cs y × TupleReaches (instances_of ss ps) roots y
 chosen_up [] [] [] a [] m = ([], tt, tt)
@@ -77,7 +78,7 @@ chosen_up (s ∷ ss) (c ∷ cs) (p ∷ ps) a (x ∷ xs) m =
     (r.0 ∷ rest.0, (r.1, rest.1), (r.2, rest.2))
 
 -- where the target is summarizable they reach it by exactly one source
-by_one : (ss : List Schema) (cs : List ℕ) (sources : List (List ℕ)) (ps : List Chosen) → AreChosen ss cs ps
+by_one : (ss : List Schema) (cs : List ℕ) (sources : List (List ℕ)) (ps : List Chosen) → AllZip3 IsChosen ss cs ps
     → (roots : List ℕ) → IsTupleOf (instances_of ss ps) (bottoms_of ps) roots → IsCubeSummarizable ss cs sources
     → ExactlyOne (λ t. TupleReachesVia (instances_of ss ps) roots t cs) sources
 by_one ss cs sources ps a roots m h =
@@ -91,14 +92,14 @@ by_one ss cs sources ps a roots m h =
 -- a choice whose roots reach the target by the same sources as a tuple of an instance
 record Alike (ss : List Schema) (cs : List ℕ) (is : List Instance) (x : List ℕ) : Type 0 where
   choice : List Chosen
-  chosen : AreChosen ss cs choice
+  chosen : AllZip3 IsChosen ss cs choice
   roots : List ℕ
   roots_are : IsTupleOf (instances_of ss choice) (bottoms_of choice) roots
   same : (t : List ℕ) → TupleReachesVia (instances_of ss choice) roots t cs ↔ TupleReachesVia is x t cs
 
 -- there is one, dimension by dimension, by the small-model theorem
 alike : CandidatesExist → (ss : List Schema) (cs : List ℕ) (is : List Instance) (x y : List ℕ)
-    → All IsHierarchy (graphs_of ss) → All IsKinded ss → AreLegal ss is → IsBottomTuple (graphs_of ss) is x
+    → All IsHierarchy (graphs_of ss) → All IsKinded ss → AllZip IsLegal ss is → IsBottomTuple (graphs_of ss) is x
     → IsTupleOf is cs y → TupleReaches is x y → Alike ss cs is x
 alike exist [] [] [] [] y a w l b m r = record {
   choice = [];

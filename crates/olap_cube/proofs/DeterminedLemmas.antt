@@ -5,7 +5,10 @@ use Rattle.olap_ast.specs.Frozen.{AreOneFrozenDimension, code, name_in, root_pla
 use Rattle.olap_ast.specs.Schema.{Schema}
 use Rattle.olap_base.specs.Ranks.{IsNotAfter}
 use Rattle.olap_ast.proofs.Determined.{same_name, same_thawed}
-use Rattle.olap_cube.specs.CubeSummarizable.{AreChosen, AreNotAfter, AreOneChoice, Chosen, IsChosen, TheCubeCounterexampleIsOne, bottoms_of, codes_of}
+use Rattle.olap_cube.proofs.RankLemmas.{to_least}
+use Rattle.olap_cube.specs.Codes.{AreNotAfter, codes_of}
+use Rattle.olap_cube.specs.Tuples.{AllZip3}
+use Rattle.olap_cube.specs.CubeSummarizable.{AreOneChoice, Chosen, IsChosen, TheCubeCounterexampleIsOne, bottoms_of}
 
 -- of two lists neither comes after the other only if they are equal
 not_after_both : (xs ys : List ℕ) → IsNotAfter xs ys → IsNotAfter ys xs → xs ≡ ys
@@ -77,8 +80,8 @@ one_frozen s c p q a b r e =
     }
 
 -- two choices with the same bottom categories and codes are one
-one_choice : (ss : List Schema) (cs : List ℕ) (ps qs : List Chosen) → AreChosen ss cs ps → AreChosen ss cs qs
-    → bottoms_of ps ≡ bottoms_of qs → codes_of ps ≡ codes_of qs → AreOneChoice ss ps qs
+one_choice : (ss : List Schema) (cs : List ℕ) (ps qs : List Chosen) → AllZip3 IsChosen ss cs ps
+    → AllZip3 IsChosen ss cs qs → bottoms_of ps ≡ bottoms_of qs → codes_of ps ≡ codes_of qs → AreOneChoice ss ps qs
 unfolding head_or tail_of
 one_choice [] [] [] [] a b r e = tt
 one_choice [] [] [] (q ∷ qs) a b r e = absurd b
@@ -94,7 +97,9 @@ one_choice (s ∷ ss) (c ∷ cs) (p ∷ ps) (q ∷ qs) a b r e = (
 
 -- the theorem: two that come no later than each other have the same codes
 pub the_cube_counterexample_is_one : TheCubeCounterexampleIsOne
-the_cube_counterexample_is_one ss cs sources one other a b =
+the_cube_counterexample_is_one ss cs sources one other x y =
+    let a = to_least ss cs sources one x in
+    let b = to_least ss cs sources other y in
     let r : bottoms_of one ≡ bottoms_of other = not_after_both (bottoms_of one) (bottoms_of other)
     (a.first other b.is_bad) (b.first one a.is_bad) in
     one_choice ss cs one other a.is_bad.chosen b.is_bad.chosen r

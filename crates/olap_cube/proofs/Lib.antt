@@ -3,5 +3,6 @@ pub mod TupleLemmas
 pub mod CubeLemmas
 pub mod ChoiceLemmas
 pub mod DeterminedLemmas
+pub mod RankLemmas
 mod SumLemmas
 mod OneDimensionLemmas

@@ -1,5 +1,6 @@
 -- A cube of one dimension is its dimension.
 use Rattle.std.proofs.Common.{◌≡◌, ℕ, ◌<◌, ◌⊎◌, ◌↔◌, List, [], ◌∷◌, map, refl, sym, ap, subst, ◌∙◌, inl, inr, arith}
+use Rattle.std.specs.List.{AllZip}
 use Rattle.olap_base.specs.Graph.{IsBottom}
 use Rattle.olap_base.specs.Instance.{Instance, IsMemberOf, ReachesVia}
 use Rattle.olap_base.specs.Above.{HasOneMemberEach}
@@ -7,7 +8,7 @@ use Rattle.olap_base.specs.Views.{ExactlyOne, NoneOf}
 use Rattle.olap_base.proofs.ViewLemmas.{agree_exactly}
 use Rattle.olap_ast.specs.Formula.{Formula, Formula.Reach, comparisons, equalities}
 use Rattle.olap_ast.specs.Frozen.{AreCandidates, Candidates, Frozen, IsFrozen, IsFrozenInstance, code, thawed}
-use Rattle.olap_ast.specs.Schema.{Schema}
+use Rattle.olap_ast.specs.Schema.{Schema, IsLegal}
 use Rattle.olap_ast.specs.Summarizable.{IsCounterexample, IsSummarizable, not_by_one}
 use Rattle.olap_base.specs.Ranks.{IsNotAfter}
 use Rattle.olap_ast.proofs.Determined.{still_frozen}
@@ -16,8 +17,10 @@ use Rattle.olap_ast.proofs.SourceLemmas.{question_free, question_numberless}
 use Rattle.olap_ast.proofs.Summing.{one_of}
 use Rattle.olap_cube.specs.Tuples.{IsBottomTuple, IsTupleOf, TupleReaches, TupleReachesVia}
 use Rattle.olap_cube.specs.CubeViews.{CubeViewsAgree}
-use Rattle.olap_cube.specs.CubeSummarizable.{AreLegal, AreNotAfter, Chosen, CounterexamplesOfOneDimension, CubesOfOneDimension, IsBadChoice, IsCubeCounterexample, IsCubeSummarizable, bottoms_of, codes_of}
+use Rattle.olap_cube.specs.Codes.{AreNotAfter, IsLeastChoice, codes_of}
+use Rattle.olap_cube.specs.CubeSummarizable.{Chosen, CounterexamplesOfOneDimension, CubesOfOneDimension, IsBadChoice, IsCubeSummarizable, bottoms_of}
 use Rattle.olap_cube.proofs.CubeLemmas.{cubes_agree_exactly}
+use Rattle.olap_cube.proofs.RankLemmas.{from_least, to_least}
 
 -- each as a tuple of one
 abbrev alone : List ℕ → List (List ℕ)
@@ -51,7 +54,7 @@ cubes_of_one_dimension s c sources = (to, from)
     from : IsSummarizable s c sources → IsCubeSummarizable (s ∷ []) (c ∷ []) (alone sources)
     from h is l = go is l
       where
-        go : (is : List Instance) → AreLegal (s ∷ []) is
+        go : (is : List Instance) → AllZip IsLegal (s ∷ []) is
             → CubeViewsAgree (s.graph ∷ []) is (c ∷ []) (alone sources)
         go [] l = absurd l
         go (i ∷ j ∷ is) l = absurd l.1
@@ -142,7 +145,7 @@ module _ (s : Schema) (c : ℕ) (sources : List ℕ) where
   with_candidates k a p b =
       still_frozen s q p.bottom p.candidates k (bad_candidates p b) a p.frozen (bad_frozen p b)
 
-  to : (p : Chosen) → IsCubeCounterexample (s ∷ []) (c ∷ []) (alone sources) (p ∷ [])
+  to : (p : Chosen) → IsLeastChoice (s ∷ []) (c ∷ []) (alone sources) (p ∷ [])
       → IsCounterexample s c sources p.candidates p.bottom p.frozen
   to p x = record {
     bottom = bad_bottom p x.is_bad;
@@ -162,7 +165,7 @@ module _ (s : Schema) (c : ℕ) (sources : List ℕ) where
       not_before d l (inr m) = let e = m.0 in omega arith
 
   from : (p : Chosen) → IsCounterexample s c sources p.candidates p.bottom p.frozen
-      → IsCubeCounterexample (s ∷ []) (c ∷ []) (alone sources) (p ∷ [])
+      → IsLeastChoice (s ∷ []) (c ∷ []) (alone sources) (p ∷ [])
   from p x = record {
     is_bad = bad_of p.candidates p.bottom p.frozen x.bottom x.least.candidates x.least.is_one;
     first = first;
@@ -196,4 +199,7 @@ module _ (s : Schema) (c : ℕ) (sources : List ℕ) where
 
 -- the theorem, of counterexamples
 pub counterexamples_of_one_dimension : CounterexamplesOfOneDimension
-counterexamples_of_one_dimension s c sources p = (to s c sources p, from s c sources p)
+counterexamples_of_one_dimension s c sources p = (
+  λ x. to s c sources p (to_least (s ∷ []) (c ∷ []) (alone sources) (p ∷ []) x),
+  λ x. from_least (s ∷ []) (c ∷ []) (alone sources) (p ∷ []) (from s c sources p x),
+)

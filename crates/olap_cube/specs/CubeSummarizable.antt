@@ -4,7 +4,8 @@
 --     IsBadChoice             one for each dimension, whose roots reach the target, and not by exactly one source
 --     IsCubeCounterexample    the bad choice that shows that they don't
 --     AreOneChoice            two choices that can't be told apart
-use Rattle.std.specs.Prelude.{◌≡◌, ℕ, List, [], ◌∷◌, ℤ, pos, map, All, Option, None, Some, ◌↔◌}
+use Rattle.std.specs.Prelude.{◌≡◌, ℕ, List, [], ◌∷◌, ◌++◌, ℤ, pos, map, flat_map, All, Option, None, Some, ◌↔◌}
+use Rattle.std.specs.List.{AllZip}
 use Rattle.olap_base.specs.Graph.{Graph, IsBottom, IsHierarchy}
 use Rattle.olap_base.specs.Instance.{Instance}
 use Rattle.olap_base.specs.Views.{ExactlyOne}
@@ -13,15 +14,9 @@ use Rattle.olap_ast.specs.Formula.{Formula.Reach, Formula.Truth}
 use Rattle.olap_ast.specs.Frozen.{AreCandidates, AreOneFrozenDimension, Candidates, Frozen, IsFrozen, code, thawed}
 use Rattle.olap_ast.specs.Schema.{Schema, IsLegal}
 use Rattle.olap_ast.specs.Summarizable.{IsCounterexample, IsSummarizable}
-use Rattle.olap_base.specs.Ranks.{IsNotAfter}
-use Rattle.olap_cube.specs.Tuples.{IsTupleOf, TupleReachesVia}
+use Rattle.olap_base.specs.Ranks.{IsFirst}
+use Rattle.olap_cube.specs.Tuples.{AllZip3, IsTupleOf, TupleReachesVia}
 use Rattle.olap_cube.specs.CubeViews.{CubeRow, CubeViewsAgree, IsCubeFactTable, cube_direct_rows, cube_direct_views, cube_rows_from_views, one_cube_fact}
-
--- each instance is legal for its schema
-abbrev pub AreLegal : List Schema → List Instance → Type 0
-AreLegal [] [] = Unit {0}
-AreLegal (s ∷ ss) (i ∷ is) = IsLegal s i × AreLegal ss is
-AreLegal _ _ = ⊥
 
 -- the graph of each schema
 abbrev pub graphs_of : List Schema → List Graph
@@ -31,7 +26,7 @@ graphs_of schemas = map (λ s. s.graph) schemas
 -- views is the direct view of c
 abbrev pub IsCubeSummarizable : List Schema → List ℕ → List (List ℕ) → Type 0
 IsCubeSummarizable schemas c sources =
-    (is : List Instance) → AreLegal schemas is → CubeViewsAgree (graphs_of schemas) is c sources
+    (is : List Instance) → AllZip IsLegal schemas is → CubeViewsAgree (graphs_of schemas) is c sources
 
 -- ---- choices
 
@@ -47,19 +42,13 @@ pub record IsChosen (s : Schema) (c : ℕ) (p : Chosen) : Type 0 where
   pub candidates : AreCandidates s (Reach c) p.candidates
   pub is_one : IsFrozen s (Reach c) p.bottom p.candidates p.frozen
 
--- each is one of its schema, whose root reaches its category
-abbrev pub AreChosen : List Schema → List ℕ → List Chosen → Type 0
-AreChosen [] [] [] = Unit {0}
-AreChosen (s ∷ ss) (c ∷ cs) (p ∷ ps) = IsChosen s c p × AreChosen ss cs ps
-AreChosen _ _ _ = ⊥
-
 -- the categories of the roots
 abbrev pub bottoms_of : List Chosen → List ℕ
 bottoms_of choice = map (λ p. p.bottom) choice
 
--- the codes, in order
-abbrev pub codes_of : List Chosen → List (List ℕ)
-codes_of choice = map (λ p. code p.frozen) choice
+-- the categories of the roots, and then the codes
+abbrev pub choice_rank : List Chosen → List ℕ
+choice_rank choice = bottoms_of choice ++ flat_map (λ p. code p.frozen) choice
 
 -- the instance that each stands for
 abbrev pub instances_of : List Schema → List Chosen → List Instance
@@ -69,7 +58,7 @@ instances_of _ _ = []
 -- one for each dimension, whose roots reach the target, and not by exactly one source
 pub record IsBadChoice (schemas : List Schema) (c : List ℕ) (sources : List (List ℕ)) (choice : List Chosen) :
     Type 0 where
-  pub chosen : AreChosen schemas c choice
+  pub chosen : AllZip3 IsChosen schemas c choice
   pub roots : List ℕ
   pub roots_are : IsTupleOf (instances_of schemas choice) (bottoms_of choice) roots
   pub bad : ExactlyOne (λ t. TupleReachesVia (instances_of schemas choice) roots t c) sources → ⊥
@@ -86,21 +75,10 @@ CubeSummarizableExactlyIfNoneBad = (schemas : List Schema) (c : List ℕ) (sourc
 
 -- ---- counterexamples
 
--- the first list of codes comes before the second, or is equal, in lexicographic order
-abbrev pub AreNotAfter : List (List ℕ) → List (List ℕ) → Type 0
-AreNotAfter [] ys = Unit {0}
-AreNotAfter (x ∷ xs) [] = ⊥
-AreNotAfter (x ∷ xs) (y ∷ ys) = IsNotAfter x y × (x ≡ y → AreNotAfter xs ys)
-
 -- of the first tuple of bottom categories that has a bad choice, lexicographically by declaration order, the bad choice
--- whose list of codes is lexicographically least
-pub record IsCubeCounterexample (schemas : List Schema) (c : List ℕ) (sources : List (List ℕ))
-    (choice : List Chosen) : Type 0 where
-  pub is_bad : IsBadChoice schemas c sources choice
-  pub first : (other : List Chosen) → IsBadChoice schemas c sources other →
-      IsNotAfter (bottoms_of choice) (bottoms_of other)
-  pub least : (other : List Chosen) → IsBadChoice schemas c sources other → bottoms_of other ≡ bottoms_of choice →
-      AreNotAfter (codes_of choice) (codes_of other)
+-- whose list of codes is lexicographically least; of one dimension all codes are equally long
+abbrev pub IsCubeCounterexample : List Schema → List ℕ → List (List ℕ) → List Chosen → Type 0
+IsCubeCounterexample schemas c sources choice = IsFirst choice_rank (IsBadChoice schemas c sources) choice
 
 -- place by place one frozen dimension
 abbrev pub AreOneChoice : List Schema → List Chosen → List Chosen → Type 0
@@ -125,7 +103,7 @@ only_cube_sum (r ∷ rows) = Some r.summary.sum
 -- the instances are legal, one fact of value 1 at x is a fact table on them, and its two SUMs differ
 pub record HasTwoCubeSums (schemas : List Schema) (is : List Instance) (c x : List ℕ) (sources : List (List ℕ)) :
     Type 0 where
-  pub legal : AreLegal schemas is
+  pub legal : AllZip IsLegal schemas is
   pub facts : IsCubeFactTable (graphs_of schemas) is (one_cube_fact x)
   pub direct : only_cube_sum (cube_direct_rows is c (one_cube_fact x)) ≡ Some (pos 1)
   pub views :

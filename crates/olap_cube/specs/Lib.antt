@@ -4,3 +4,5 @@ pub mod CubeViews
 pub mod CubeSummarizable
 pub mod Told
 pub mod Limits
+-- The inside: the counterexample by its codes.
+pub mod Codes

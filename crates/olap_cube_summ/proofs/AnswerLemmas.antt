@@ -8,8 +8,9 @@ use Rattle.olap_base.specs.Ranks.{IsNotAfter}
 use Rattle.olap_base.specs.Instance.{Instance}
 use Rattle.olap_base.specs.Views.{ExactlyOne}
 use Rattle.olap_bits.specs.declared.sets.CatSet.{CatSet}
-use Rattle.olap_cube.specs.CubeSummarizable.{AreChosen, Chosen, IsBadChoice, bottoms_of, instances_of}
-use Rattle.olap_cube.specs.Tuples.{IsTupleOf, TupleReachesVia}
+use Rattle.olap_cube.specs.CubeSummarizable.{Chosen, IsBadChoice, IsChosen, bottoms_of, instances_of}
+use Rattle.olap_cube.specs.Tuples.{AllZip3, IsTupleOf, TupleReachesVia}
+use Rattle.olap_cube.proofs.RankLemmas.{from_least}
 use Rattle.olap_cube_summ.specs.Found.{AreSized, IsCubeCounterexampleFound, chosen_of}
 use Rattle.olap_frozen.specs.declared.founding.Found.{Found}
 use Rattle.olap_cube_summ.specs.Families.{AreFirst, AreOf, AreUnions, patterns_of}
@@ -94,7 +95,8 @@ module _ (ss : List Schema) (c : List ℕ) (sources : List (List ℕ)) (qs : Lis
         → (ys : List Chosen) → IsBadChoice schemas targets sources ys → bottoms_of ys ≡ bottoms_in ds
         → Ends n ds (all_of n) ys
     ends_by schemas targets e f ys b q =
-        let chosen = subst (λ w. AreChosen w (targets_in ds) ys) e (subst (λ w. AreChosen schemas w ys) f b.chosen) in
+        let chosen = subst (λ w. AllZip3 IsChosen w (targets_in ds) ys) e
+        (subst (λ w. AllZip3 IsChosen schemas w ys) f b.chosen) in
         let roots = subst (λ w. IsTupleOf (instances_of w ys) (bottoms_of ys) b.roots) e b.roots_are in
         let bad =
         subst (λ w. ExactlyOne (λ t. TupleReachesVia (instances_of w ys) b.roots t (targets_in ds)) sources → ⊥) e
@@ -146,7 +148,7 @@ module _ (ss : List Schema) (c : List ℕ) (sources : List (List ℕ)) (qs : Lis
           ((one_way dims sources (same_rows first one) (instances_of (schemas_in dims) choice) roots.0).0 o);
     }
       where
-        chosen : AreChosen (schemas_in dims) (targets_in dims) choice
+        chosen : AllZip3 IsChosen (schemas_in dims) (targets_in dims) choice
         chosen = least_chosen n dims (all_of n) founds least
 
         roots : (roots : List ℕ) × IsTupleOf (instances_of (schemas_in dims) choice) (bottoms_of choice) roots
@@ -158,7 +160,7 @@ module _ (ss : List Schema) (c : List ℕ) (sources : List (List ℕ)) (qs : Lis
 
     pub is_counterexample : IsCubeCounterexampleFound ss c sources founds
     is_counterexample = record {
-      is_one = record {
+      is_one = from_least ss c sources choice (record {
         is_bad = is_bad;
         first = λ other b. let t = bad_families other b in
             subst (λ w. IsNotAfter w (bottoms_of other)) (sym (bottoms_are ∙ same_bottoms first one))
@@ -167,6 +169,6 @@ module _ (ss : List Schema) (c : List ℕ) (sources : List (List ℕ)) (qs : Lis
             founds least other
             (ends_by first one ss c (sym (same_schemas first one)) (sym (same_targets first one)) other b
             (e ∙ bottoms_are));
-      };
+      });
       sized = subst (λ w. AreSized w founds) (same_schemas first one) (least_sized n dims (all_of n) founds least);
     }

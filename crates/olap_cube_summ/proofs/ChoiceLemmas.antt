@@ -7,8 +7,9 @@ use Rattle.std.proofs.lemmas.List.Elements.{All-head, All-tail}
 use Rattle.olap_ast.specs.Schema.{Schema}
 use Rattle.olap_base.specs.Instance.{Instance, IsMemberOf}
 use Rattle.olap_base.specs.Views.{ExactlyOne}
-use Rattle.olap_cube.specs.CubeSummarizable.{AreChosen, AreNotAfter, Chosen, IsChosen, bottoms_of, codes_of, instances_of}
-use Rattle.olap_cube.specs.Tuples.{IsTupleOf, TupleReachesVia}
+use Rattle.olap_cube.specs.Codes.{AreNotAfter, codes_of}
+use Rattle.olap_cube.specs.CubeSummarizable.{Chosen, IsChosen, bottoms_of, instances_of}
+use Rattle.olap_cube.specs.Tuples.{AllZip3, IsTupleOf, TupleReachesVia}
 use Rattle.olap_cube_summ.specs.Found.{AreSized, chosen_of}
 use Rattle.olap_frozen.specs.declared.founding.Found.{Found}
 use Rattle.olap_cube_summ.specs.Masks.{CanBeBad, Has, IsBad, IsIn}
@@ -105,7 +106,7 @@ module _ (n : ℕ) where
 
   -- frozen dimensions of the families that don't reach by exactly one source end badly
   pub ends_of : (ds : List Dimension) → All (IsDimension n) ds → (ys : List Chosen)
-      → AreChosen (schemas_in ds) (targets_in ds) ys → bottoms_of ys ≡ bottoms_in ds → (roots : List ℕ)
+      → AllZip3 IsChosen (schemas_in ds) (targets_in ds) ys → bottoms_of ys ≡ bottoms_in ds → (roots : List ℕ)
       → IsTupleOf (instances_of (schemas_in ds) ys) (bottoms_of ys) roots → (m : ℕ)
       → (ExactlyOne (IsLeftBy m (instances_of (schemas_in ds) ys) roots ds) (range_with_len 0 n) → ⊥) → Ends ds m ys
   unfolding first_of rest_of
@@ -150,7 +151,7 @@ module _ (n : ℕ) where
   -- ---- what was found
 
   pub least_chosen : (ds : List Dimension) (m : ℕ) (founds : List Found) → AreLeast n ds m founds
-      → AreChosen (schemas_in ds) (targets_in ds) (map chosen_of founds)
+      → AllZip3 IsChosen (schemas_in ds) (targets_in ds) (map chosen_of founds)
   least_chosen [] m [] a = tt
   least_chosen [] m (f ∷ fs) a = absurd a
   least_chosen (d ∷ ds) m [] a = absurd a
@@ -171,7 +172,7 @@ module _ (n : ℕ) where
   least_sized (d ∷ ds) m (f ∷ fs) a = (a.1.is_found.sized, a.1.is_found.zero, least_sized ds a.0 fs a.2)
 
   -- their roots
-  pub roots_of : (ss : List Schema) (cs : List ℕ) (ys : List Chosen) → AreChosen ss cs ys
+  pub roots_of : (ss : List Schema) (cs : List ℕ) (ys : List Chosen) → AllZip3 IsChosen ss cs ys
       → (roots : List ℕ) × IsTupleOf (instances_of ss ys) (bottoms_of ys) roots
   roots_of [] [] [] a = ([], tt)
   roots_of [] [] (y ∷ ys) a = absurd a

@@ -4,7 +4,8 @@ use Rattle.std.specs.Prelude.{All, Contains, slice_index_or}
 use Rattle.std.proofs.lemmas.List.Elements.{All-cons}
 use Rattle.olap_ast.specs.Schema.{Schema}
 use Rattle.olap_base.specs.Graph.{IsBottom}
-use Rattle.olap_cube.specs.CubeSummarizable.{AreChosen, Chosen, bottoms_of}
+use Rattle.olap_cube.specs.Tuples.{AllZip3}
+use Rattle.olap_cube.specs.CubeSummarizable.{Chosen, IsChosen, bottoms_of}
 use Rattle.olap_cube_summ.specs.Dimensions.{no_schema}
 use Rattle.olap_cube_summ.specs.Families.{AreOf}
 use Rattle.olap_cube_summ.specs.Families as families
@@ -114,13 +115,13 @@ of_length ss qs fss fs f o = of_count fss fs o ∙ f.count
 
 -- a choice has its bottom categories' families
 pub families_of : (ss : List Schema) (qs : List Question) (fss : List (List Family)) (cs : List ℕ) (ys : List Chosen)
-    → AreFamiliesOf ss qs fss → AreChosen ss cs ys
+    → AreFamiliesOf ss qs fss → AllZip3 IsChosen ss cs ys
     → (fs : List Family) × AreOf fss fs × (bottoms_of ys ≡ families.bottoms_of fs)
 families_of ss qs fss cs ys f a = go ss fss cs ys f.count (λ i l. (f.each i l).all) a
   where
     go : (ss : List Schema) (fss : List (List Family)) (cs : List ℕ) (ys : List Chosen) → length fss ≡ length ss
         → ((i : ℕ) → i < length ss → (b : ℕ) → IsBottom (slice_index_or ss i no_schema).graph b
-        → (f : Family) × Contains (slice_index_or fss i []) f × (f.bottom.0 ≡ b)) → AreChosen ss cs ys
+        → (f : Family) × Contains (slice_index_or fss i []) f × (f.bottom.0 ≡ b)) → AllZip3 IsChosen ss cs ys
         → (fs : List Family) × AreOf fss fs × (bottoms_of ys ≡ families.bottoms_of fs)
     go [] [] [] [] n f a = ([], tt, refl)
     go [] (d ∷ fss) cs ys n f a = absurd (omega arith)

@@ -11,7 +11,8 @@ use Rattle.olap_ast.specs.Constants.{IsConstant, all_equalities}
 use Rattle.olap_ast.specs.Formula.{Equality, Formula.Reach, equalities}
 use Rattle.olap_ast.specs.Schema.{Schema}
 use Rattle.olap_cex.specs.FoundFor.{IsFoundFor}
-use Rattle.olap_cube.specs.CubeSummarizable.{AreChosen, bottoms_of, graphs_of}
+use Rattle.olap_cube.specs.Tuples.{AllZip3}
+use Rattle.olap_cube.specs.CubeSummarizable.{IsChosen, bottoms_of, graphs_of}
 use Rattle.olap_cube.specs.Told.{tuple_of, tuples_in}
 use Rattle.olap_cube.specs.declared.tuples.Tuple.{Tuple}
 use Rattle.olap_cube_summ.specs.Dimensions.{AreCategoriesOf, no_schema}
@@ -54,7 +55,7 @@ source_at ss sources i t a l e =
 -- ---- frozen dimensions
 
 -- a counterexample has one of each dimension
-pub founds_are : (ss : List Schema) (cs : List ℕ) (fs : List Found) → AreChosen ss cs (map chosen_of fs)
+pub founds_are : (ss : List Schema) (cs : List ℕ) (fs : List Found) → AllZip3 IsChosen ss cs (map chosen_of fs)
     → AreSized ss fs → AreFound ss fs
 founds_are [] [] [] a z = tt
 founds_are [] [] (f ∷ fs) a z = absurd a

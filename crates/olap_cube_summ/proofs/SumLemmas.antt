@@ -9,9 +9,9 @@ use Rattle.olap_base.specs.OneFact.{HoldsTimes, ones}
 use Rattle.olap_base.specs.Views.{ExactlyOne}
 use Rattle.olap_ast.specs.Frozen.{chosen, name_in}
 use Rattle.olap_ast.specs.Schema.{Schema}
-use Rattle.olap_cube.specs.CubeSummarizable.{AreChosen, BadChoicesHaveTwoSums, Chosen, bottoms_of, graphs_of, instances_of, only_cube_sum}
+use Rattle.olap_cube.specs.CubeSummarizable.{BadChoicesHaveTwoSums, Chosen, IsChosen, bottoms_of, graphs_of, instances_of, only_cube_sum}
 use Rattle.olap_cube.specs.CubeViews.{cube_row_at}
-use Rattle.olap_cube.specs.Tuples.{IsTupleOf, TupleReachesVia}
+use Rattle.olap_cube.specs.Tuples.{AllZip3, IsTupleOf, TupleReachesVia}
 use Rattle.olap_cube.proofs.ChoiceLemmas.{chosen_legal, chosen_up, lawful_from_legal}
 use Rattle.olap_cube.proofs.CubeLemmas.{one_cube_facts_views}
 use Rattle.olap_frozen.proofs.ChosenInstance as made
@@ -30,7 +30,8 @@ use Rattle.olap_cube_summ.proofs.PlaceLemmas.{hierarchies}
 
 -- they are the only members of the roots' categories
 pub only_roots : (ss : List Schema) (cs : List ℕ) (ps : List Chosen) → All IsHierarchy (graphs_of ss)
-    → AreChosen ss cs ps → (xs : List ℕ) → IsTupleOf (instances_of ss ps) (bottoms_of ps) xs → xs ≡ roots_of ss ps
+    → AllZip3 IsChosen ss cs ps → (xs : List ℕ) → IsTupleOf (instances_of ss ps) (bottoms_of ps) xs
+    → xs ≡ roots_of ss ps
 only_roots [] [] [] h a [] m = refl
 only_roots [] [] [] h a (x ∷ xs) m = absurd m
 only_roots [] [] (p ∷ ps) h a xs m = absurd a
@@ -63,7 +64,7 @@ pub record HasSums (is : List Instance) (x c : List ℕ) (sources : List (List �
   pub views : cube_views_sum is x c sources ≡ only_cube_sum (cons_option (cube_row_at row (ones n)) [])
 
 -- both sums of one fact, by the number of sources that are ways
-pub sums_are : (ss : List Schema) (c : List ℕ) (ps : List Chosen) → AreChosen ss c ps → (x : List ℕ)
+pub sums_are : (ss : List Schema) (c : List ℕ) (ps : List Chosen) → AllZip3 IsChosen ss c ps → (x : List ℕ)
     → IsTupleOf (instances_of ss ps) (bottoms_of ps) x → (sources : List (List ℕ)) (n : ℕ)
     → HoldsTimes (λ t. TupleReachesVia (instances_of ss ps) x t c) sources n
     → HasSums (instances_of ss ps) x c sources n
@@ -85,7 +86,7 @@ pub text_is : (ss : List Schema) (cs : List ℕ) (sources : List (List ℕ)) (fs
     ≡ cube_counterexample_text ss (map chosen_of fs) cs sources
 text_is ss cs sources fs rooms found drawn n ways views views_are =
     let ps = map chosen_of fs in
-    let bad = found.is_one.is_bad in
+    let bad = found.is_one.is_one in
     let there = only_roots ss cs ps (hierarchies ss fs rooms drawn) bad.chosen bad.roots bad.roots_are in
     let roots = subst (λ xs. IsTupleOf (instances_of ss ps) (bottoms_of ps) xs) there bad.roots_are in
     let sums = sums_are ss cs ps bad.chosen (roots_of ss ps) roots sources n ways in

@@ -15,7 +15,9 @@ use Rattle.olap_ast.specs.Schema.{Schema}
 use Rattle.olap_ast.specs.Valid.{IsValidSchema}
 use Rattle.olap_ast.proofs.Determined.{same_thawed, still_frozen}
 use Rattle.olap_ast.proofs.SameAtoms.{kinds_too}
-use Rattle.olap_cube.specs.CubeSummarizable.{AreChosen, Chosen, IsChosen, bottoms_of, codes_of, instances_of}
+use Rattle.olap_cube.specs.Codes.{codes_of}
+use Rattle.olap_cube.specs.Tuples.{AllZip3}
+use Rattle.olap_cube.specs.CubeSummarizable.{Chosen, IsChosen, bottoms_of, instances_of}
 use Rattle.olap_exists.specs.Existing.{FrozenAreListed}
 use Rattle.olap_exists.proofs.Counterexamples.{dec_bottom}
 use Rattle.olap_exists.proofs.FindingsListed.{truth_kinds}
@@ -101,11 +103,12 @@ record AreHere (s : Schema) (c n : ℕ) (ps : List Chosen) : Type 0 where
 
 -- all choices, but for the candidates
 pub record AreAll (ss : List Schema) (cs : List ℕ) (all : List (List Chosen)) : Type 0 where
-  pub sound : (ps : List Chosen) → Contains all ps → AreChosen ss cs ps
-  pub complete : (qs : List Chosen) → AreChosen ss cs qs → (ps : List Chosen) × Contains all ps × AreSame ss ps qs
+  pub sound : (ps : List Chosen) → Contains all ps → AllZip3 IsChosen ss cs ps
+  pub complete : (qs : List Chosen) → AllZip3 IsChosen ss cs qs
+      → (ps : List Chosen) × Contains all ps × AreSame ss ps qs
 
 -- where there is none
-no_choice : (ss : List Schema) (cs : List ℕ) → ((qs : List Chosen) → AreChosen ss cs qs → ⊥)
+no_choice : (ss : List Schema) (cs : List ℕ) → ((qs : List Chosen) → AllZip3 IsChosen ss cs qs → ⊥)
     → (all : List (List Chosen)) × AreAll ss cs all
 no_choice ss cs f = (
   [],
@@ -184,14 +187,15 @@ module _ (lists : FrozenAreListed) (exist : CandidatesExist) where
     [] ∷ [],
     record {
       sound = λ ps m. elim (contains_cases ps [] [] m) [
-        | inl e ↦ subst (λ xs. AreChosen [] [] xs) e tt
+        | inl e ↦ subst (λ xs. AllZip3 IsChosen [] [] xs) e tt
         | inr h ↦ absurd (Contains-nil ps h)
       ];
       complete = one;
     },
   )
     where
-      one : (qs : List Chosen) → AreChosen [] [] qs → (ps : List Chosen) × Contains ([] ∷ []) ps × AreSame [] ps qs
+      one : (qs : List Chosen) → AllZip3 IsChosen [] [] qs
+          → (ps : List Chosen) × Contains ([] ∷ []) ps × AreSame [] ps qs
       one [] a = ([], contains_head [] [], tt)
       one (q ∷ qs) a = absurd a
   all_choices [] (c ∷ cs) v = no_choice [] (c ∷ cs) (λ qs a. a)
@@ -205,11 +209,11 @@ module _ (lists : FrozenAreListed) (exist : CandidatesExist) where
           → (all : List (List Chosen)) × AreAll ss cs all → (all : List (List Chosen)) × AreAll (s ∷ ss) (c ∷ cs) all
       go h r = (product h.0 r.0, record { sound = sound; complete = complete })
         where
-          sound : (ps : List Chosen) → Contains (product h.0 r.0) ps → AreChosen (s ∷ ss) (c ∷ cs) ps
+          sound : (ps : List Chosen) → Contains (product h.0 r.0) ps → AllZip3 IsChosen (s ∷ ss) (c ∷ cs) ps
           sound ps m = let t = from_product h.0 r.0 ps m in
-              subst (λ xs. AreChosen (s ∷ ss) (c ∷ cs) xs) t.4 (h.1.sound t.0 t.2, r.1.sound t.1 t.3)
+              subst (λ xs. AllZip3 IsChosen (s ∷ ss) (c ∷ cs) xs) t.4 (h.1.sound t.0 t.2, r.1.sound t.1 t.3)
 
-          complete : (qs : List Chosen) → AreChosen (s ∷ ss) (c ∷ cs) qs
+          complete : (qs : List Chosen) → AllZip3 IsChosen (s ∷ ss) (c ∷ cs) qs
               → (ps : List Chosen) × Contains (product h.0 r.0) ps × AreSame (s ∷ ss) ps qs
           complete [] a = absurd a
           complete (q ∷ qs) a =

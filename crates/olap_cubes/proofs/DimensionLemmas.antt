@@ -26,7 +26,8 @@ use Rattle.olap_ast.specs.Trees.{numbers_of}
 use Rattle.olap_order.specs.Words.{texts}
 use Rattle.olap_reading.specs.Steps.{legal_file}
 use Rattle.olap_view.specs.Seen.{ids}
-use Rattle.olap_cubes.specs.Steps.{legal_files, numbered, schema_files}
+use Rattle.olap_cubes.specs.Cut.{legal_files_from, schema_files_from}
+use Rattle.olap_cubes.specs.Steps.{numbered}
 
 -- the bytes of a file's name
 pub file_is : (files : List (String Global)) (k : ℕ) (file : String Global) → k < length files
@@ -35,38 +36,38 @@ file_is files k file h e = ap string_bytes e ∙ sym (get_or-map string_bytes fi
 
 -- the schemas from a file on: this one, and those of the files after it
 pub schemas_from : (files : List (List ℕ)) (k : ℕ) (read : List Schema) → k < length files
-    → schema_files (k + 1) read (drop k files)
+    → schema_files_from (k + 1) read (drop k files)
     ≡ and_then (schema_file (numbered (codes "schema") (k + 1)) (get_or files k []))
-    (λ s. schema_files (k + 1 + 1) (read ++ s ∷ []) (drop (k + 1) files))
+    (λ s. schema_files_from (k + 1 + 1) (read ++ s ∷ []) (drop (k + 1) files))
 schemas_from files k read h =
     let next : suc (k + 1) ≡ k + 1 + 1 = omega arith in
-    ap (schema_files (k + 1) read) (drop_more files k [] h)
+    ap (schema_files_from (k + 1) read) (drop_more files k [] h)
     ∙ ap (λ n. and_then (schema_file (numbered (codes "schema") (k + 1)) (get_or files k []))
-    (λ s. schema_files n (read ++ s ∷ []) (drop (k + 1) files))) next
+    (λ s. schema_files_from n (read ++ s ∷ []) (drop (k + 1) files))) next
 
 -- no schema is left
 pub schemas_end : (files : List (List ℕ)) (k : ℕ) (read : List Schema) → length files ≤ k
-    → schema_files (k + 1) read (drop k files) ≡ Done read
-schemas_end files k read h = ap (schema_files (k + 1) read) (drop_all k files h)
+    → schema_files_from (k + 1) read (drop k files) ≡ Done read
+schemas_end files k read h = ap (schema_files_from (k + 1) read) (drop_all k files h)
 
 -- the instances from a file on: this one, and those of the files after it
 pub legals_from : (schemas : List Schema) (files : List (List ℕ)) (k : ℕ) (read : List Instance) → k < length schemas
-    → k < length files → legal_files (k + 1) read (drop k schemas) (drop k files)
+    → k < length files → legal_files_from (k + 1) read (drop k schemas) (drop k files)
     ≡ and_then (legal_file (get_or schemas k no_schema) (numbered (codes "instance") (k + 1)) (get_or files k []))
-    (λ i. legal_files (k + 1 + 1) (read ++ i ∷ []) (drop (k + 1) schemas) (drop (k + 1) files))
+    (λ i. legal_files_from (k + 1 + 1) (read ++ i ∷ []) (drop (k + 1) schemas) (drop (k + 1) files))
 legals_from schemas files k read l h =
     let next : suc (k + 1) ≡ k + 1 + 1 = omega arith in
-    ap (λ ss. legal_files (k + 1) read ss (drop k files)) (drop_more schemas k no_schema l)
-    ∙ ap (legal_files (k + 1) read (get_or schemas k no_schema ∷ drop (k + 1) schemas)) (drop_more files k [] h)
+    ap (λ ss. legal_files_from (k + 1) read ss (drop k files)) (drop_more schemas k no_schema l)
+    ∙ ap (legal_files_from (k + 1) read (get_or schemas k no_schema ∷ drop (k + 1) schemas)) (drop_more files k [] h)
     ∙ ap (λ n. and_then
     (legal_file (get_or schemas k no_schema) (numbered (codes "instance") (k + 1)) (get_or files k []))
-    (λ i. legal_files n (read ++ i ∷ []) (drop (k + 1) schemas) (drop (k + 1) files))) next
+    (λ i. legal_files_from n (read ++ i ∷ []) (drop (k + 1) schemas) (drop (k + 1) files))) next
 
 -- no instance is left
 pub legals_end : (schemas : List Schema) (files : List (List ℕ)) (k : ℕ) (read : List Instance) → length schemas ≤ k
-    → legal_files (k + 1) read (drop k schemas) (drop k files) ≡ Done read
+    → legal_files_from (k + 1) read (drop k schemas) (drop k files) ≡ Done read
 legals_end schemas files k read l =
-    ap (λ ss. legal_files (k + 1) read ss (drop k files)) (drop_all k schemas l)
+    ap (λ ss. legal_files_from (k + 1) read ss (drop k files)) (drop_all k schemas l)
 
 -- ---- instances that were made for graphs
 

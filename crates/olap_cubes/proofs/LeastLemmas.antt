@@ -10,7 +10,7 @@ use Rattle.olap_base.specs.Deciding.{contains_cases, contains_cons}
 use Rattle.olap_base.proofs.ListLemmas.{Contains-nil, contains_head}
 use Rattle.olap_base.specs.Ranks.{IsNotAfter}
 use Rattle.olap_ast.proofs.Uniqueness.{not_after_both}
-use Rattle.olap_cube.specs.CubeSummarizable.{AreNotAfter}
+use Rattle.olap_cube.specs.Codes.{AreNotAfter}
 
 -- ---- lists of numbers
 

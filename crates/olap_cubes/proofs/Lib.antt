@@ -4,6 +4,7 @@ mod RollingLemmas
 mod DimensionLemmas
 mod NameLemmas
 mod WordLemmas
+mod CutLemmas
 mod TupleLemmas
 mod OneAnswer
 mod LeastLemmas

@@ -2,7 +2,7 @@
 --     tuple_is      the step of a word with as many names as there are dimensions
 --     AreNamedTo    the names that are left say what all names are
 use Rattle.std.proofs.Common.{◌≡◌, ◌+◌, ◌<◌, ◌≤◌, ℕ, zero, suc, List, [], ◌∷◌, ◌++◌, Option, None, Some, T, Bool, true, false, length, get_or, drop, take, ap, subst, sym, refl, arith, ◌∙◌, append-nil, append_assoc}
-use Rattle.std.specs.Prelude.{◌==◌, codes, if◌then◌else◌, option_and_then, option_map}
+use Rattle.std.specs.Prelude.{◌==◌, codes, if◌then◌else◌, option_and_then, option_map, zip}
 use Rattle.std.proofs.Math.Facts.{yes_eqb}
 use Rattle.std.proofs.lemmas.List.{drop_all, drop_more, take_all}
 use Rattle.olap_base.specs.Graph.{IsCategory}
@@ -10,14 +10,52 @@ use Rattle.olap_ast.specs.Schema.{Schema}
 use Rattle.olap_cube_summ.specs.Dimensions.{AreCategoriesOf, no_schema}
 use Rattle.olap_graph.specs.Lookups.{category_named}
 use Rattle.olap_grammar.specs.Words.{pieces_of}
-use Rattle.olap_order.specs.Order.{ok_or, refused}
-use Rattle.olap_order.specs.Steps.{fault_text}
-use Rattle.olap_cubes.specs.Steps.{categories_named, tuple_word}
+use Rattle.olap_order.specs.Order.{Done, Order, and_then, ok_or, refused}
+use Rattle.olap_order.specs.Steps.{category_word, fault_text, in_turn}
+use Rattle.olap_cubes.specs.Cut.{categories_named}
+use Rattle.olap_cubes.specs.Steps.{tuple_word}
 
 -- what is so, as a value
 so : (b : Bool) → T b → b ≡ true
 so true t = refl
 so false t = absurd t
+
+-- the names one after the other are all names at once, behind what was read
+in_turn_is : (schemas : List Schema) (names : List (List ℕ)) (at k : ℕ) (read : List ℕ)
+    → in_turn (λ k read p. category_word p.0.graph at p.1) k read (zip schemas names)
+    ≡ and_then (ok_or (categories_named schemas names) (fault_text (codes "word") at (codes "UnknownCategory")))
+    (λ cs. Done (read ++ cs))
+in_turn_is [] names at k read = ap Done (sym (append-nil read))
+in_turn_is (s ∷ schemas) [] at k read = ap Done (sym (append-nil read))
+in_turn_is (s ∷ schemas) (name ∷ names) at k read =
+    go (λ c. in_turn_is schemas names at (suc k) (read ++ c ∷ [])) (category_named s.graph name)
+  where
+    one : (c : ℕ) (o : Option (List ℕ))
+        → and_then (ok_or o (fault_text (codes "word") at (codes "UnknownCategory")))
+        (λ cs. Done ((read ++ c ∷ []) ++ cs))
+        ≡ and_then (ok_or (option_map (λ cs. c ∷ cs) o) (fault_text (codes "word") at (codes "UnknownCategory")))
+        (λ cs. Done (read ++ cs))
+    one c None = refl
+    one c (Some cs) = ap Done (append_assoc read (c ∷ []) cs)
+
+    go : ((c : ℕ) → in_turn (λ k read p. category_word p.0.graph at p.1) (suc k) (read ++ c ∷ []) (zip schemas names)
+        ≡ and_then (ok_or (categories_named schemas names) (fault_text (codes "word") at (codes "UnknownCategory")))
+        (λ cs. Done ((read ++ c ∷ []) ++ cs))) → (o : Option ℕ)
+        → and_then (ok_or o (fault_text (codes "word") at (codes "UnknownCategory")))
+        (λ c. in_turn (λ k read p. category_word p.0.graph at p.1) (suc k) (read ++ c ∷ []) (zip schemas names))
+        ≡ and_then (ok_or (option_and_then (λ c. option_map (λ cs. c ∷ cs) (categories_named schemas names)) o)
+        (fault_text (codes "word") at (codes "UnknownCategory"))) (λ cs. Done (read ++ cs))
+    go again None = refl
+    go again (Some c) = again c ∙ one c (categories_named schemas names)
+
+-- what is there is there
+done_is : (o : Option (List ℕ)) (why : List ℕ) → and_then (ok_or o why) (λ cs. Done cs) ≡ ok_or o why
+done_is None why = refl
+done_is (Some cs) why = refl
+
+-- the category of each dimension's name, one after the other
+abbrev all_categories : List Schema → ℕ → List (List ℕ) → Order (List ℕ)
+all_categories schemas at names = in_turn (λ k read p. category_word p.0.graph at p.1) 1 [] (zip schemas names)
 
 -- as many names as dimensions, joined by commas
 pub tuple_is : (schemas : List Schema) (at : ℕ) (word : List ℕ) (names : List (List ℕ)) (o : Option (List ℕ))
@@ -26,9 +64,9 @@ pub tuple_is : (schemas : List Schema) (at : ℕ) (word : List ℕ) (names : Lis
 tuple_is schemas at word names o n l e =
     let unknown = fault_text (codes "word") at (codes "UnknownCategory") in
     let misfit = refused (fault_text (codes "word") at (codes "BadForm")) in
-    ap (λ ns. if length ns == length schemas then ok_or (categories_named schemas ns) unknown else misfit) (sym n)
-    ∙ ap (λ b. if b then ok_or (categories_named schemas names) unknown else misfit)
-    (so (length names == length schemas) (yes_eqb l))
+    ap (λ ns. if length ns == length schemas then all_categories schemas at ns else misfit) (sym n)
+    ∙ ap (λ b. if b then all_categories schemas at names else misfit) (so (length names == length schemas) (yes_eqb l))
+    ∙ in_turn_is schemas names at 1 [] ∙ done_is (categories_named schemas names) unknown
     ∙ ap (λ p. ok_or p unknown) (sym e)
 
 -- nothing is put in front

@@ -14,8 +14,8 @@ module _ (one : TheCubeCounterexampleIsOne) (text : OneChoiceHasOneText) (sums :
   never : (schemas : List Schema) (c : List ℕ) (sources : List (List ℕ)) → IsCubeSummarizable schemas c sources
       → (choice : List Chosen) → IsCubeCounterexample schemas c sources choice → ⊥
   never schemas c sources summarizable choice x =
-      let roots = x.is_bad.roots in
-      let h = sums schemas c sources choice x.is_bad in
+      let roots = x.is_one.roots in
+      let h = sums schemas c sources choice x.is_one in
       let agree = summarizable (instances_of schemas choice) h.legal (one_cube_fact roots) h.facts in
       h.views (sym (ap only_cube_sum agree) ∙ h.direct)
 

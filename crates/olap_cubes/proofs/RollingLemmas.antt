@@ -23,8 +23,8 @@ use Rattle.olap_facts.specs.declared.kinds.FactKind.{FactKind}
 use Rattle.olap_outside.specs.Files.{Opens}
 use Rattle.olap_outside.specs.declared.outside.Library.{Ghosts as Library}
 use Rattle.olap_order.specs.Judged.{IsLater}
-use Rattle.olap_order.specs.Refusals.{IsRefusal}
-use Rattle.olap_order.specs.Steps.{meaning_or_fault, part_text}
+use Rattle.olap_order.specs.Refusals.{IsRefusal, part_text}
+use Rattle.olap_order.specs.Steps.{meaning_or_fault}
 use Rattle.olap_order.specs.Taken.{FileStep}
 use Rattle.olap_order.specs.declared.replies.Stop.{Stop}
 use Rattle.olap_reading.specs.Rest.{IsOfRest}

@@ -12,8 +12,10 @@ use Rattle.olap_ast.specs.Frozen.{CandidatesExist}
 use Rattle.olap_ast.specs.Schema.{Schema}
 use Rattle.olap_ast.specs.Valid.{IsValidSchema}
 use Rattle.olap_ast.proofs.Uniqueness.{not_after_both}
-use Rattle.olap_cube.specs.Tuples.{IsTupleOf, TupleReachesVia}
-use Rattle.olap_cube.specs.CubeSummarizable.{AreChosen, AreNotAfter, Chosen, CubeSummarizableExactlyIfNoneBad, IsBadChoice, bottoms_of, codes_of, instances_of}
+use Rattle.olap_cube.specs.Tuples.{AllZip3, IsTupleOf, TupleReachesVia}
+use Rattle.olap_cube.proofs.RankLemmas.{from_least}
+use Rattle.olap_cube.specs.Codes.{AreNotAfter, codes_of}
+use Rattle.olap_cube.specs.CubeSummarizable.{Chosen, CubeSummarizableExactlyIfNoneBad, IsBadChoice, IsChosen, bottoms_of, instances_of}
 use Rattle.olap_cube.proofs.ChoiceLemmas.{dec_one, dec_tuple_via}
 use Rattle.olap_cube_summ.specs.CubeCexText.{cube_counterexample_text}
 use Rattle.olap_cubes.specs.Existing.{AnswersExist}
@@ -29,7 +31,7 @@ use Rattle.olap_order.specs.declared.status.Status.TheVariants.{Yes, No}
 -- ---- roots
 
 -- a choice has a root in each dimension
-roots_of : (ss : List Schema) (cs : List ℕ) (ps : List Chosen) → AreChosen ss cs ps
+roots_of : (ss : List Schema) (cs : List ℕ) (ps : List Chosen) → AllZip3 IsChosen ss cs ps
     → (roots : List ℕ) × IsTupleOf (instances_of ss ps) (bottoms_of ps) roots
 roots_of [] [] [] a = ([], tt)
 roots_of [] [] (p ∷ ps) a = absurd a
@@ -41,7 +43,7 @@ roots_of (s ∷ ss) (c ∷ cs) (p ∷ ps) a =
     let r = roots_of ss cs ps a.1 in (f.root ∷ r.0, (f.root_is, r.1))
 
 -- and one alone
-one_roots : (ss : List Schema) (cs : List ℕ) (ps : List Chosen) → AreChosen ss cs ps → (xs ys : List ℕ)
+one_roots : (ss : List Schema) (cs : List ℕ) (ps : List Chosen) → AllZip3 IsChosen ss cs ps → (xs ys : List ℕ)
     → IsTupleOf (instances_of ss ps) (bottoms_of ps) xs → IsTupleOf (instances_of ss ps) (bottoms_of ps) ys → xs ≡ ys
 one_roots [] [] [] a [] [] m n = refl
 one_roots [] [] [] a [] (y ∷ ys) m n = absurd n
@@ -59,7 +61,7 @@ one_roots (s ∷ ss) (c ∷ cs) (p ∷ ps) a (x ∷ xs) (y ∷ ys) m n =
 module _ (lists : FrozenAreListed) (exist : CandidatesExist) (summarizable : CubeSummarizableExactlyIfNoneBad) where
   module _ (ss : List Schema) (c : List ℕ) (sources : List (List ℕ)) where
     -- whether a choice is bad
-    dec_bad : (ps : List Chosen) → AreChosen ss c ps → Dec (IsBadChoice ss c sources ps)
+    dec_bad : (ps : List Chosen) → AllZip3 IsChosen ss c ps → Dec (IsBadChoice ss c sources ps)
     dec_bad ps a =
         let r = roots_of ss c ps a in
         go r (dec_one (λ t. TupleReachesVia (instances_of ss ps) r.0 t c)
@@ -73,7 +75,7 @@ module _ (lists : FrozenAreListed) (exist : CandidatesExist) (summarizable : Cub
         go r (no n) = yes (record { chosen = a; roots = r.0; roots_are = r.1; bad = n })
 
     -- bad, whichever candidates
-    bad_too : (ps qs : List Chosen) → AreChosen ss c ps → AreSame ss ps qs → IsBadChoice ss c sources qs
+    bad_too : (ps qs : List Chosen) → AllZip3 IsChosen ss c ps → AreSame ss ps qs → IsBadChoice ss c sources qs
         → IsBadChoice ss c sources ps
     bad_too ps qs a e b =
         let i = sym (same_instances ss ps qs e) in
@@ -131,11 +133,11 @@ module _ (lists : FrozenAreListed) (exist : CandidatesExist) (summarizable : Cub
                   refl,
                   (
                     u.0,
-                    record {
+                    from_least ss c sources u.0 (record {
                       is_bad = u.1;
                       first = λ other b. (before_other u.0 u.2 other b).0;
                       least = λ other b e. (before_other u.0 u.2 other b).1 e;
-                    },
+                    }),
                     refl,
                   ),
                 ),

@@ -28,7 +28,8 @@ use Rattle.olap_order.specs.declared.replies.Stop.{Stop}
 use Rattle.olap_order.specs.declared.replies.Stop.TheVariants as stops
 use Rattle.olap_order.proofs.Replying.{replies_no_memory}
 use Rattle.olap_order.proofs.Stepping.{ends_both}
-use Rattle.olap_cubes.specs.Steps.{another_tuple, different_tuples, tuple_word}
+use Rattle.olap_cubes.specs.Cut.{another_tuple, different_tuples_from}
+use Rattle.olap_cubes.specs.Steps.{tuple_word}
 
 -- categories are compared as their numbers are
 pub numbers_compared : (xs ys : List CatId) → pointwise (λ (a b : CatId). nat_eq a.0 b.0) xs ys
@@ -94,22 +95,22 @@ not_among tuples c e h =
 module _ (schemas : List Schema) (at : ℕ) (words : List (List ℕ)) where
   -- the order of all the words is that of those that are left, after the tuples that were read
   pub record AreNamedUpTo (k : ℕ) (tuples : List (List ℕ)) : Type 0 where
-    pub order : different_tuples schemas at [] words ≡ different_tuples schemas (at + k) tuples (drop k words)
+    pub order : different_tuples_from schemas at [] words ≡ different_tuples_from schemas (at + k) tuples (drop k words)
     pub each : length tuples ≡ k
     pub categories : All (AreCategoriesOf schemas) tuples
     pub differ : Distinct tuples
 
   -- from one word on: the order of this word's tuple, and of the words after it
   from_word : (k : ℕ) (tuples : List (List ℕ)) → k < length words → AreNamedUpTo k tuples
-      → different_tuples schemas at [] words ≡ and_then (another_tuple schemas (at + k) tuples (get_or words k []))
-      (λ c. different_tuples schemas (suc (at + k)) (tuples ++ c ∷ []) (drop (k + 1) words))
+      → different_tuples_from schemas at [] words ≡ and_then (another_tuple schemas (at + k) tuples (get_or words k []))
+      (λ c. different_tuples_from schemas (suc (at + k)) (tuples ++ c ∷ []) (drop (k + 1) words))
   from_word k tuples h r = r.order
-      ∙ ap (λ ws. different_tuples schemas (at + k) tuples ws) (drop_more words k [] h)
+      ∙ ap (λ ws. different_tuples_from schemas (at + k) tuples ws) (drop_more words k [] h)
 
   -- no word is read yet
   pub no_word : AreNamedUpTo 0 []
   no_word = record {
-    order = let e : at ≡ at + 0 = omega arith in ap (λ n. different_tuples schemas n [] words) e;
+    order = let e : at ≡ at + 0 = omega arith in ap (λ n. different_tuples_from schemas n [] words) e;
     each = refl;
     categories = λ k d l. absurd (omega arith);
     differ = tt;
@@ -123,9 +124,9 @@ module _ (schemas : List Schema) (at : ℕ) (words : List (List ℕ)) where
   word_more k tuples all c h r goes categories fresh e = subst (AreNamedUpTo (k + 1)) (sym e) (record {
     order = from_word k tuples h r
         ∙ ap (λ o. and_then o
-        (λ d. different_tuples schemas (suc (at + k)) (tuples ++ d ∷ []) (drop (k + 1) words))) goes
+        (λ d. different_tuples_from schemas (suc (at + k)) (tuples ++ d ∷ []) (drop (k + 1) words))) goes
         ∙ (let p : suc (at + k) ≡ at + (k + 1) = omega arith in
-        ap (λ n. different_tuples schemas n (tuples ++ c ∷ []) (drop (k + 1) words)) p);
+        ap (λ n. different_tuples_from schemas n (tuples ++ c ∷ []) (drop (k + 1) words)) p);
     each = length_push tuples c ∙ ap (λ n. n + 1) r.each;
     categories = All-append (AreCategoriesOf schemas) tuples (c ∷ []) r.categories
         (All-cons (AreCategoriesOf schemas) c [] categories (λ j d l. absurd (omega arith)));
@@ -134,12 +135,12 @@ module _ (schemas : List Schema) (at : ℕ) (words : List (List ℕ)) where
 
   -- all words are read
   pub word_last : (k : ℕ) (tuples : List (List ℕ)) → length words ≤ k → AreNamedUpTo k tuples
-      → different_tuples schemas at [] words ≡ Done tuples
-  word_last k tuples h r = r.order ∙ ap (λ ws. different_tuples schemas (at + k) tuples ws) (drop_all k words h)
+      → different_tuples_from schemas at [] words ≡ Done tuples
+  word_last k tuples h r = r.order ∙ ap (λ ws. different_tuples_from schemas (at + k) tuples ws) (drop_all k words h)
 
   -- where a word isn't taken, the order ends as it does there
   pub word_ends : (k : ℕ) (tuples : List (List ℕ)) (stop : Stop) → k < length words → AreNamedUpTo k tuples
       → Replies NoAnswer (another_tuple schemas (at + k) tuples (get_or words k [])) (Err stop)
-      → Replies NoAnswer (different_tuples schemas at [] words) (Err stop)
+      → Replies NoAnswer (different_tuples_from schemas at [] words) (Err stop)
   word_ends k tuples stop h r ends = subst (λ o. Replies NoAnswer o (Err stop)) (sym (from_word k tuples h r))
-      (ends_both ends (λ c. different_tuples schemas (suc (at + k)) (tuples ++ c ∷ []) (drop (k + 1) words)))
+      (ends_both ends (λ c. different_tuples_from schemas (suc (at + k)) (tuples ++ c ∷ []) (drop (k + 1) words)))

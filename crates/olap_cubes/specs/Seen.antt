@@ -6,7 +6,7 @@ use Rattle.olap_base.specs.Limits.{most_views}
 use Rattle.olap_cube.specs.Limits.{most_dimensions}
 use Rattle.olap_order.specs.Order.{Order}
 use Rattle.olap_order.specs.Words.{texts}
-use Rattle.olap_cubes.specs.Commands.{cube_order, cubeview_order}
+use Rattle.olap_cubes.specs.Cut.{cube_of, cubeview_of}
 use Rattle.olap_cubes.specs.Questions.{Question}
 use Rattle.olap_cubes.specs.declared.words.Command.{Command}
 use Rattle.olap_cubes.specs.declared.words.Command.TheVariants as code
@@ -14,8 +14,8 @@ use Rattle.olap_cubes.specs.declared.words.Command.TheVariants as code
 -- the order of a command
 abbrev pub seen : Command → Order Question
 seen (code.CubeView schemas instances facts target) =
-    cubeview_order (texts schemas.now) (texts instances.now) facts.now target.now
-seen (code.Cube schemas target sources) = cube_order (texts schemas.now) target.now (texts sources.now)
+    cubeview_of (texts schemas.now) (texts instances.now) facts.now target.now
+seen (code.Cube schemas target sources) = cube_of (texts schemas.now) target.now (texts sources.now)
 
 -- a cube may have so many dimensions: one to four
 abbrev pub AreDimensions : ℕ → Type 0

@@ -8,11 +8,12 @@ use Rattle.olap_cube_views.specs.CubeViewText.{cube_view_text}
 use Rattle.olap_order.specs.Order.{Order, Done, Told, and_then}
 use Rattle.olap_order.specs.declared.status.Status.TheVariants.{Yes}
 use Rattle.olap_cubes.specs.Questions.{Question, ByCube}
-use Rattle.olap_cubes.specs.Steps.{cube_facts_file, different_tuples, legal_files, tuple_word}
+use Rattle.olap_cubes.specs.Cut.{different_tuples_from, legal_files_from}
+use Rattle.olap_cubes.specs.Steps.{cube_facts_file, tuple_word}
 
 -- the sources from left to right, the first of which is the word of this number
 abbrev pub cube_from : List Schema → ℕ → (target : List ℕ) (sources : List (List ℕ)) → Order Question
-cube_from ss at c sources = and_then (different_tuples ss at [] sources) (λ cs. Done (ByCube ss c cs))
+cube_from ss at c sources = and_then (different_tuples_from ss at [] sources) (λ cs. Done (ByCube ss c cs))
 
 -- the target, which is the word of this number, and the sources behind it
 abbrev pub cube_under : List Schema → ℕ → (target : List ℕ) (sources : List (List ℕ)) → Order Question
@@ -23,7 +24,7 @@ cube_under ss at target sources =
 abbrev pub cubeview_from : List Schema → (target : List ℕ) (instances : List (List ℕ)) (facts : List ℕ)
     → Order Question
 cubeview_from ss c instances facts =
-    and_then (legal_files 1 [] ss instances) (λ is.
+    and_then (legal_files_from 1 [] ss instances) (λ is.
     and_then (cube_facts_file ss is facts) (λ table.
     Told Yes (cube_view_text is (cube_direct_view is table c))))
 

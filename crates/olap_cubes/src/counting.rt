@@ -2,7 +2,8 @@
 ghost use Rattle.std.specs.Prelude.{◌≡◌, ℕ, IfSome, List as Items, MatchOption, None, Option as Maybe};
 ghost use Rattle.olap_order.specs.Order.{Order};
 ghost use Rattle.olap_order.specs.Words.{texts};
-ghost use Rattle.olap_cubes.specs.Commands.{by_dimensions, dimensions_said};
+ghost use Rattle.olap_cubes.specs.Commands.{dimensions_said};
+ghost use Rattle.olap_cubes.specs.Cut.{by_count};
 ghost use Rattle.olap_cubes.specs.Questions.{Question};
 ghost use Rattle.olap_cubes.specs.Seen.{AreDimensions};
 
@@ -23,8 +24,8 @@ fn dimensions_said(word: &str) -> Option<usize>
 /// How many dimensions the first word says that there are, and the words after it.
 pub(crate) fn count_and_rest(words: &[String]) -> Option<(usize, &[String])>
     ensures order { (order : ℕ → Items (Items ℕ) → Maybe (Order Question)) → MatchOption result
-        (by_dimensions order (texts words.now) ≡ None)
-        (λ p. by_dimensions order (texts words.now) ≡ order p.0 (texts p.1.now)) }
+        (by_count order (texts words.now) ≡ None)
+        (λ p. by_count order (texts words.now) ≡ order p.0 (texts p.1.now)) }
     ensures few { IfSome result (λ p. AreDimensions p.0) }
 {
     let (word, words) = words.split_first()?;

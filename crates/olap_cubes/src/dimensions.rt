@@ -12,7 +12,8 @@ ghost use Rattle.olap_order.specs.Steps.{schema_file};
 ghost use Rattle.olap_order.specs.Taken.{FileStep};
 ghost use Rattle.olap_order.specs.Words.{texts};
 ghost use Rattle.olap_reading.specs.Steps.{legal_file};
-ghost use Rattle.olap_cubes.specs.Steps.{legal_files, numbered, schema_files};
+ghost use Rattle.olap_cubes.specs.Cut.{legal_files_from, schema_files_from};
+ghost use Rattle.olap_cubes.specs.Steps.{numbered};
 
 use olap_base::CatId;
 use olap_cube_summ::Cube;
@@ -54,7 +55,7 @@ pub(crate) fn schemas_in<L: Library>(
 ) -> Result<Cube, Stop>
     requires few { length files.now ≤ most_dimensions }
     ensures step { FileStep L.Library lib.old lib.new
-        (schema_files 1 [] (texts files.now)) schemas_of result }
+        (schema_files_from 1 [] (texts files.now)) schemas_of result }
     ensures each { IfOk result (λ cube. length (schemas_of cube) ≡ length files.now) }
 {
     let mut cube = Cube::new(alloc);
@@ -119,7 +120,7 @@ fn add_columns<L: Library>(
     requires target { length target.now ≡ length (schemas_of cube.now) }
     requires none { columns.old ≡ [] }
     ensures step { FileStep L.Library lib.old lib.new
-        (legal_files 1 [] (schemas_of cube.now) (texts files.now)) (λ _. instances_in columns.new) result }
+        (legal_files_from 1 [] (schemas_of cube.now) (texts files.now)) (λ _. instances_in columns.new) result }
     ensures made { OnOk result (AreMadeFor (graphs_of (schemas_of cube.now)) (instances_in columns.new)) }
     ensures categories { OnOk result (categories_in columns.new ≡ ids target.now) }
 {
@@ -147,7 +148,7 @@ pub(crate) fn columns_in<L: Library>(
     requires each { length files.now ≡ length (schemas_of cube.now) }
     requires target { length target.now ≡ length (schemas_of cube.now) }
     ensures step { FileStep L.Library lib.old lib.new
-        (legal_files 1 [] (schemas_of cube.now) (texts files.now)) instances_in result }
+        (legal_files_from 1 [] (schemas_of cube.now) (texts files.now)) instances_in result }
     ensures made { IfOk result
         (λ columns. AreMadeFor (graphs_of (schemas_of cube.now)) (instances_in columns)) }
     ensures categories { IfOk result (λ columns. categories_in columns ≡ ids target.now) }

@@ -7,7 +7,8 @@ ghost use Rattle.olap_cube_summ.specs.Dimensions.{AreCategoriesOf, schemas_of};
 ghost use Rattle.olap_order.specs.Taken.{PlainStep};
 ghost use Rattle.olap_ast.specs.Trees.{numbers_of};
 ghost use Rattle.olap_order.specs.Words.{texts};
-ghost use Rattle.olap_cubes.specs.Steps.{another_tuple, categories_named, different_tuples, tuple_word};
+ghost use Rattle.olap_cubes.specs.Cut.{another_tuple, categories_named, different_tuples_from};
+ghost use Rattle.olap_cubes.specs.Steps.{tuple_word};
 
 use olap_base::{CatId, List, Memory, Text};
 use olap_cube::Tuple;
@@ -103,7 +104,7 @@ pub(crate) fn tuples_at(
     words: &[String],
 ) -> Result<Vec<Tuple>, Stop>
     requires few { at + length words.now < 2 ^ 64 }
-    ensures step { PlainStep (different_tuples (schemas_of cube.now) at [] (texts words.now))
+    ensures step { PlainStep (different_tuples_from (schemas_of cube.now) at [] (texts words.now))
         (λ tuples. tuples_in tuples.items) result }
     ensures each { IfOk result (λ tuples. length (tuples_in tuples.items) ≡ length words.now) }
     ensures categories { IfOk result

@@ -9,7 +9,7 @@ ghost use Rattle.olap_order.specs.Judged.{Judged, Replies};
 ghost use Rattle.olap_order.specs.Order.{Done};
 ghost use Rattle.olap_order.specs.Outputs.{line};
 ghost use Rattle.olap_order.specs.Words.{texts};
-ghost use Rattle.olap_cubes.specs.Commands.{cube_order};
+ghost use Rattle.olap_cubes.specs.Cut.{cube_of};
 ghost use Rattle.olap_cubes.specs.Questions.{ByCube, IsAnswer};
 ghost use Rattle.olap_cubes.specs.Seen.{AreDimensions};
 ghost use Rattle.olap_cubes.specs.Under.{cube_from, cube_under};
@@ -115,7 +115,7 @@ pub(crate) fn cube<L: Library>(
     requires few { AreDimensions (length schemas.now) }
     requires sources { length sources.now ≤ most_views }
     ensures judged { Judged IsAnswer L.Library lib.old lib.new
-        (cube_order (texts schemas.now) target.now (texts sources.now)) result }
+        (cube_of (texts schemas.now) target.now (texts sources.now)) result }
 {
     let at = schemas.len() as u64 + 3;
     let cube = schemas_in(alloc, schemas, lib)?;

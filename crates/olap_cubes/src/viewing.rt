@@ -11,7 +11,7 @@ ghost use Rattle.olap_order.specs.Judged.{Judged};
 ghost use Rattle.olap_order.specs.Order.{Told, and_then};
 ghost use Rattle.olap_order.specs.Taken.{FileStep};
 ghost use Rattle.olap_order.specs.Words.{texts};
-ghost use Rattle.olap_cubes.specs.Commands.{cubeview_order};
+ghost use Rattle.olap_cubes.specs.Cut.{cubeview_of};
 ghost use Rattle.olap_cubes.specs.OfFacts.{IsOfFacts};
 ghost use Rattle.olap_cubes.specs.Questions.{IsAnswer};
 ghost use Rattle.olap_cubes.specs.Seen.{AreDimensions};
@@ -131,7 +131,7 @@ pub(crate) fn cubeview<L: Library>(
     requires few { AreDimensions (length schemas.now) }
     requires each { length instances.now ≡ length schemas.now }
     ensures judged { Judged IsAnswer L.Library lib.old lib.new
-        (cubeview_order (texts schemas.now) (texts instances.now) facts.now target.now) result }
+        (cubeview_of (texts schemas.now) (texts instances.now) facts.now target.now) result }
 {
     let at = 2 * schemas.len() as u64 + 4;
     let cube = schemas_in(alloc, schemas, lib)?;

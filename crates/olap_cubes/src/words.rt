@@ -1,8 +1,8 @@
 // Which words are a command over several dimensions.
 ghost use Rattle.std.specs.Prelude.{◌≡◌, IfSome, length, option_map};
-ghost use Rattle.olap_order.specs.Arguments.{by_two};
+ghost use Rattle.olap_order.specs.Behind.{by_two};
 ghost use Rattle.olap_order.specs.Words.{texts};
-ghost use Rattle.olap_cubes.specs.Commands.{by_target, cube_by, cube_order, cubeview_by, cubeview_order, order_named};
+ghost use Rattle.olap_cubes.specs.Cut.{by_target, cube_by, cube_of, cubeview_by, cubeview_of, cut_named};
 ghost use Rattle.olap_cubes.specs.Seen.{AreDimensions, HasFiles, seen};
 
 use crate::counting::count_and_rest;
@@ -35,7 +35,7 @@ fn after_files<'a>(
     requires few { AreDimensions (length schemas.now) }
     requires each { length instances.now ≡ length schemas.now }
     ensures order { option_map seen result
-        ≡ by_two (cubeview_order (texts schemas.now) (texts instances.now)) (texts words.now) }
+        ≡ by_two (cubeview_of (texts schemas.now) (texts instances.now)) (texts words.now) }
     ensures files { IfSome result HasFiles }
 {
     match words {
@@ -64,7 +64,7 @@ fn cubeview(dimensions: usize, words: &[String]) -> Option<Command<'_>>
 fn after_schemas<'a>(schemas: &'a [String], words: &'a [String]) -> Option<Command<'a>>
     requires few { AreDimensions (length schemas.now) }
     ensures order { option_map seen result
-        ≡ by_target (cube_order (texts schemas.now)) (texts words.now) }
+        ≡ by_target (cube_of (texts schemas.now)) (texts words.now) }
     ensures files { IfSome result HasFiles }
 {
     match words {
@@ -89,7 +89,7 @@ fn cube(dimensions: usize, words: &[String]) -> Option<Command<'_>>
 
 /// The command of that name with these words after it, if it is one of this family.
 pub(crate) fn parse<'a>(name: &str, words: &'a [String]) -> Option<Command<'a>>
-    ensures order { option_map seen result ≡ order_named name.now (texts words.now) }
+    ensures order { option_map seen result ≡ cut_named name.now (texts words.now) }
     ensures files { IfSome result HasFiles }
 {
     match name {

@@ -4,12 +4,12 @@
 --     asked, told, anything, pass, either, meant, there    of one step
 --     MayCome     the same of an order that there may be
 --     no_order, an_order, may_either, may_or, may_ask, or_else    of such orders
---     may_one, may_two, may_three, may_four, may_two_or_more, may_three_or_more    of orders by so many words
-use Rattle.std.proofs.Common.{◌≡◌, List, [], ◌∷◌, ℕ, Bool, true, false, cond, Option, None, Some, refl}
+--     may_exactly, may_at_least, may_between    of orders by so many words
+use Rattle.std.proofs.Common.{◌≡◌, List, ℕ, Bool, true, false, cond, length, nat_le, ◌&&◌, ◌==◌, Option, None, Some, refl}
 use Rattle.std.specs.Prelude.{Result, Ok, Err, unwrap_or}
 use Rattle.std.specs.Option.{option_or}
 use Rattle.olap_base.specs.declared.refusals.Fault.{Fault}
-use Rattle.olap_order.specs.Arguments.{by_four, by_one, by_three, by_three_or_more, by_two, by_two_or_more}
+use Rattle.olap_order.specs.Arguments.{at_least, between, exactly}
 use Rattle.olap_order.specs.Families.{asking}
 use Rattle.olap_order.specs.Order.{Done, Order, Read, Told, and_then, ok_or}
 use Rattle.olap_order.specs.Steps.{meaning_or_fault}
@@ -125,59 +125,20 @@ or_else P (Some o) u c d = c
 
 -- ---- orders by so many words
 
--- by one word
-pub may_one : {Q : Type 0} (P : Q → Type 0) (order : List ℕ → Order Q) → ((a : List ℕ) → Comes P (order a))
-    → (words : List (List ℕ)) → MayCome P (by_one order words)
-unfolding MayCome
-may_one P order f [] = tt
-may_one P order f (a ∷ []) = f a
-may_one P order f (a ∷ b ∷ more) = tt
+-- by exactly so many
+pub may_exactly : {Q : Type 0} (P : Q → Type 0) (n : ℕ) (order : List (List ℕ) → Order Q) (words : List (List ℕ))
+    → Comes P (order words) → MayCome P (exactly n order words)
+may_exactly P n order words c =
+    may_either P (length words == n) (Some (order words)) None (an_order P (order words) c) (no_order P)
 
--- by two
-pub may_two : {Q : Type 0} (P : Q → Type 0) (order : List ℕ → List ℕ → Order Q)
-    → ((a b : List ℕ) → Comes P (order a b)) → (words : List (List ℕ)) → MayCome P (by_two order words)
-unfolding MayCome
-may_two P order f [] = tt
-may_two P order f (a ∷ []) = tt
-may_two P order f (a ∷ b ∷ []) = f a b
-may_two P order f (a ∷ b ∷ c ∷ more) = tt
+-- by so many or more
+pub may_at_least : {Q : Type 0} (P : Q → Type 0) (n : ℕ) (order : List (List ℕ) → Order Q) (words : List (List ℕ))
+    → Comes P (order words) → MayCome P (at_least n order words)
+may_at_least P n order words c =
+    may_either P (nat_le n (length words)) (Some (order words)) None (an_order P (order words) c) (no_order P)
 
--- by three
-pub may_three : {Q : Type 0} (P : Q → Type 0) (order : List ℕ → List ℕ → List ℕ → Order Q)
-    → ((a b c : List ℕ) → Comes P (order a b c)) → (words : List (List ℕ)) → MayCome P (by_three order words)
-unfolding MayCome
-may_three P order f [] = tt
-may_three P order f (a ∷ []) = tt
-may_three P order f (a ∷ b ∷ []) = tt
-may_three P order f (a ∷ b ∷ c ∷ []) = f a b c
-may_three P order f (a ∷ b ∷ c ∷ d ∷ more) = tt
-
--- by four
-pub may_four : {Q : Type 0} (P : Q → Type 0) (order : List ℕ → List ℕ → List ℕ → List ℕ → Order Q)
-    → ((a b c d : List ℕ) → Comes P (order a b c d)) → (words : List (List ℕ)) → MayCome P (by_four order words)
-unfolding MayCome
-may_four P order f [] = tt
-may_four P order f (a ∷ []) = tt
-may_four P order f (a ∷ b ∷ []) = tt
-may_four P order f (a ∷ b ∷ c ∷ []) = tt
-may_four P order f (a ∷ b ∷ c ∷ d ∷ []) = f a b c d
-may_four P order f (a ∷ b ∷ c ∷ d ∷ e ∷ more) = tt
-
--- by two, and those after them
-pub may_two_or_more : {Q : Type 0} (P : Q → Type 0) (order : List ℕ → List ℕ → List (List ℕ) → Order Q)
-    → ((a b : List ℕ) (more : List (List ℕ)) → Comes P (order a b more)) → (words : List (List ℕ))
-    → MayCome P (by_two_or_more order words)
-unfolding MayCome
-may_two_or_more P order f [] = tt
-may_two_or_more P order f (a ∷ []) = tt
-may_two_or_more P order f (a ∷ b ∷ more) = f a b more
-
--- by three, and those after them
-pub may_three_or_more : {Q : Type 0} (P : Q → Type 0) (order : List ℕ → List ℕ → List ℕ → List (List ℕ) → Order Q)
-    → ((a b c : List ℕ) (more : List (List ℕ)) → Comes P (order a b c more)) → (words : List (List ℕ))
-    → MayCome P (by_three_or_more order words)
-unfolding MayCome
-may_three_or_more P order f [] = tt
-may_three_or_more P order f (a ∷ []) = tt
-may_three_or_more P order f (a ∷ b ∷ []) = tt
-may_three_or_more P order f (a ∷ b ∷ c ∷ more) = f a b c more
+-- or no more than so many either
+pub may_between : {Q : Type 0} (P : Q → Type 0) (m n : ℕ) (order : List (List ℕ) → Order Q) (words : List (List ℕ))
+    → Comes P (order words) → MayCome P (between m n order words)
+may_between P m n order words c = may_either P (nat_le m (length words) && nat_le (length words) n)
+    (Some (order words)) None (an_order P (order words) c) (no_order P)

@@ -3,8 +3,9 @@
 --     under_schema      so what is left after it may take it for one
 --     root_declared     a root is declared
 --     formula_comes     a formula is one of the schema
-use Rattle.std.proofs.Common.{◌≡◌, ℕ, zero, suc, List, Some, true, refl, arith}
-use Rattle.std.specs.Prelude.{codes, Result, Ok, Err}
+use Rattle.std.proofs.Common.{◌≡◌, ◌≢◌, ℕ, zero, suc, Bool, List, Some, true, false, cond, refl, arith}
+use Rattle.std.proofs.lemmas.Bool.Decides.{nat_tests}
+use Rattle.std.specs.Prelude.{◌==◌, codes, Result, Ok, Err}
 use Rattle.std.specs.Str.{bytes_eq}
 use Rattle.olap_ast.specs.Formula.{Formula}
 use Rattle.olap_ast.specs.Schema.{Schema}
@@ -13,9 +14,9 @@ use Rattle.olap_base.specs.Graph.{Graph, IsCategory, IsDeclared}
 use Rattle.olap_base.specs.Limits.{most_schema_bytes}
 use Rattle.olap_graph.specs.Lookups.{category_named, names_of}
 use Rattle.olap_graph.proofs.PlaceLemmas.{found}
-use Rattle.olap_order.specs.Order.{Order, and_then}
+use Rattle.olap_order.specs.Order.{Done, Order, and_then, refused}
 use Rattle.olap_order.specs.Outputs.{refusal}
-use Rattle.olap_order.specs.Steps.{category_word, declared_word, fault_text, formula_or_fault, formula_word, meaning_or_fault, root_word, schema_file, text_file}
+use Rattle.olap_order.specs.Steps.{category_word, fault_text, formula_or_fault, formula_word, meaning_or_fault, root_word, schema_file, text_file}
 use Rattle.olap_order.specs.declared.status.Status.TheVariants.{Refused}
 use Rattle.olap_order.proofs.Coming.{Comes, anything, asked, meant, then_comes, there, told}
 use Rattle.olap_schema.specs.Readable.{IsReadable}
@@ -28,16 +29,22 @@ named_category g name c e =
     let t = found (bytes_eq name) (λ x. bytes_eq name x ≡ true) (λ x. (λ e. e, λ e. e)) (names_of g) 0 c e in
     let l = t.2 in omega (arith, t.1, l)
 
+-- a number that isn't found to be 0 is none
+isnt_zero : (c : ℕ) → (c == 0) ≡ false → c ≢ 0
+isnt_zero c e = grind (arith, nat_tests)
+
 -- a root is declared
 pub root_declared : (g : Graph) (at : ℕ) (name : List ℕ) → Comes (λ c. IsDeclared g c) (root_word g at name)
 root_declared g at name =
-    then_comes (λ c. IsCategory g c) (λ c. IsDeclared g c) (category_word g at name) (declared_word at)
+    then_comes (λ c. IsCategory g c) (λ c. IsDeclared g c) (category_word g at name)
+    (λ c. cond (c == 0) (refused (fault_text (codes "word") at (codes "RootIsAll"))) (Done c))
     (there (λ c. IsCategory g c) (category_named g name) (fault_text (codes "word") at (codes "UnknownCategory"))
-    (λ c e. named_category g name c e)) declared
+    (λ c e. named_category g name c e)) (λ c h. declared c h (c == 0) refl)
   where
-    declared : (c : ℕ) → IsCategory g c → Comes (λ c. IsDeclared g c) (declared_word at c)
-    declared zero h = told (λ c. IsDeclared g c) Refused (refusal (fault_text (codes "word") at (codes "RootIsAll")))
-    declared (suc c) h = asked (λ c. IsDeclared g c) (suc c) ((λ e. absurd (omega arith)), h)
+    declared : (c : ℕ) → IsCategory g c → (b : Bool) → (c == 0) ≡ b → Comes (λ c. IsDeclared g c)
+        (cond b (refused (fault_text (codes "word") at (codes "RootIsAll"))) (Done c))
+    declared c h true e = told (λ c. IsDeclared g c) Refused (refusal (fault_text (codes "word") at (codes "RootIsAll")))
+    declared c h false e = asked (λ c. IsDeclared g c) c (isnt_zero c e, h)
 
 module _ (readable : ReadSchemasAreReadable) where
   -- a schema that is read is readable, and so valid

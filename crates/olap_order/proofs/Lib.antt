@@ -4,4 +4,5 @@ pub mod Replying
 pub mod Joining
 pub mod Coming
 pub mod ComingSteps
+pub mod BehindLemmas
 mod SourceLemmas

@@ -15,7 +15,7 @@ use Rattle.olap_base.proofs.ListLemmas.{Distinct, list_any_is}
 use Rattle.olap_ast.proofs.Shape.{Distinct-push}
 use Rattle.olap_order.specs.Judged.{Replies}
 use Rattle.olap_order.specs.Order.{Order, Done, and_then}
-use Rattle.olap_order.specs.Steps.{another_word, different_words}
+use Rattle.olap_order.specs.Behind.{another_category, categories_from}
 use Rattle.olap_order.specs.Taken.{NoAnswer, PlainStep}
 use Rattle.olap_order.specs.Words.{texts}
 use Rattle.olap_ast.specs.Trees.{numbers_of}
@@ -44,34 +44,34 @@ not_among xs c e h =
 
 module _ (twice : List ℕ) (g : Graph) (at : ℕ) (names : List (List ℕ)) where
   pub record IsReadTo (k : ℕ) (sources : List ℕ) : Type 0 where
-    pub order : different_words twice g at [] names ≡ different_words twice g (at + k) sources (drop k names)
+    pub order : categories_from twice g at [] names ≡ categories_from twice g (at + k) sources (drop k names)
     pub categories : All (IsCategory g) sources
     pub differ : Distinct sources
 
   -- with one word more to read, the order is that of this word's category
   at_word : (k : ℕ) (sources : List ℕ) → k < length names → IsReadTo k sources
-      → different_words twice g at [] names ≡ and_then (another_word twice g (at + k) sources (get_or names k []))
-      (λ c. different_words twice g (suc (at + k)) (sources ++ c ∷ []) (drop (k + 1) names))
+      → categories_from twice g at [] names ≡ and_then (another_category twice g (at + k) sources (get_or names k []))
+      (λ c. categories_from twice g (suc (at + k)) (sources ++ c ∷ []) (drop (k + 1) names))
   at_word k sources h r = r.order
-      ∙ ap (λ ns. different_words twice g (at + k) sources ns) (drop_more names k [] h)
+      ∙ ap (λ ns. categories_from twice g (at + k) sources ns) (drop_more names k [] h)
 
   pub read_none : IsReadTo 0 []
   read_none = record {
-    order = let e : at ≡ at + 0 = omega arith in ap (λ n. different_words twice g n [] names) e;
+    order = let e : at ≡ at + 0 = omega arith in ap (λ n. categories_from twice g n [] names) e;
     categories = λ k d l. absurd (omega arith);
     differ = tt;
   }
 
   pub read_more : (k : ℕ) (sources new : List ℕ) (c : ℕ) → k < length names → IsReadTo k sources
-      → another_word twice g (at + k) sources (get_or names k []) ≡ Done c
+      → another_category twice g (at + k) sources (get_or names k []) ≡ Done c
       → IsCategory g c → list_any (λ d. d == c) sources ≡ false → new ≡ sources ++ c ∷ [] → IsReadTo (k + 1) new
   read_more k sources new c h r goes category fresh e = record {
     order = at_word k sources h r
         ∙ ap (λ o. and_then o
-        (λ d. different_words twice g (suc (at + k)) (sources ++ d ∷ []) (drop (k + 1) names))) goes
-        ∙ ap (λ xs. different_words twice g (suc (at + k)) xs (drop (k + 1) names)) (sym e)
+        (λ d. categories_from twice g (suc (at + k)) (sources ++ d ∷ []) (drop (k + 1) names))) goes
+        ∙ ap (λ xs. categories_from twice g (suc (at + k)) xs (drop (k + 1) names)) (sym e)
         ∙ (let p : suc (at + k) ≡ at + (k + 1) = omega arith in
-        ap (λ n. different_words twice g n new (drop (k + 1) names)) p);
+        ap (λ n. categories_from twice g n new (drop (k + 1) names)) p);
     categories = subst (All (IsCategory g)) (sym e) (All-append (IsCategory g) sources (c ∷ []) r.categories
         (All-cons (IsCategory g) c [] category (λ j d l. absurd (omega arith))));
     differ = subst Distinct (sym e) (Distinct-push sources c r.differ (not_among sources c fresh));
@@ -79,15 +79,15 @@ module _ (twice : List ℕ) (g : Graph) (at : ℕ) (names : List (List ℕ)) whe
 
   -- all words are read
   pub read_all : (k : ℕ) (sources : List ℕ) → length names ≤ k → IsReadTo k sources
-      → different_words twice g at [] names ≡ Done sources
-  read_all k sources h r = r.order ∙ ap (λ ns. different_words twice g (at + k) sources ns) (drop_all k names h)
+      → categories_from twice g at [] names ≡ Done sources
+  read_all k sources h r = r.order ∙ ap (λ ns. categories_from twice g (at + k) sources ns) (drop_all k names h)
 
   -- where a word isn't taken, the order ends as it does there
   pub ends_at : (k : ℕ) (sources : List ℕ) (stop : Stop) → k < length names → IsReadTo k sources
-      → Replies NoAnswer (another_word twice g (at + k) sources (get_or names k [])) (Err stop)
-      → Replies NoAnswer (different_words twice g at [] names) (Err stop)
+      → Replies NoAnswer (another_category twice g (at + k) sources (get_or names k [])) (Err stop)
+      → Replies NoAnswer (categories_from twice g at [] names) (Err stop)
   ends_at k sources stop h r ends = subst (λ o. Replies NoAnswer o (Err stop)) (sym (at_word k sources h r))
-      (ends_both ends (λ c. different_words twice g (suc (at + k)) (sources ++ c ∷ []) (drop (k + 1) names)))
+      (ends_both ends (λ c. categories_from twice g (suc (at + k)) (sources ++ c ∷ []) (drop (k + 1) names)))
 
 -- a step that isn't taken ends as its result does
 pub plain_ends : {T X : Type 0} {step : Order T} {meaning : X → T} (stop : Stop)

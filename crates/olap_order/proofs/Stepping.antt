@@ -6,8 +6,8 @@ use Rattle.olap_outside.specs.Faults.{Rose}
 use Rattle.olap_outside.specs.Files.{Files}
 use Rattle.olap_outside.specs.declared.outside.Library.{Ghosts as Library}
 use Rattle.olap_order.specs.Order.{Order, Done, Told, Read, ComesTo, IsStuck, ReadsNoFile, and_then}
-use Rattle.olap_order.specs.Judged.{Gives, GivesTold, IsBlamed, IsLater, IsStuckTold, Judged, Replied, Replies}
-use Rattle.olap_order.specs.Taken.{ComesOut, ComesOutTold, NoAnswer, FileStep, PlainStep}
+use Rattle.olap_order.specs.Judged.{Gives, GivesTold, IsBlamed, IsLater, Judged, Replied, Replies}
+use Rattle.olap_order.specs.Taken.{ComesOut, ComesOutTold, IsStuckTold, NoAnswer, FileStep, PlainStep}
 use Rattle.olap_order.specs.declared.status.Status.{Status}
 use Rattle.olap_order.specs.declared.status.Status.TheVariants as statuses
 use Rattle.olap_order.specs.declared.replies.Reply.{Reply}

@@ -1,37 +1,26 @@
--- Orders by the words after a command's name. Fewer or more words than it takes are no command, and have no order.
---     by_one, by_two, by_three, by_four   so many words
---     by_two_or_more, by_three_or_more    so many words, and any number after them
-use Rattle.std.specs.Prelude.{ℕ, List, [], ◌∷◌, Option, None, Some}
+-- The words behind a command's name. They are known by their numbers on the command line: the name is the first word.
+--     word       the word of a number
+--     at_word    a step over that word
+--     exactly, at_least, between    an order by so many words; fewer or more are no command, and have none
+use Rattle.std.specs.Prelude.{ℕ, ◌-◌, ◌&&◌, ◌==◌, nat_le, List, [], length, slice_index_or, Option, None, Some, if◌then◌else◌}
 use Rattle.olap_order.specs.Order.{Order}
 
--- by one word
-abbrev pub by_one : {Q : Type 0} → (List ℕ → Order Q) → List (List ℕ) → Option (Order Q)
-by_one order (a ∷ []) = Some (order a)
-by_one order words = None
+-- the word of that number
+abbrev pub word : ℕ → List (List ℕ) → List ℕ
+word at words = slice_index_or words (at - 2) []
 
--- by two
-abbrev pub by_two : {Q : Type 0} → (List ℕ → List ℕ → Order Q) → List (List ℕ) → Option (Order Q)
-by_two order (a ∷ b ∷ []) = Some (order a b)
-by_two order words = None
+-- a step that judges the word of that number
+abbrev pub at_word : {T : Type 0} → (ℕ → List ℕ → Order T) → ℕ → List (List ℕ) → Order T
+at_word step at words = step at (word at words)
 
--- by three
-abbrev pub by_three : {Q : Type 0} → (List ℕ → List ℕ → List ℕ → Order Q) → List (List ℕ) → Option (Order Q)
-by_three order (a ∷ b ∷ c ∷ []) = Some (order a b c)
-by_three order words = None
+-- an order by so many words
+abbrev pub exactly : {Q : Type 0} → ℕ → (List (List ℕ) → Order Q) → List (List ℕ) → Option (Order Q)
+exactly n order words = if length words == n then Some (order words) else None
 
--- by four
-abbrev pub by_four : {Q : Type 0} → (List ℕ → List ℕ → List ℕ → List ℕ → Order Q) → List (List ℕ) → Option (Order Q)
-by_four order (a ∷ b ∷ c ∷ d ∷ []) = Some (order a b c d)
-by_four order words = None
+-- by so many or more
+abbrev pub at_least : {Q : Type 0} → ℕ → (List (List ℕ) → Order Q) → List (List ℕ) → Option (Order Q)
+at_least n order words = if nat_le n (length words) then Some (order words) else None
 
--- by two, and those after them
-abbrev pub by_two_or_more : {Q : Type 0} → (List ℕ → List ℕ → List (List ℕ) → Order Q) → List (List ℕ)
-    → Option (Order Q)
-by_two_or_more order (a ∷ b ∷ more) = Some (order a b more)
-by_two_or_more order words = None
-
--- by three, and those after them
-abbrev pub by_three_or_more : {Q : Type 0} → (List ℕ → List ℕ → List ℕ → List (List ℕ) → Order Q) → List (List ℕ)
-    → Option (Order Q)
-by_three_or_more order (a ∷ b ∷ c ∷ more) = Some (order a b c more)
-by_three_or_more order words = None
+-- by so many or more, but no more than so many
+abbrev pub between : {Q : Type 0} → ℕ → ℕ → (List (List ℕ) → Order Q) → List (List ℕ) → Option (Order Q)
+between m n order words = if nat_le m (length words) && nat_le (length words) n then Some (order words) else None

@@ -1,7 +1,7 @@
 -- What a function that goes along an order answers, and when it gives up. `answers` says which status and bytes
 -- answer a question, and `L` is what a library tells of itself.
 --     Gives, GivesTold        the outcome has this status and these bytes
---     IsBlamed, IsStuckTold   the order explains what a library was last asked for
+--     IsBlamed                the order explains what a library was last asked for
 --     ReadCause               a refusal of the library has its cause
 --     IsVerdict               a status that a command may answer with
 --     RanOutOfMemory          the status of a run that ran out of memory
@@ -9,7 +9,7 @@
 --     IsLater                 the library after some calls
 --     Judged                  what a command answers, along its order
 --     Replies                 what a function answers that reads nothing
-use Rattle.std.specs.Prelude.{◌≡◌, ◌⊎◌, ◌≤◌, ℕ, false, List, Option, None, Some, MatchOption, ⊤, Result, Ok, Err, IsErrOf, IsTrue}
+use Rattle.std.specs.Prelude.{◌≡◌, ◌⊎◌, ◌≤◌, ℕ, false, List, Option, None, Some, IfSome, MatchOption, ⊤, Result, Ok, Err, IsErrOf, IsTrue}
 use Rattle.olap_outside.specs.Faults.{Rose}
 use Rattle.olap_outside.specs.Files.{Files}
 use Rattle.olap_outside.specs.declared.outside.Library.{Ghosts as Library}
@@ -36,22 +36,15 @@ GivesTold answers (Some files) order status bytes = Gives answers files order st
 -- what the library was last asked for, where it tells that and its contents, is a file that the order comes to, or the
 -- order comes to a name without a content
 abbrev pub IsBlamed : {Q : Type 0} → Option Files → Order Q → Option (Option (List ℕ)) → Type 0
-IsBlamed None order asked = ⊤
-IsBlamed (Some files) order None = ⊤
-IsBlamed (Some files) order (Some None) = IsStuck files order
-IsBlamed (Some files) order (Some (Some file)) = ComesTo files order file ⊎ IsStuck files order
-
--- the order comes to a name without a content, where the library tells its contents
-abbrev pub IsStuckTold : {Q : Type 0} → Option Files → Order Q → Type 0
-IsStuckTold None order = ⊤
-IsStuckTold (Some files) order = IsStuck files order
+IsBlamed contents order asked = IfSome contents (λ files. IfSome asked (λ name.
+    MatchOption name (IsStuck files order) (λ file. ComesTo files order file ⊎ IsStuck files order)))
 
 -- a call to the library was refused, and with it the run; a sure library refuses only a name without a content
 pub record ReadCause {D Q : Type 0} (L : Library D) (old new : D) (order : Order Q) : Type 0 where
   pub risen : Rose (L.faults old) (L.faults new)
   pub unready : L.ready new ≡ false
   pub place : IsBlamed (L.contents old) order (L.asked new)
-  pub stuck : IsTrue (L.sure old) → IsStuckTold (L.contents old) order
+  pub stuck : IsTrue (L.sure old) → IfSome (L.contents old) (λ files. IsStuck files order)
 
 -- the answers that a command may give: all but `Usage`, which is of words that are none
 abbrev pub IsVerdict : Status → Type 0

@@ -6,5 +6,7 @@ pub mod Judged
 pub mod Families
 pub mod Arguments
 pub mod Steps
+-- The inside: how the code takes a step and its words, and what a refusal says.
 pub mod Taken
+pub mod Behind
 pub mod Refusals

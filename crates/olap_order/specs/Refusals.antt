@@ -1,8 +1,10 @@
 -- What a refusal says.
 --     IsRefusal        it is the line of a refusal
 --     IsOutOfMemory    memory ran out
-use Rattle.std.specs.Prelude.{◌≡◌, ℕ, List, ⊤}
+--     part_text        of a file, the line or record that is at fault
+use Rattle.std.specs.Prelude.{◌≡◌, ◌++◌, ℕ, List, codes, ⊤}
 use Rattle.olap_order.specs.Outputs.{refusal}
+use Rattle.olap_order.specs.Steps.{fault_text}
 use Rattle.olap_order.specs.declared.replies.Stop.{Stop}
 use Rattle.olap_order.specs.declared.replies.Stop.TheVariants as stops
 
@@ -16,3 +18,7 @@ IsRefusal why (stops.Memory m) = ⊤
 abbrev pub IsOutOfMemory : Stop → Type 0
 IsOutOfMemory (stops.Memory m) = ⊤
 IsOutOfMemory stop = ⊥
+
+-- a line or record of the file with that label, and the name of its fault
+abbrev pub part_text : List ℕ → List ℕ → ℕ → List ℕ → List ℕ
+part_text label part at name = label ++ (codes " " ++ fault_text part at name)

@@ -1,10 +1,11 @@
 -- The steps of an order that all commands share: what a run takes a word or a file for, or why it refuses it.
 --     category_word, root_word          the category that a word names; the same, and not `All`
 --     number_word, formula_word         the number that a word spells; the formula that it is
---     another_word, different_words     categories that differ
+--     in_turn, another                  a step over one word or file after the other; things that differ
+--     different_words                   categories that differ
 --     text_file, schema_file            what stands in a file
---     fault_text, part_text             where a fault is, and its name
-use Rattle.std.specs.Prelude.{ℕ, zero, suc, List, [], ◌∷◌, ◌++◌, ◌==◌, length, nat_lt, codes, Option, Result, Ok, Err, if◌then◌else◌}
+--     fault_text                        where a fault is, and its name
+use Rattle.std.specs.Prelude.{ℕ, suc, ◌-◌, Bool, List, [], ◌∷◌, ◌++◌, ◌==◌, length, drop, nat_lt, codes, Option, Result, Ok, Err, if◌then◌else◌}
 use Rattle.std.specs.Fmt.{decimal}
 use Rattle.std.specs.List.{list_any}
 use Rattle.olap_base.specs.Graph.{Graph}
@@ -26,18 +27,14 @@ fault_text place at name = place ++ (codes " " ++ (decimal at ++ (codes " " ++ n
 abbrev pub category_word : Graph → ℕ → List ℕ → Order ℕ
 category_word g at name = ok_or (category_named g name) (fault_text (codes "word") at (codes "UnknownCategory"))
 
--- `All` is no root
-abbrev pub declared_word : ℕ → ℕ → Order ℕ
-declared_word at zero = refused (fault_text (codes "word") at (codes "RootIsAll"))
-declared_word at (suc c) = Done (suc c)
-
 -- a root: a category that isn't `All`
 abbrev pub root_word : Graph → ℕ → List ℕ → Order ℕ
-root_word g at name = and_then (category_word g at name) (declared_word at)
+root_word g at name = and_then (category_word g at name) (λ c.
+    if c == 0 then refused (fault_text (codes "word") at (codes "RootIsAll")) else Done c)
 
 -- the number that a word spells, if it spells one that it may be
-abbrev pub number_word : ℕ → Option ℕ → Order ℕ
-number_word at number = ok_or number (fault_text (codes "word") at (codes "BadNumber"))
+abbrev pub number_word : (List ℕ → Option ℕ) → ℕ → List ℕ → Order ℕ
+number_word spelled at word = ok_or (spelled word) (fault_text (codes "word") at (codes "BadNumber"))
 
 -- a formula, or its first fault
 abbrev pub formula_or_fault : ℕ → Result Formula (List ℕ) → Order Formula
@@ -48,16 +45,21 @@ formula_or_fault at (Err name) = refused (fault_text (codes "word") at name)
 abbrev pub formula_word : Schema → ℕ → ℕ → List ℕ → Order Formula
 formula_word s root at text = formula_or_fault at (question_read s root text)
 
--- a category that is none of those before it; else the fault has this name
-abbrev pub another_word : List ℕ → Graph → ℕ → List ℕ → List ℕ → Order ℕ
-another_word twice g at earlier name = and_then (category_word g at name) (λ c.
-    if list_any (λ d. d == c) earlier then refused (fault_text (codes "word") at twice) else Done c)
+-- ---- several words or files, the first of which has this number
 
--- different categories from this word on, left to right, after these
-abbrev pub different_words : List ℕ → Graph → ℕ → List ℕ → List (List ℕ) → Order (List ℕ)
-different_words twice g at earlier [] = Done earlier
-different_words twice g at earlier (name ∷ names) = and_then (another_word twice g at earlier name) (λ c.
-    different_words twice g (suc at) (earlier ++ c ∷ []) names)
+-- what each comes to, one after the other, behind what those before it came to
+abbrev pub in_turn : {A T : Type 0} → (ℕ → List T → A → Order T) → ℕ → List T → List A → Order (List T)
+in_turn step at earlier [] = Done earlier
+in_turn step at earlier (x ∷ xs) = and_then (step at earlier x) (λ y. in_turn step (suc at) (earlier ++ y ∷ []) xs)
+
+-- what a word comes to, if it is none of what those before it came to; else the fault has this name
+abbrev pub another : {T : Type 0} → (T → T → Bool) → List ℕ → (ℕ → List ℕ → Order T) → ℕ → List T → List ℕ → Order T
+another same twice step at earlier word = and_then (step at word) (λ x.
+    if list_any (λ y. same y x) earlier then refused (fault_text (codes "word") at twice) else Done x)
+
+-- different categories from the word of this number on
+abbrev pub different_words : List ℕ → Graph → ℕ → List (List ℕ) → Order (List ℕ)
+different_words twice g at words = in_turn (another (λ d c. d == c) twice (category_word g)) at [] (drop (at - 2) words)
 
 -- ---- files, each under its label
 
@@ -66,14 +68,10 @@ abbrev pub text_file : List ℕ → ℕ → List ℕ → Order (List ℕ)
 text_file label most file = Read file (λ text.
     if nat_lt most (length text) then refused (label ++ codes " TooLong") else Done text)
 
--- a line or record of the file with that label, and the name of its fault
-abbrev pub part_text : List ℕ → List ℕ → ℕ → List ℕ → List ℕ
-part_text label part at name = label ++ (codes " " ++ fault_text part at name)
-
 -- what a text stands for, or its first fault
 abbrev pub meaning_or_fault : {T K : Type 0} → List ℕ → List ℕ → (K → List ℕ) → Result T (Fault K) → Order T
 meaning_or_fault label part name (Ok x) = Done x
-meaning_or_fault label part name (Err fault) = refused (part_text label part fault.at (name fault.kind))
+meaning_or_fault label part name (Err f) = refused (label ++ (codes " " ++ fault_text part f.at (name f.kind)))
 
 -- the schema in a file
 abbrev pub schema_file : List ℕ → List ℕ → Order Schema

@@ -1,12 +1,13 @@
 -- How the code takes a step of an order, whatever comes after it.
 --     ComesOut     the files are there that the step reads, and it comes to this
+--     IsStuckTold  it comes to a name without a content
 --     NoAnswer     of a step that ends: it leaves no question
 --     FileStep     a step that reads
 --     PlainStep    a step that reads nothing
-use Rattle.std.specs.Prelude.{◌≡◌, List, ℕ, Option, None, Some, MatchOption, Result, Err, IfOk, IfErr}
+use Rattle.std.specs.Prelude.{◌≡◌, List, ℕ, Option, None, Some, MatchOption, Result, Err, IfOk, IfErr, IfSome}
 use Rattle.olap_outside.specs.Files.{Files}
 use Rattle.olap_outside.specs.declared.outside.Library.{Ghosts as Library}
-use Rattle.olap_order.specs.Order.{Order, Done, Told, Read, ReadsNoFile}
+use Rattle.olap_order.specs.Order.{Order, Done, Told, Read, IsStuck, ReadsNoFile}
 use Rattle.olap_order.specs.Judged.{IsLater, Judged, Replies}
 use Rattle.olap_order.specs.declared.status.Status.{Status}
 use Rattle.olap_order.specs.declared.replies.Stop.{Stop}
@@ -21,6 +22,10 @@ ComesOut files (Read name next) y = MatchOption (files name) ⊥ (λ text. Comes
 abbrev pub ComesOutTold : {T : Type 0} → Option Files → Order T → T → Type 0
 ComesOutTold None step x = ReadsNoFile step → step ≡ Done x
 ComesOutTold (Some files) step x = ComesOut files step x
+
+-- the order comes to a name without a content, where the library tells its contents
+abbrev pub IsStuckTold : {Q : Type 0} → Option Files → Order Q → Type 0
+IsStuckTold contents order = IfSome contents (λ files. IsStuck files order)
 
 -- a step that ends leaves no question, so nothing answers one
 abbrev pub NoAnswer : {T : Type 0} → T → Status → List ℕ → Type 0

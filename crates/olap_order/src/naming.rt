@@ -8,7 +8,8 @@ ghost use Rattle.olap_ast.specs.Valid.{IsQuestion};
 ghost use Rattle.olap_base.specs.Graph.{IsCategory, IsDeclared};
 ghost use Rattle.olap_schema.specs.Readable.{AreTexts};
 ghost use Rattle.olap_schema.specs.Schemas.{schema_of};
-ghost use Rattle.olap_order.specs.Steps.{another_word, category_word, different_words, formula_word, root_word};
+ghost use Rattle.olap_order.specs.Behind.{another_category, categories_from};
+ghost use Rattle.olap_order.specs.Steps.{category_word, formula_word, root_word};
 ghost use Rattle.olap_order.specs.Taken.{PlainStep};
 ghost use Rattle.olap_order.specs.Words.{texts};
 
@@ -82,7 +83,7 @@ fn another_at(
     name: &str,
 ) -> Result<CatId, Stop>
     ensures step { PlainStep
-        (another_word twice.now (schema_of schema.now).graph at (numbers_of earlier.now) name.now)
+        (another_category twice.now (schema_of schema.now).graph at (numbers_of earlier.now) name.now)
         (λ c. c.0) result }
     ensures category { IfOk result (λ c. IsCategory (schema_of schema.now).graph c.0) }
     ensures new { IfOk result (λ c.
@@ -106,7 +107,7 @@ pub fn categories_at(
 ) -> Result<Vec<CatId>, Stop>
     requires few { at + length names.now < 2 ^ 64 }
     ensures step { PlainStep
-        (different_words twice.now (schema_of schema.now).graph at [] (texts names.now))
+        (categories_from twice.now (schema_of schema.now).graph at [] (texts names.now))
         (λ categories. numbers_of categories.items) result }
     ensures categories { IfOk result (λ categories.
         All (IsCategory (schema_of schema.now).graph) (numbers_of categories.items)) }

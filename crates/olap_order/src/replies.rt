@@ -1,7 +1,7 @@
 // Replies, and why a run ends before its question is asked.
 ghost use Rattle.std.specs.Prelude.{◌≡◌, ◌++◌, codes};
-ghost use Rattle.olap_order.specs.Refusals.{IsOutOfMemory, IsRefusal};
-ghost use Rattle.olap_order.specs.Steps.{fault_text, part_text};
+ghost use Rattle.olap_order.specs.Refusals.{IsOutOfMemory, IsRefusal, part_text};
+ghost use Rattle.olap_order.specs.Steps.{fault_text};
 
 use crate::Status;
 use olap_base::Memory;

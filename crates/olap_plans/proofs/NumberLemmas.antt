@@ -6,7 +6,7 @@ use Rattle.std.specs.Str.Parse.{IsNumeral, ParsesUnsigned, digits_value, without
 use Rattle.std.proofs.lemmas.Bool.Decides.{Decides-and, Decides-ltb}
 use Rattle.olap_numerals.specs.Values.{is_numeral}
 use Rattle.olap_numerals.proofs.Spelling.{numeral-decides, ok-where}
-use Rattle.olap_plans.specs.Numbers.{is_number, number_of}
+use Rattle.olap_plans.specs.Numbers.{number_of}
 
 -- the test of digits decides std's words
 number-decides : (bs : List ℕ) → Decides (is_numeral bs && nat_lt (digits_value 10 bs) (2 ^ 64))

@@ -1,5 +1,5 @@
 // The command `answer`: a view from stored views.
-ghost use Rattle.std.specs.Prelude.{◌≡◌, ◌++◌, ◌<◌, All, IfOk, length};
+ghost use Rattle.std.specs.Prelude.{◌≡◌, [], ◌++◌, ◌∷◌, ◌<◌, All, IfOk, length};
 ghost use Rattle.olap_ast.specs.Schema.{IsLegal};
 ghost use Rattle.olap_base.specs.Graph.{IsCategory};
 ghost use Rattle.olap_instance.specs.Made.{IsMadeFor};
@@ -115,7 +115,7 @@ pub(crate) fn answer<L: Library>(
     lib: &mut L,
 ) -> Result<Reply, Stop>
     ensures judged { Judged IsAnswer L.Library lib.old lib.new
-        (answer_order schema.now instance.now store.now target.now) result }
+        (answer_order (schema.now ∷ instance.now ∷ store.now ∷ target.now ∷ [])) result }
 {
     let schema = schema_in(alloc, "schema", schema, lib)?;
     answer_under_schema(alloc, &schema, instance, store, target, lib)

@@ -1,5 +1,5 @@
 // The command `generate`: what comes of an input that is made from a seed and a number of stores.
-ghost use Rattle.std.specs.Prelude.{◌≡◌, ◌≤◌, IfOk};
+ghost use Rattle.std.specs.Prelude.{◌≡◌, ◌≤◌, [], ◌∷◌, IfOk};
 ghost use Rattle.olap_base.specs.Limits.{most_generated};
 ghost use Rattle.olap_plans.specs.Commands.{generate_order};
 ghost use Rattle.olap_order.specs.Judged.{Replies};
@@ -38,7 +38,7 @@ fn size(word: &str) -> Option<u32>
 
 /// The seed that the word of this number spells.
 fn seed_at(alloc: Global, at: u64, word: &str) -> Result<u64, Stop>
-    ensures { PlainStep (number_word at (number_of word.now)) (λ n. n) result }
+    ensures { PlainStep (number_word number_of at word.now) (λ n. n) result }
 {
     match number(word) {
         Some(seed) => Ok(seed),
@@ -48,7 +48,7 @@ fn seed_at(alloc: Global, at: u64, word: &str) -> Result<u64, Stop>
 
 /// The size that the word of this number spells.
 fn size_at(alloc: Global, at: u64, word: &str) -> Result<u32, Stop>
-    ensures step { PlainStep (number_word at (size_of word.now)) (λ n. n) result }
+    ensures step { PlainStep (number_word size_of at word.now) (λ n. n) result }
     ensures some { IfOk result (λ n. 1 ≤ n) }
     ensures few { IfOk result (λ n. n ≤ most_generated) }
 {
@@ -70,7 +70,7 @@ fn answered(alloc: Global, seed: u64, size: u32) -> Result<Reply, Stop>
 
 /// What comes of the input that is made from a seed and a number of stores. No file is read.
 pub(crate) fn generate(alloc: Global, seed: &str, size: &str) -> Result<Reply, Stop>
-    ensures replies { Replies IsAnswer (generate_order seed.now size.now) result }
+    ensures replies { Replies IsAnswer (generate_order (seed.now ∷ size.now ∷ [])) result }
 {
     let seed = seed_at(alloc, 2, seed)?;
     let size = size_at(alloc, 3, size)?;

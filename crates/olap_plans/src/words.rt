@@ -1,6 +1,6 @@
 // Which words are a command that a plan answers.
-ghost use Rattle.std.specs.Prelude.{◌≡◌, option_map};
-ghost use Rattle.olap_order.specs.Arguments.{by_four, by_two};
+ghost use Rattle.std.specs.Prelude.{◌≡◌, [], ◌∷◌, option_map};
+ghost use Rattle.olap_order.specs.Behind.{by_four, by_two};
 ghost use Rattle.olap_order.specs.Words.{texts};
 ghost use Rattle.olap_plans.specs.Commands.{answer_order, generate_order, order_named};
 ghost use Rattle.olap_plans.specs.Seen.{seen};
@@ -24,7 +24,8 @@ pub(crate) enum Command<'a> {
 
 /// The words after `answer`.
 fn answer(words: &[String]) -> Option<Command<'_>>
-    ensures { option_map seen result ≡ by_four answer_order (texts words.now) }
+    ensures { option_map seen result
+        ≡ by_four (λ a b c d. answer_order (a ∷ b ∷ c ∷ d ∷ [])) (texts words.now) }
 {
     match words {
         [schema, instance, store, target] => Some(Command::Answer {
@@ -39,7 +40,7 @@ fn answer(words: &[String]) -> Option<Command<'_>>
 
 /// The words after `generate`.
 fn generate(words: &[String]) -> Option<Command<'_>>
-    ensures { option_map seen result ≡ by_two generate_order (texts words.now) }
+    ensures { option_map seen result ≡ by_two (λ a b. generate_order (a ∷ b ∷ [])) (texts words.now) }
 {
     match words {
         [seed, size] => Some(Command::Generate {

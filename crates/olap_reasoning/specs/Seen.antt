@@ -1,6 +1,7 @@
 -- The commands of the code, as the orders of the words that they hold.
 --     question_of    what is asked of a target and its sources
 --     seen_under     the order of what is asked of a schema
+--     under          a schema, and what is left under it
 --     seen           the order of a command
 use Rattle.std.specs.Prelude.{ℕ, List, codes}
 use Rattle.olap_ast.specs.Schema.{Schema}
@@ -33,6 +34,10 @@ seen_under s (code.Needs target sources) = sources_under ByNeeds s target.now (t
 seen_under s (code.Frozen category) = category_under ByFrozen s category.now
 seen_under s (code.Shapes category) = category_under ByShapes s category.now
 seen_under s code.Audit = Done (ByAudit s)
+
+-- a schema, and what is left under it
+abbrev pub under : List ℕ → (Schema → Order Question) → Order Question
+under schema next = and_then (schema_file (codes "schema") schema) next
 
 -- the order of a command
 abbrev pub seen : Command → Order Question

@@ -2,7 +2,8 @@
 use Rattle.std.specs.Prelude.{ℕ, List, [], codes}
 use Rattle.olap_ast.specs.Schema.{Schema}
 use Rattle.olap_order.specs.Order.{Order, Done, and_then}
-use Rattle.olap_order.specs.Steps.{category_word, different_words, formula_word, root_word}
+use Rattle.olap_order.specs.Behind.{categories_from}
+use Rattle.olap_order.specs.Steps.{category_word, formula_word, root_word}
 use Rattle.olap_reasoning.specs.Questions.{Question, ByImplied}
 
 -- the category
@@ -21,5 +22,5 @@ abbrev pub sources_under : (Schema → ℕ → List ℕ → Question) → Schema
     → Order Question
 sources_under asked s target sources =
     and_then (category_word s.graph 3 target) (λ c.
-    and_then (different_words (codes "DuplicateSource") s.graph 4 [] sources) (λ cs.
+    and_then (categories_from (codes "DuplicateSource") s.graph 4 [] sources) (λ cs.
     Done (asked s c cs)))

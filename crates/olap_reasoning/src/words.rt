@@ -1,10 +1,14 @@
 // Which words are a command about all legal instances of a schema.
 ghost use Rattle.std.specs.Prelude.{◌≡◌, option_map};
-ghost use Rattle.olap_order.specs.Arguments.{by_one, by_three, by_two, by_two_or_more};
+ghost use Rattle.olap_order.specs.Behind.{by_one, by_three, by_two, by_two_or_more};
+ghost use Rattle.olap_order.specs.Order.{Done, Told};
 ghost use Rattle.olap_order.specs.Words.{texts};
-ghost use Rattle.olap_reasoning.specs.Commands.{audit_order, category_order, format_order, implies_order, order_named, sources_order};
-ghost use Rattle.olap_reasoning.specs.Questions.{ByFrozen, ByNeeds, BySatisfiable, ByShapes};
-ghost use Rattle.olap_reasoning.specs.Seen.{question_of, seen};
+ghost use Rattle.olap_order.specs.declared.status.Status.TheVariants.{Yes};
+ghost use Rattle.olap_schema_text.specs.Printing.{schema_text};
+ghost use Rattle.olap_reasoning.specs.Commands.{order_named};
+ghost use Rattle.olap_reasoning.specs.Questions.{ByAudit, ByFrozen, ByNeeds, BySatisfiable, ByShapes};
+ghost use Rattle.olap_reasoning.specs.Seen.{question_of, seen, under};
+ghost use Rattle.olap_reasoning.specs.Under.{category_under, implies_under, sources_under};
 
 use olap_proof::Form;
 
@@ -63,7 +67,7 @@ pub(crate) enum Asked<'a> {
 
 /// The words after `format`.
 fn format(words: &[String]) -> Option<Command<'_>>
-    ensures { option_map seen result ≡ by_one format_order (texts words.now) }
+    ensures { option_map seen result ≡ by_one (λ a. under a (λ s. Told Yes (schema_text s))) (texts words.now) }
 {
     match words {
         [schema] => Some(Command {
@@ -76,7 +80,8 @@ fn format(words: &[String]) -> Option<Command<'_>>
 
 /// The words after `satisfiable`.
 fn satisfiable(words: &[String]) -> Option<Command<'_>>
-    ensures { option_map seen result ≡ by_two (category_order BySatisfiable) (texts words.now) }
+    ensures { option_map seen result
+        ≡ by_two (λ a b. under a (λ s. category_under BySatisfiable s b)) (texts words.now) }
 {
     match words {
         [schema, category] => Some(Command {
@@ -91,7 +96,7 @@ fn satisfiable(words: &[String]) -> Option<Command<'_>>
 
 /// The words after `implies`.
 fn implies(words: &[String]) -> Option<Command<'_>>
-    ensures { option_map seen result ≡ by_three implies_order (texts words.now) }
+    ensures { option_map seen result ≡ by_three (λ a b c. under a (λ s. implies_under s b c)) (texts words.now) }
 {
     match words {
         [schema, root, formula] => Some(Command {
@@ -107,8 +112,8 @@ fn implies(words: &[String]) -> Option<Command<'_>>
 
 /// The words after `summarizable`, `prove` and `prove-short`.
 fn summarizable(wanted: Wanted, words: &[String]) -> Option<Command<'_>>
-    ensures { option_map seen result
-        ≡ by_two_or_more (sources_order (question_of wanted)) (texts words.now) }
+    ensures { option_map seen result ≡ by_two_or_more
+        (λ a b more. under a (λ s. sources_under (question_of wanted) s b more)) (texts words.now) }
 {
     match words {
         [schema, target, sources @ ..] => Some(Command {
@@ -125,7 +130,8 @@ fn summarizable(wanted: Wanted, words: &[String]) -> Option<Command<'_>>
 
 /// The words after `needs`.
 fn needs(words: &[String]) -> Option<Command<'_>>
-    ensures { option_map seen result ≡ by_two_or_more (sources_order ByNeeds) (texts words.now) }
+    ensures { option_map seen result
+        ≡ by_two_or_more (λ a b more. under a (λ s. sources_under ByNeeds s b more)) (texts words.now) }
 {
     match words {
         [schema, target, sources @ ..] => Some(Command {
@@ -141,7 +147,7 @@ fn needs(words: &[String]) -> Option<Command<'_>>
 
 /// The words after `frozen`.
 fn frozen(words: &[String]) -> Option<Command<'_>>
-    ensures { option_map seen result ≡ by_two (category_order ByFrozen) (texts words.now) }
+    ensures { option_map seen result ≡ by_two (λ a b. under a (λ s. category_under ByFrozen s b)) (texts words.now) }
 {
     match words {
         [schema, category] => Some(Command {
@@ -156,7 +162,7 @@ fn frozen(words: &[String]) -> Option<Command<'_>>
 
 /// The words after `shapes`.
 fn shapes(words: &[String]) -> Option<Command<'_>>
-    ensures { option_map seen result ≡ by_two (category_order ByShapes) (texts words.now) }
+    ensures { option_map seen result ≡ by_two (λ a b. under a (λ s. category_under ByShapes s b)) (texts words.now) }
 {
     match words {
         [schema, category] => Some(Command {
@@ -171,7 +177,7 @@ fn shapes(words: &[String]) -> Option<Command<'_>>
 
 /// The words after `audit`.
 fn audit(words: &[String]) -> Option<Command<'_>>
-    ensures { option_map seen result ≡ by_one audit_order (texts words.now) }
+    ensures { option_map seen result ≡ by_one (λ a. under a (λ s. Done (ByAudit s))) (texts words.now) }
 {
     match words {
         [schema] => Some(Command {

@@ -2,7 +2,7 @@
 --     proved_is_accepted
 use Rattle.std.proofs.Common.{◌≡◌, ◌≤◌, ℕ, suc, List, [], ◌∷◌, ◌++◌, Bool, true, false, cond, Option, None, Some, MatchOption, length, refl, sym, subst, inl, inr, le-ltb}
 use Rattle.std.specs.List.{list_any}
-use Rattle.std.specs.Option.{unwrap_or}
+use Rattle.std.specs.Option.{option_or, unwrap_or}
 use Rattle.std.specs.Prelude.{Result, Ok, Err, codes, nat_lt, ◌==◌}
 use Rattle.olap_base.specs.Graph.{Graph}
 use Rattle.olap_base.specs.Limits.{most_certificate_bytes, most_schema_bytes, most_words}
@@ -13,7 +13,11 @@ use Rattle.olap_outside.specs.Files.{Files}
 use Rattle.olap_order.specs.Judged.{Gives}
 use Rattle.olap_order.specs.Order.{Done, Order, Read, Told, and_then, ok_or, refused}
 use Rattle.olap_order.specs.Outputs.{line}
-use Rattle.olap_order.specs.Steps.{another_word, category_word, different_words, fault_text, meaning_or_fault, schema_file, text_file}
+use Rattle.olap_order.specs.Arguments.{at_least}
+use Rattle.olap_order.specs.Behind.{another_category, categories_from}
+use Rattle.olap_order.specs.Families.{asking}
+use Rattle.olap_order.specs.Steps.{category_word, fault_text, meaning_or_fault, schema_file, text_file}
+use Rattle.olap_order.proofs.BehindLemmas.{three_or_more_is, two_or_more_is}
 use Rattle.olap_order.specs.Taken.{ComesOut}
 use Rattle.olap_order.specs.declared.status.Status.{Status}
 use Rattle.olap_order.specs.declared.status.Status.TheVariants.{Refused, Yes}
@@ -23,9 +27,13 @@ use Rattle.olap_reasoning.specs.Commands.{sources_order}
 use Rattle.olap_reasoning.specs.Questions as reasoning
 use Rattle.olap_reasoning.specs.Questions.{ByProof}
 use Rattle.olap_run.specs.Commands.{order_named, usage}
-use Rattle.olap_run.specs.Laws.{ProvedIsAccepted, proving}
-use Rattle.olap_run.specs.Questions.{IsAnswer, Question, OfReasoning, OfVerdicts}
+use Rattle.olap_run.specs.Laws.{ProvedIsAccepted, judging, proving}
+use Rattle.olap_run.specs.Questions.{IsAnswer, Question, OfCubes, OfPlans, OfReasoning, OfTotals, OfVerdicts}
 use Rattle.olap_schema_text.specs.Judging.{schema_read}
+use Rattle.olap_totals.specs.Commands as totals
+use Rattle.olap_plans.specs.Commands as plans
+use Rattle.olap_cubes.specs.Commands as cubes
+use Rattle.olap_verdicts.specs.Commands as verdict_commands
 use Rattle.olap_verdicts.specs.Commands.{verify_order}
 use Rattle.olap_verdicts.specs.Questions as verdicts
 use Rattle.olap_verdicts.specs.Questions.{ByCertificate}
@@ -125,11 +133,11 @@ named_or_refused (Some c) why = tt
 
 -- different categories, or a refusal
 different_or_refused : (twice : List ℕ) (g : Graph) (at : ℕ) (earlier : List ℕ) (names : List (List ℕ))
-    → TellsNoYes (different_words twice g at earlier names)
+    → TellsNoYes (categories_from twice g at earlier names)
 different_or_refused twice g at earlier [] = tt
 different_or_refused twice g at earlier (name ∷ names) =
-    none_of_both (another_word twice g at earlier name)
-    (λ c. different_words twice g (suc at) (earlier ++ c ∷ []) names)
+    none_of_both (another_category twice g at earlier name)
+    (λ c. categories_from twice g (suc at) (earlier ++ c ∷ []) names)
     (none_of_both (category_word g at name)
     (λ c. cond (list_any (λ d. d == c) earlier) (refused (fault_text (codes "word") at twice)) (Done c))
     (named_or_refused (category_named g name) (fault_text (codes "word") at (codes "UnknownCategory")))
@@ -163,15 +171,15 @@ same_other files false c d why other h = h
 
 -- different categories are, from whichever word on
 same_different : (files : Files) (twice : List ℕ) (g : Graph) (at by : ℕ) (earlier : List ℕ) (names : List (List ℕ))
-    (cs : List ℕ) → ComesOut files (different_words twice g at earlier names) cs
-    → ComesOut files (different_words twice g by earlier names) cs
+    (cs : List ℕ) → ComesOut files (categories_from twice g at earlier names) cs
+    → ComesOut files (categories_from twice g by earlier names) cs
 same_different files twice g at by earlier [] cs h = h
 same_different files twice g at by earlier (name ∷ names) cs h =
-    let b = both_came files (another_word twice g at earlier name)
-    (λ c. different_words twice g (suc at) (earlier ++ c ∷ []) names) cs h in
+    let b = both_came files (another_category twice g at earlier name)
+    (λ c. categories_from twice g (suc at) (earlier ++ c ∷ []) names) cs h in
     let w = both_came files (category_word g at name) _ b.0 b.1 in
-    each_came files (another_word twice g by earlier name)
-    (λ c. different_words twice g (suc by) (earlier ++ c ∷ []) names) b.0 cs
+    each_came files (another_category twice g by earlier name)
+    (λ c. categories_from twice g (suc by) (earlier ++ c ∷ []) names) b.0 cs
     (each_came files (category_word g by name) _ w.0 b.0
     (same_named files (category_named g name) w.0 _ _ w.1)
     (same_other files (list_any (λ d. d == w.0) earlier) w.0 b.0 (fault_text (codes "word") at twice)
@@ -207,18 +215,18 @@ module _ (form : Form) (schema target : List ℕ) (sources : List (List ℕ)) wh
   abbrev sources_of : Schema → Order reasoning.Question
   sources_of s =
       and_then (category_word s.graph 3 target) (λ c.
-      and_then (different_words (codes "DuplicateSource") s.graph 4 [] sources) (λ cs.
+      and_then (categories_from (codes "DuplicateSource") s.graph 4 [] sources) (λ cs.
       Done (ByProof form s c cs)))
 
   -- it tells no yes
-  proof_or_refused : TellsNoYes (sources_order (ByProof form) schema target sources)
+  proof_or_refused : TellsNoYes (sources_order (ByProof form) (schema ∷ target ∷ sources))
   proof_or_refused = none_of_both (schema_file (codes "schema") schema) sources_of
       (schema_or_refused (codes "schema") schema)
       (λ s. none_of_both (category_word s.graph 3 target)
-      (λ c. and_then (different_words (codes "DuplicateSource") s.graph 4 [] sources) (λ cs.
+      (λ c. and_then (categories_from (codes "DuplicateSource") s.graph 4 [] sources) (λ cs.
       Done (ByProof form s c cs)))
       (named_or_refused (category_named s.graph target) (fault_text (codes "word") 3 (codes "UnknownCategory")))
-      (λ c. none_of_both (different_words (codes "DuplicateSource") s.graph 4 [] sources)
+      (λ c. none_of_both (categories_from (codes "DuplicateSource") s.graph 4 [] sources)
       (λ cs. Done (ByProof form s c cs))
       (different_or_refused (codes "DuplicateSource") s.graph 4 [] sources) (λ cs. tt)))
 
@@ -228,7 +236,7 @@ module _ (form : Form) (schema target : List ℕ) (sources : List (List ℕ)) wh
     abbrev certificate_of : Schema → Order verdicts.Question
     certificate_of s =
         and_then (category_word s.graph 4 target) (λ c.
-        and_then (different_words (codes "DuplicateSource") s.graph 5 [] sources) (λ cs.
+        and_then (categories_from (codes "DuplicateSource") s.graph 5 [] sources) (λ cs.
         and_then (text_file (codes "certificate") most_certificate_bytes certificate) (λ text.
         Done (ByCertificate form s c cs text))))
 
@@ -238,21 +246,21 @@ module _ (form : Form) (schema target : List ℕ) (sources : List (List ℕ)) wh
         × ComesOut files (certificate_of s) (ByCertificate form s c cs text)
     certificate_comes s q h =
         let target_comes = both_came files (category_word s.graph 3 target)
-        (λ c. and_then (different_words (codes "DuplicateSource") s.graph 4 [] sources) (λ cs.
+        (λ c. and_then (categories_from (codes "DuplicateSource") s.graph 4 [] sources) (λ cs.
         Done (ByProof form s c cs))) q h in
         let c = target_comes.0 in
-        let sources_come = both_came files (different_words (codes "DuplicateSource") s.graph 4 [] sources)
+        let sources_come = both_came files (categories_from (codes "DuplicateSource") s.graph 4 [] sources)
         (λ cs. Done (ByProof form s c cs)) q target_comes.2 in
         let cs = sources_come.0 in (
           c,
           cs,
           sources_come.2,
           each_came files (category_word s.graph 4 target)
-              (λ c. and_then (different_words (codes "DuplicateSource") s.graph 5 [] sources) (λ cs.
+              (λ c. and_then (categories_from (codes "DuplicateSource") s.graph 5 [] sources) (λ cs.
               and_then (text_file (codes "certificate") most_certificate_bytes certificate) (λ text.
               Done (ByCertificate form s c cs text)))) c (ByCertificate form s c cs text)
               (same_named files (category_named s.graph target) c _ _ target_comes.1)
-              (each_came files (different_words (codes "DuplicateSource") s.graph 5 [] sources)
+              (each_came files (categories_from (codes "DuplicateSource") s.graph 5 [] sources)
               (λ cs. and_then (text_file (codes "certificate") most_certificate_bytes certificate) (λ text.
               Done (ByCertificate form s c cs text))) cs (ByCertificate form s c cs text)
               (same_different files (codes "DuplicateSource") s.graph 4 5 [] sources cs sources_come.1)
@@ -274,12 +282,12 @@ module _ (form : Form) (schema target : List ℕ) (sources : List (List ℕ)) wh
 
     -- what the order of `prove` writes, that of `verify` accepts
     accepted : Gives IsAnswer files
-        (and_then (sources_order (ByProof form) schema target sources) (λ q. Done (OfReasoning q))) Yes
+        (and_then (sources_order (ByProof form) (schema ∷ target ∷ sources)) (λ q. Done (OfReasoning q))) Yes
         text
-        → Gives IsAnswer files (and_then (verify_order form schema certificate target sources)
+        → Gives IsAnswer files (and_then (verify_order form (schema ∷ certificate ∷ target ∷ sources))
         (λ q. Done (OfVerdicts q))) Yes (line (codes "accepted"))
     accepted g =
-        let asked = came IsAnswer files (sources_order (ByProof form) schema target sources)
+        let asked = came IsAnswer files (sources_order (ByProof form) (schema ∷ target ∷ sources))
         (λ q. Done (OfReasoning q)) text
         proof_or_refused g in
         let read = both_came files (schema_file (codes "schema") schema) sources_of asked.0 asked.1 in
@@ -288,20 +296,63 @@ module _ (form : Form) (schema target : List ℕ) (sources : List (List ℕ)) wh
         let c = judged.0 in
         let cs = judged.1 in
         let yes = yes_is_accepted asked.0 s c cs judged.2 asked.2 in
-        answered_after IsAnswer files (verify_order form schema certificate target sources) (λ q. Done (OfVerdicts q))
+        answered_after IsAnswer files (verify_order form (schema ∷ certificate ∷ target ∷ sources))
+        (λ q. Done (OfVerdicts q))
         (ByCertificate form s c cs text) Yes (line (codes "accepted"))
         (each_came files (schema_file (codes "schema") schema) certificate_of s (ByCertificate form s c cs text)
         read.1 judged.3) yes
 
+-- ---- from the words to the orders
+
+-- the orders of the families behind the first
+abbrev behind : List ℕ → List (List ℕ) → Option (Order Question)
+behind name words =
+    option_or (asking OfTotals (totals.order_named name words))
+    (option_or (asking OfPlans (plans.order_named name words))
+    (option_or (asking OfVerdicts (verdict_commands.order_named name words))
+    (asking OfCubes (cubes.order_named name words))))
+
+-- of words that ask for a proof the order is that of `prove`
+to_prove : (files : Files) (form : Form) (words : List (List ℕ)) (o : Option (Order reasoning.Question))
+    (rest : Option (Order Question)) (bytes : List ℕ) → Some (sources_order (ByProof form) words) ≡ o
+    → Gives IsAnswer files (unwrap_or (option_or (asking OfReasoning o) rest) usage) Yes bytes
+    → Gives IsAnswer files (and_then (sources_order (ByProof form) words) (λ q. Done (OfReasoning q))) Yes bytes
+to_prove files form words o rest bytes e g =
+    subst (λ (o : Option (Order reasoning.Question)). Gives IsAnswer files
+    (unwrap_or (option_or (asking OfReasoning o) rest) usage) Yes bytes) (sym e) g
+
+-- of words that give a certificate it is that of `verify`
+to_verify : (files : Files) (form : Form) (words : List (List ℕ)) (o : Option (Order verdicts.Question))
+    (rest : Option (Order Question)) (bytes : List ℕ) → Some (verify_order form words) ≡ o
+    → Gives IsAnswer files (and_then (verify_order form words) (λ q. Done (OfVerdicts q))) Yes bytes
+    → Gives IsAnswer files (unwrap_or (option_or (asking OfVerdicts o) rest) usage) Yes bytes
+to_verify files form words o rest bytes e g =
+    subst (λ (o : Option (Order verdicts.Question)). Gives IsAnswer files
+    (unwrap_or (option_or (asking OfVerdicts o) rest) usage) Yes bytes) e g
+
 -- what `prove` writes, `verify` accepts
 pub proved_is_accepted : ProvedIsAccepted
 proved_is_accepted Long schema certificate target sources files text few g held short =
+    let asked = schema ∷ target ∷ sources in
+    let given = schema ∷ certificate ∷ target ∷ sources in
     few_words files _ _ Yes (line (codes "accepted")) (le-ltb most_words _ few)
+    (to_verify files Long given (at_least 3 (verify_order Long) given)
+    (asking OfCubes (cubes.order_named (judging Long) given)) (line (codes "accepted"))
+    (three_or_more_is (verify_order Long) given)
     (accepted Long schema target sources certificate files text held short
-    (no_usage files (nat_lt most_words (length (proving Long ∷ schema ∷ target ∷ sources)))
-    (unwrap_or (order_named (proving Long) (schema ∷ target ∷ sources)) usage) text g))
+    (to_prove files Long asked (at_least 2 (sources_order (ByProof Long)) asked) (behind (proving Long) asked) text
+    (two_or_more_is (sources_order (ByProof Long)) asked)
+    (no_usage files (nat_lt most_words (length (proving Long ∷ asked)))
+    (unwrap_or (order_named (proving Long) asked) usage) text g))))
 proved_is_accepted Short schema certificate target sources files text few g held short =
+    let asked = schema ∷ target ∷ sources in
+    let given = schema ∷ certificate ∷ target ∷ sources in
     few_words files _ _ Yes (line (codes "accepted")) (le-ltb most_words _ few)
+    (to_verify files Short given (at_least 3 (verify_order Short) given)
+    (asking OfCubes (cubes.order_named (judging Short) given)) (line (codes "accepted"))
+    (three_or_more_is (verify_order Short) given)
     (accepted Short schema target sources certificate files text held short
-    (no_usage files (nat_lt most_words (length (proving Short ∷ schema ∷ target ∷ sources)))
-    (unwrap_or (order_named (proving Short) (schema ∷ target ∷ sources)) usage) text g))
+    (to_prove files Short asked (at_least 2 (sources_order (ByProof Short)) asked) (behind (proving Short) asked) text
+    (two_or_more_is (sources_order (ByProof Short)) asked)
+    (no_usage files (nat_lt most_words (length (proving Short ∷ asked)))
+    (unwrap_or (order_named (proving Short) asked) usage) text g))))

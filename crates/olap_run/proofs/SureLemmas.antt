@@ -7,7 +7,8 @@ use Rattle.std.specs.Prelude.{IsSome, IsTrue}
 use Rattle.olap_outside.specs.Files.{Files}
 use Rattle.olap_outside.specs.declared.outside.Library.{Ghosts as Library}
 use Rattle.olap_run.specs.Commands.{order_of}
-use Rattle.olap_order.specs.Judged.{IsStuckTold, RanOutOfMemory, ReadCause}
+use Rattle.olap_order.specs.Judged.{RanOutOfMemory, ReadCause}
+use Rattle.olap_order.specs.Taken.{IsStuckTold}
 use Rattle.olap_order.specs.declared.status.Status.{Status}
 use Rattle.olap_order.specs.declared.status.Status.TheVariants.{Yes, No, Usage, Refused, ReadFault, WriteFault, Memory}
 use Rattle.olap_run.specs.Outcome.{IsAnswered, TellsAll}

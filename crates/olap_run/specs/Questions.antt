@@ -25,7 +25,7 @@ pub data Question : Type 0 where
 -- these are the status and the bytes
 abbrev pub IsAnswer : Question → Status → List ℕ → Type 0
 IsAnswer (OfReasoning q) status bytes = reasoning.IsAnswer q status bytes
-IsAnswer (OfTotals q) status bytes = totals.IsAnswer q status bytes
+IsAnswer (OfTotals q) status bytes = ⊥
 IsAnswer (OfPlans q) status bytes = plans.IsAnswer q status bytes
 IsAnswer (OfVerdicts q) status bytes = verdicts.IsAnswer q status bytes
 IsAnswer (OfCubes q) status bytes = cubes.IsAnswer q status bytes

@@ -1,5 +1,6 @@
 -- What is told of the members at which totals differ.
-use Rattle.std.proofs.Common.{◌≡◌, ℕ, List, [], ◌∷◌, Ok, length, map, true, false, sym, subst, arith}
+use Rattle.std.proofs.Common.{◌≡◌, ℕ, List, [], ◌∷◌, Ok, cond, length, map, true, false, sym, subst, arith}
+use Rattle.std.proofs.lemmas.Bool.Decides.{nat_tests}
 use Rattle.std.specs.Prelude.{◌==◌}
 use Rattle.olap_base.specs.Instance.{Instance}
 use Rattle.olap_base.proofs.ViewLemmas.{eqb_is}
@@ -11,7 +12,7 @@ use Rattle.olap_order.specs.Order.{Told}
 use Rattle.olap_order.specs.declared.replies.Reply.{Reply}
 use Rattle.olap_order.specs.declared.status.Status.{Status}
 use Rattle.olap_order.specs.declared.status.Status.TheVariants.{No, Yes}
-use Rattle.olap_totals.specs.Commands.{breaks_status}
+use Rattle.olap_totals.specs.Under.{breaks_status}
 
 -- what is told is told, where it is a yes or a no
 told_as : {Q : Type 0} {answers : Q → Status → List ℕ → Type 0} (st : Status) (text : List ℕ) (reply : Reply)
@@ -33,12 +34,18 @@ told_none {Q} {answers} i [] bs reply e n status bytes = subst
 told_none {Q} {answers} i (b ∷ found) bs reply e n status bytes =
     let z : length (b ∷ found) ≡ 0 = eqb_is (length (b ∷ found)) 0 n in absurd (omega arith)
 
+-- where there is a first, there are some
+isnt_none : (b : Break) (bs : List Break) → (length (b ∷ bs) == 0) ≡ false
+isnt_none b bs = grind (arith, nat_tests)
+
 -- some are
 pub told_some : {Q : Type 0} {answers : Q → Status → List ℕ → Type 0} (i : Instance) (found : List code.Break)
     (bs : List Break) (reply : Reply) → map break_seen found ≡ bs → (length found == 0) ≡ false → reply.status ≡ No
     → reply.bytes.items ≡ breaks_text i (map break_seen found)
     → Replies answers (Told (breaks_status bs) (breaks_text i bs)) (Ok reply)
 told_some {Q} {answers} i [] bs reply e n status bytes = absurd (cc)
-told_some {Q} {answers} i (b ∷ found) bs reply e n status bytes = subst
-    (λ ds. Replies answers (Told (breaks_status ds) (breaks_text i ds)) (Ok reply)) e
-    (told_as No (breaks_text i (map break_seen (b ∷ found))) reply status tt bytes)
+told_some {Q} {answers} i (b ∷ found) bs reply e n status bytes =
+    let ds = map break_seen (b ∷ found) in
+    subst (λ ds. Replies answers (Told (breaks_status ds) (breaks_text i ds)) (Ok reply)) e
+    (subst (λ z. Replies answers (Told (cond z Yes No) (breaks_text i ds)) (Ok reply))
+    (sym (isnt_none (break_seen b) (map break_seen found))) (told_as No (breaks_text i ds) reply status tt bytes))

@@ -1,9 +1,12 @@
 -- Words of a command line as commands, and a step that is refused.
-use Rattle.std.proofs.Common.{◌≡◌, ℕ, ◌<◌, ◌≤◌, length, List, [], ◌∷◌, get_or, Err, Some, arith, refl, subst, sym}
+use Rattle.std.proofs.Common.{◌≡◌, ℕ, suc, ◌+◌, ◌<◌, ◌≤◌, ◌&&◌, nat_le, nat_lt, length, List, [], ◌∷◌, cond, get_or, Err, None, Some, ap, arith, refl, subst, sym}
+use Rattle.std.proofs.lemmas.Bool.Decides.{nat_tests}
+use Rattle.olap_base.specs.Limits.{most_views}
 use Rattle.std.specs.String.{string_bytes}
 use Rattle.std.specs.declared.string.String.{String}
 use Rattle.std.specs.declared.alloc.Global.{Global}
-use Rattle.olap_order.specs.Arguments.{by_four}
+use Rattle.olap_order.specs.Arguments.{between}
+use Rattle.olap_order.specs.Behind.{by_four}
 use Rattle.olap_order.specs.Families.{IsNoUsage}
 use Rattle.olap_order.specs.Judged.{Replies}
 use Rattle.olap_order.specs.Order.{Order, refused}
@@ -12,7 +15,8 @@ use Rattle.olap_order.specs.Taken.{NoAnswer, PlainStep}
 use Rattle.olap_order.specs.Words.{texts}
 use Rattle.olap_order.specs.declared.replies.Stop.{Stop}
 use Rattle.olap_order.specs.declared.replies.Stop.TheVariants as stops
-use Rattle.olap_totals.specs.Seen.{seen}
+use Rattle.olap_totals.specs.Commands.{store_order}
+use Rattle.olap_totals.specs.Seen.{seen, store_by}
 use Rattle.olap_totals.specs.declared.words.Command.{Command}
 
 -- the order of a command isn't the usage
@@ -32,6 +36,19 @@ by_four_places order (x ∷ y ∷ z ∷ []) a b c d p q r s least most = absurd 
 by_four_places order (x ∷ y ∷ z ∷ w ∷ []) a b c d p q r s least most =
     λ at0 at1 at2 at3 is0 is1 is2 is3. cc
 by_four_places order (x ∷ y ∷ z ∷ w ∷ v ∷ more) a b c d p q r s least most = absurd (omega (arith, most))
+
+-- one category or more by their number behind three words
+is_few_is : (n : ℕ) → nat_lt 0 n && nat_le n most_views
+    ≡ nat_le 4 (suc (suc (suc n))) && nat_le (suc (suc (suc n))) (most_views + 3)
+is_few_is n = grind (arith, nat_tests)
+
+-- the order of `store` by its words one by one is that by so many words
+pub store_is : (words : List (List ℕ)) → store_by words ≡ between 4 (most_views + 3) store_order words
+store_is [] = refl
+store_is (a ∷ []) = refl
+store_is (a ∷ b ∷ []) = refl
+store_is (a ∷ b ∷ c ∷ categories) =
+    ap (λ t. cond t (Some (store_order (a ∷ b ∷ c ∷ categories))) None) (is_few_is (length categories))
 
 -- a step that reads nothing is refused
 pub plain_refused : {T X : Type 0} {meaning : X → T} (step : Order T) (why : List ℕ) (stop : Stop)

@@ -1,9 +1,9 @@
 -- What is left of each order once its schema is read, its instance too, or still more.
---     rollup_under, check_under, store_under, change_under   under a schema
---     store_of       of an instance, after the categories
+--     rollup_under, check_under, store_under, breaks_under, change_under   under a schema
+--     store_of, breaks_of   of an instance, after the categories
 --     change_of      of a legal instance
 --     change_by      of its stored views
-use Rattle.std.specs.Prelude.{ℕ, List, [], ◌++◌, ◌-◌, codes, length}
+use Rattle.std.specs.Prelude.{ℕ, List, [], ◌++◌, ◌-◌, ◌==◌, codes, if◌then◌else◌, length}
 use Rattle.std.specs.Fmt.{decimal}
 use Rattle.olap_base.specs.Instance.{Instance}
 use Rattle.olap_base.specs.Views.{View, direct_view, direct_views}
@@ -12,11 +12,13 @@ use Rattle.olap_delta.specs.Changes.{Step}
 use Rattle.olap_view.specs.ViewText.{view_text}
 use Rattle.olap_order.specs.Order.{Order, Told, and_then}
 use Rattle.olap_order.specs.Outputs.{line}
-use Rattle.olap_order.specs.Steps.{category_word, different_words}
+use Rattle.olap_order.specs.Behind.{categories_from}
+use Rattle.olap_order.specs.Steps.{category_word}
 use Rattle.olap_reading.specs.Steps.{facts_file, legal_file, store_file}
-use Rattle.olap_order.specs.declared.status.Status.TheVariants.{Yes}
-use Rattle.olap_totals.specs.Commands.{breaks_status, changed_file, store_told}
-use Rattle.olap_breaks.specs.Breaks.{breaks, breaks_text}
+use Rattle.olap_order.specs.declared.status.Status.{Status}
+use Rattle.olap_order.specs.declared.status.Status.TheVariants.{No, Yes}
+use Rattle.olap_totals.specs.Commands.{changed_file, store_told}
+use Rattle.olap_breaks.specs.Breaks.{Break, breaks, breaks_text}
 use Rattle.olap_totals.specs.Questions.{Question}
 
 -- the category, the instance and its laws, and then the facts
@@ -43,7 +45,11 @@ store_of s instance facts cs =
 -- the categories from left to right, and then what is left of the order
 abbrev pub store_under : Schema → (instance facts : List ℕ) (categories : List (List ℕ)) → Order Question
 store_under s instance facts categories =
-    and_then (different_words (codes "DuplicateView") s.graph 5 [] categories) (λ cs. store_of s instance facts cs)
+    and_then (categories_from (codes "DuplicateView") s.graph 5 [] categories) (λ cs. store_of s instance facts cs)
+
+-- the answer is yes if there are none
+abbrev pub breaks_status : List Break → Status
+breaks_status found = if length found == 0 then Yes else No
 
 -- of an instance, after the target and the sources
 abbrev pub breaks_of : Schema → (instance : List ℕ) (target : ℕ) (sources : List ℕ) → Order Question
@@ -55,7 +61,7 @@ breaks_of s instance c cs =
 abbrev pub breaks_under : Schema → (instance target : List ℕ) (sources : List (List ℕ)) → Order Question
 breaks_under s instance target sources =
     and_then (category_word s.graph 4 target) (λ c.
-    and_then (different_words (codes "DuplicateSource") s.graph 5 [] sources) (λ cs. breaks_of s instance c cs))
+    and_then (categories_from (codes "DuplicateSource") s.graph 5 [] sources) (λ cs. breaks_of s instance c cs))
 
 -- the facts, and the stored views after them
 abbrev pub change_by : Step → Schema → Instance → List View → (facts : List ℕ) → Order Question

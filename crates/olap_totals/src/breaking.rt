@@ -7,9 +7,8 @@ ghost use Rattle.olap_schema.specs.Schemas.{schema_of};
 ghost use Rattle.olap_order.specs.Judged.{Judged, Replies};
 ghost use Rattle.olap_order.specs.Order.{Told};
 ghost use Rattle.olap_order.specs.Words.{texts};
-ghost use Rattle.olap_totals.specs.Commands.{breaks_status};
 ghost use Rattle.olap_totals.specs.Questions.{IsAnswer};
-ghost use Rattle.olap_totals.specs.Under.{breaks_of, breaks_under};
+ghost use Rattle.olap_totals.specs.Under.{breaks_of, breaks_status, breaks_under};
 
 use olap_base::CatId;
 use olap_breaks::print_breaks;

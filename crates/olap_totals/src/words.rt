@@ -1,10 +1,11 @@
 // Which words are a command over an instance and its facts.
 ghost use Rattle.std.specs.Prelude.{◌≡◌, option_map};
-ghost use Rattle.olap_order.specs.Arguments.{by_four, by_three_or_more, by_two};
+ghost use Rattle.olap_order.specs.Behind.{by_four, by_three_or_more, by_two};
 ghost use Rattle.olap_order.specs.Words.{texts};
 ghost use Rattle.olap_delta.specs.Changing.{step_of};
-ghost use Rattle.olap_totals.specs.Commands.{breaks_order, change_order, check_order, is_few, order_named, rollup_order, store_by};
-ghost use Rattle.olap_totals.specs.Seen.{seen};
+ghost use Rattle.olap_totals.specs.Commands.{order_named};
+ghost use Rattle.olap_totals.specs.Seen.{is_few, seen, store_by, under};
+ghost use Rattle.olap_totals.specs.Under.{breaks_under, change_under, check_under, rollup_under};
 
 use olap_base::MOST_VIEWS;
 use olap_delta::Change;
@@ -52,7 +53,8 @@ pub(crate) enum Asked<'a> {
 
 /// The words after `rollup`.
 fn rollup(words: &[String]) -> Option<Command<'_>>
-    ensures { option_map seen result ≡ by_four rollup_order (texts words.now) }
+    ensures { option_map seen result
+        ≡ by_four (λ a b c d. under a (λ s. rollup_under s b c d)) (texts words.now) }
 {
     match words {
         [schema, instance, facts, category] => Some(Command {
@@ -69,7 +71,7 @@ fn rollup(words: &[String]) -> Option<Command<'_>>
 
 /// The words after `check`.
 fn check(words: &[String]) -> Option<Command<'_>>
-    ensures { option_map seen result ≡ by_two check_order (texts words.now) }
+    ensures { option_map seen result ≡ by_two (λ a b. under a (λ s. check_under s b)) (texts words.now) }
 {
     match words {
         [schema, instance] => Some(Command {
@@ -108,7 +110,8 @@ fn store(words: &[String]) -> Option<Command<'_>>
 
 /// The words after `breaks`.
 fn breaks(words: &[String]) -> Option<Command<'_>>
-    ensures { option_map seen result ≡ by_three_or_more breaks_order (texts words.now) }
+    ensures { option_map seen result
+        ≡ by_three_or_more (λ a b c more. under a (λ s. breaks_under s b c more)) (texts words.now) }
 {
     match words {
         [schema, instance, target, sources @ ..] => Some(Command {
@@ -125,7 +128,8 @@ fn breaks(words: &[String]) -> Option<Command<'_>>
 
 /// The words after `append` or `retract`.
 fn change_command(change: Change, words: &[String]) -> Option<Command<'_>>
-    ensures { option_map seen result ≡ by_four (change_order (step_of change)) (texts words.now) }
+    ensures { option_map seen result
+        ≡ by_four (λ a b c d. under a (λ s. change_under (step_of change) s b c d)) (texts words.now) }
 {
     match words {
         [schema, instance, store, facts] => Some(Command {

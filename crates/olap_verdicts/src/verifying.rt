@@ -1,5 +1,5 @@
 // The commands `verify` and `verify-short`: whether a text is a certificate.
-ghost use Rattle.std.specs.Prelude.{◌≡◌, ◌≢◌, ◌++◌, ◌<◌, ◌^◌, All, AllPairs, IfOk, codes, decimal, length};
+ghost use Rattle.std.specs.Prelude.{◌≡◌, ◌≢◌, ◌++◌, ◌∷◌, ◌<◌, ◌^◌, All, AllPairs, IfOk, codes, decimal, length};
 ghost use Rattle.olap_base.specs.Graph.{IsCategory};
 ghost use Rattle.olap_order.specs.Judged.{Judged, Replies};
 ghost use Rattle.olap_order.specs.Order.{Done};
@@ -7,8 +7,9 @@ ghost use Rattle.olap_order.specs.Outputs.{line};
 ghost use Rattle.olap_order.specs.Words.{texts};
 ghost use Rattle.olap_ast.specs.Trees.{numbers_of};
 ghost use Rattle.olap_schema.specs.Schemas.{schema_of};
-ghost use Rattle.olap_verdicts.specs.Commands.{verify_order, verify_order_for};
+ghost use Rattle.olap_verdicts.specs.Commands.{verify_order};
 ghost use Rattle.olap_verdicts.specs.Questions.{ByCertificate, IsAnswer};
+ghost use Rattle.olap_verdicts.specs.Seen.{verify_under};
 
 use olap_base::{CatId, MOST_CERTIFICATE_BYTES, Refusal};
 use olap_order::{Reply, Stop, categories_at, category_at, no, schema_in, text_in, yes};
@@ -60,7 +61,7 @@ fn verify_for<L: Library>(
 ) -> Result<Reply, Stop>
     requires few { length sources.now < 2 ^ 63 }
     ensures judged { Judged IsAnswer L.Library lib.old lib.new
-        (verify_order_for form (schema_of schema.now) certificate.now target.now (texts sources.now)) result }
+        (verify_under form (schema_of schema.now) certificate.now target.now (texts sources.now)) result }
 {
     let target = category_at(alloc, 4, schema, target)?;
     let sources = categories_at(alloc, 5, "DuplicateSource", schema, sources)?;
@@ -86,7 +87,7 @@ pub(crate) fn verify<L: Library>(
 ) -> Result<Reply, Stop>
     requires few { length sources.now < 2 ^ 63 }
     ensures judged { Judged IsAnswer L.Library lib.old lib.new
-        (verify_order form schema.now certificate.now target.now (texts sources.now)) result }
+        (verify_order form (schema.now ∷ certificate.now ∷ target.now ∷ texts sources.now)) result }
 {
     let schema = schema_in(alloc, "schema", schema, lib)?;
     verify_for(alloc, form, &schema, certificate, target, sources, lib)

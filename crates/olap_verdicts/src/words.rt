@@ -1,7 +1,7 @@
 // Which words are a command about a certificate.
-ghost use Rattle.std.specs.Prelude.{◌≡◌, option_map};
+ghost use Rattle.std.specs.Prelude.{◌≡◌, ◌∷◌, option_map};
 ghost use Rattle.olap_order.specs.Words.{texts};
-ghost use Rattle.olap_order.specs.Arguments.{by_three_or_more};
+ghost use Rattle.olap_order.specs.Behind.{by_three_or_more};
 ghost use Rattle.olap_verdicts.specs.Commands.{order_named, verify_order};
 ghost use Rattle.olap_verdicts.specs.Seen.{seen};
 
@@ -22,7 +22,8 @@ pub(crate) enum Command<'a> {
 
 /// The words after `verify` and `verify-short`.
 fn verify(form: Form, words: &[String]) -> Option<Command<'_>>
-    ensures { option_map seen result ≡ by_three_or_more (verify_order form) (texts words.now) }
+    ensures { option_map seen result
+        ≡ by_three_or_more (λ a b c more. verify_order form (a ∷ b ∷ c ∷ more)) (texts words.now) }
 {
     match words {
         [schema, certificate, target, sources @ ..] => Some(Command::Verify {

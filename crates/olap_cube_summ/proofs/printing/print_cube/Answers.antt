@@ -19,7 +19,7 @@ use Rattle.olap_cube_summ.proofs.printing.print_cube.Goals as goal
 found : (ss : List Schema) (cs : List ℕ) (sources : List (List ℕ)) (fs items : List Found)
     → IsCubeCounterexampleFound ss cs sources fs → items ≡ fs → AreFound ss items
 found ss cs sources fs items a e =
-    subst (λ (hs : List Found). AreFound ss hs) (sym e) (founds_are ss cs fs a.is_one.is_bad.chosen a.sized)
+    subst (λ (hs : List Found). AreFound ss hs) (sym e) (founds_are ss cs fs a.is_one.is_one.chosen a.sized)
 
 pub drawn_of_each-requires : goal.drawn_of_each-requires
 drawn_of_each-requires c =

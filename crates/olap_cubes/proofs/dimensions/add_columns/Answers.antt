@@ -15,14 +15,15 @@ use Rattle.olap_reading.specs.Steps.{legal_file}
 use Rattle.olap_view.specs.Columns.{Ascent}
 use Rattle.olap_view.specs.Seen.{ids}
 use Rattle.olap_cube_views.specs.Dimensions.{AreMadeFor, categories_in, instances_in}
-use Rattle.olap_cubes.specs.Steps.{legal_files, numbered}
+use Rattle.olap_cubes.specs.Cut.{legal_files_from}
+use Rattle.olap_cubes.specs.Steps.{numbered}
 use Rattle.olap_cubes.proofs.DimensionLemmas.{file_is, ids_more, legals_end, legals_from, made_all, made_more}
 use Rattle.olap_cubes.proofs.FilesLemmas.{AreReadTo, as_ended, as_read, ended_so, read_all, read_ends, read_more, read_none, read_wants}
 use Rattle.olap_cubes.proofs.dimensions.add_columns.Goals as goal
 
 -- the instances in the files that are left
 abbrev behind : List Schema → List (List ℕ) → ℕ → List Instance → Order (List Instance)
-behind schemas files k read = legal_files (k + 1) read (drop k schemas) (drop k files)
+behind schemas files k read = legal_files_from (k + 1) read (drop k schemas) (drop k files)
 
 -- what a slice of categories has past its end
 nobody : CatId
@@ -35,9 +36,9 @@ files-init g c =
     let lib = c.args.lib.now in
     let none = c.requires.none in
     record {
-      read = subst (λ (cs : List Ascent). AreReadTo g.L.Library lib (legal_files 1 [] schemas files)
+      read = subst (λ (cs : List Ascent). AreReadTo g.L.Library lib (legal_files_from 1 [] schemas files)
           (behind schemas files) 0 lib (instances_in cs)) (sym none)
-          (read_none g.L.Library lib (legal_files 1 [] schemas files) (behind schemas files) refl);
+          (read_none g.L.Library lib (legal_files_from 1 [] schemas files) (behind schemas files) refl);
       each = ap length none;
       made = subst (λ (cs : List Ascent). AreMadeFor (take 0 (graphs_of schemas)) (instances_in cs)) (sym none) tt;
       categories = ap categories_in none;
@@ -58,7 +59,7 @@ returns-in_err-column-clause-step g c =
     let here : k < length files = omega (arith, length-map c.args.files.now string_bytes) in
     let this : k < length schemas = omega (arith, c.len-k-end.ensures.count) in
     as_ended c.from_residual.result stop c.from_residual.ensures.1 (ended_so
-    (read_ends g.L.Library c.args.lib.now (legal_files 1 [] schemas files) (behind schemas files) k c.files.lib
+    (read_ends g.L.Library c.args.lib.now (legal_files_from 1 [] schemas files) (behind schemas files) k c.files.lib
     c.dimension_column.new.lib (instances_in c.files.columns)
     (legal_file (get_or schemas k no_schema) (numbered (codes "instance") (k + 1)) (get_or files k []))
     (λ (a : Ascent). a.instance) stop
@@ -93,7 +94,8 @@ files-preserved g c =
     let more : instances_in c.push.new.self ≡ instances_in old ++ column.instance ∷ [] =
     ap instances_in pushed ∙ map-append (λ (a : Ascent). a.instance) old (column ∷ []) in
     record {
-      read = read_more g.L.Library c.args.lib.now (legal_files 1 [] schemas files) (behind schemas files) k c.files.lib
+      read = read_more g.L.Library c.args.lib.now (legal_files_from 1 [] schemas files) (behind schemas files) k
+          c.files.lib
           c.dimension_column.new.lib (instances_in old) (instances_in c.push.new.self)
           (legal_file (get_or schemas k no_schema) (numbered (codes "instance") (k + 1)) (get_or files k []))
           (λ (a : Ascent). a.instance) column
@@ -119,7 +121,7 @@ pub returns-in-Err-clause-step : goal.returns-in-Err-clause-step
 returns-in-Err-clause-step g c =
     let schemas = schemas_of c.args.cube.now in
     let files = texts c.args.files.now in
-    read_wants g.L.Library c.args.lib.now (legal_files 1 [] schemas files) (behind schemas files) c.files.k
+    read_wants g.L.Library c.args.lib.now (legal_files_from 1 [] schemas files) (behind schemas files) c.files.k
     c.files.lib c.dimension_column.new.lib (instances_in c.files.columns) _ (λ (a : Ascent). a.instance)
     c.in_ok-column.column (Err c.from.result) c.files.invariant.read c.in_ok-column.ensures.step c.from.ensures
 
@@ -129,7 +131,7 @@ returns-clause-step g c =
     let files = texts c.args.files.now in
     let k = c.files.k in
     let all : length schemas ≤ k = omega (arith, c.len-k-end.ensures.count) in
-    as_read tt (read_all g.L.Library c.args.lib.now (legal_files 1 [] schemas files)
+    as_read tt (read_all g.L.Library c.args.lib.now (legal_files_from 1 [] schemas files)
     (behind schemas files) k c.files.lib (instances_in c.files.columns) c.files.invariant.read
     (legals_end schemas files k (instances_in c.files.columns) all))
 

@@ -5,14 +5,14 @@ use Rattle.olap_cube_views.specs.Dimensions.{AreMadeFor, categories_in, instance
 use Rattle.olap_cube_summ.specs.Dimensions.{schemas_of}
 use Rattle.olap_order.specs.Words.{texts}
 use Rattle.olap_view.specs.Seen.{ids}
-use Rattle.olap_cubes.specs.Steps.{legal_files}
+use Rattle.olap_cubes.specs.Cut.{legal_files_from}
 use Rattle.olap_cubes.proofs.FilesLemmas.{AreReadTo}
 use Rattle.olap_cubes.proofs.dimensions.add_columns.Given as goal
 
 abbrev pub invariant-files : goal.invariant-files
 invariant-files g l = record {
-  read : AreReadTo g.L.Library l.fn.lib (legal_files 1 [] (schemas_of l.cube) (texts l.files))
-      (λ k read. legal_files (k + 1) read (drop k (schemas_of l.cube)) (drop k (texts l.files))) l.k l.lib
+  read : AreReadTo g.L.Library l.fn.lib (legal_files_from 1 [] (schemas_of l.cube) (texts l.files))
+      (λ k read. legal_files_from (k + 1) read (drop k (schemas_of l.cube)) (drop k (texts l.files))) l.k l.lib
       (instances_in l.columns);
   each : length l.columns ≡ l.k;
   made : AreMadeFor (take l.k (graphs_of (schemas_of l.cube))) (instances_in l.columns);

@@ -8,14 +8,15 @@ use Rattle.olap_order.specs.Steps.{schema_file}
 use Rattle.olap_order.specs.Taken.{FileStep}
 use Rattle.olap_order.specs.Words.{texts}
 use Rattle.olap_schema.specs.Schemas.{schema_of}
-use Rattle.olap_cubes.specs.Steps.{numbered, schema_files}
+use Rattle.olap_cubes.specs.Cut.{schema_files_from}
+use Rattle.olap_cubes.specs.Steps.{numbered}
 use Rattle.olap_cubes.proofs.DimensionLemmas.{file_is, schemas_end, schemas_from}
 use Rattle.olap_cubes.proofs.FilesLemmas.{as_ended, as_read, ended_so, read_all, read_ends, read_more, read_wants}
 use Rattle.olap_cubes.proofs.dimensions.schemas_in.Goals as goal
 
 -- the schemas in the files that are left
 abbrev behind : List (List ℕ) → ℕ → List Schema → Order (List Schema)
-behind files k read = schema_files (k + 1) read (drop k files)
+behind files k read = schema_files_from (k + 1) read (drop k files)
 
 pub returns-in_err-schema-clause-step : goal.returns-in_err-schema-clause-step
 returns-in_err-schema-clause-step g c =
@@ -26,7 +27,7 @@ returns-in_err-schema-clause-step g c =
     ∙ file_is c.args.files.now k c.index-files-k.result c.files-test.true c.index-files-k.is in
     let here : k < length files = omega (arith, length-map c.args.files.now string_bytes) in
     as_ended c.from_residual.result stop c.from_residual.ensures.1 (ended_so
-    (read_ends g.L.Library c.args.lib.now (schema_files 1 [] files) (behind files) k c.files.lib
+    (read_ends g.L.Library c.args.lib.now (schema_files_from 1 [] files) (behind files) k c.files.lib
     c.dimension_schema.new.lib (schemas_of c.files.cube)
     (schema_file (numbered (codes "schema") (k + 1)) (get_or files k [])) schema_of stop
     c.files.invariant.read (schemas_from files k (schemas_of c.files.cube) here)
@@ -36,7 +37,7 @@ returns-in_err-schema-clause-step g c =
 pub returns-in-Err-clause-step : goal.returns-in-Err-clause-step
 returns-in-Err-clause-step g c =
     let files = texts c.args.files.now in
-    read_wants g.L.Library c.args.lib.now (schema_files 1 [] files) (behind files) c.files.k c.files.lib
+    read_wants g.L.Library c.args.lib.now (schema_files_from 1 [] files) (behind files) c.files.k c.files.lib
     c.dimension_schema.new.lib (schemas_of c.files.cube) _ schema_of c.in_ok-schema.schema (Err c.from.result)
     c.files.invariant.read c.in_ok-schema.ensures.step c.from.ensures
 
@@ -50,7 +51,7 @@ files-preserved g c =
     let here : k < length files = omega (arith, length-map c.args.files.now string_bytes) in
     let more : schemas_of c.push.new.self ≡ schemas_of c.files.cube ++ schema_of schema ∷ [] = c.in-Ok.ensures.ok in
     record {
-      read = read_more g.L.Library c.args.lib.now (schema_files 1 [] files) (behind files) k c.files.lib
+      read = read_more g.L.Library c.args.lib.now (schema_files_from 1 [] files) (behind files) k c.files.lib
           c.dimension_schema.new.lib (schemas_of c.files.cube) (schemas_of c.push.new.self)
           (schema_file (numbered (codes "schema") (k + 1)) (get_or files k [])) schema_of schema c.files.invariant.read
           (schemas_from files k (schemas_of c.files.cube) here)
@@ -66,5 +67,6 @@ returns-clause-step g c =
     let files = texts c.args.files.now in
     let k = c.files.k in
     let all : length files ≤ k = omega (arith, length-map c.args.files.now string_bytes) in
-    as_read c.files.cube (read_all g.L.Library c.args.lib.now (schema_files 1 [] files) (behind files) k c.files.lib
+    as_read c.files.cube (read_all g.L.Library c.args.lib.now (schema_files_from 1 [] files) (behind files) k
+    c.files.lib
     (schemas_of c.files.cube) c.files.invariant.read (schemas_end files k (schemas_of c.files.cube) all))

@@ -9,7 +9,7 @@ use Rattle.olap_cube_summ.specs.Dimensions.{AreCategoriesOf, schemas_of}
 use Rattle.olap_order.specs.Order.{Done}
 use Rattle.olap_order.specs.Steps.{fault_text}
 use Rattle.olap_order.proofs.Stepping.{ends_both}
-use Rattle.olap_cubes.specs.Steps.{another_tuple}
+use Rattle.olap_cubes.specs.Cut.{another_tuple}
 use Rattle.olap_cubes.proofs.TupleLemmas.{another_is, ended_plain, plain_refused}
 use Rattle.olap_cubes.proofs.naming.another_at.Goals as goal
 

@@ -11,7 +11,7 @@ use Rattle.olap_order.specs.Judged.{Replies}
 use Rattle.olap_order.specs.Order.{Done}
 use Rattle.olap_order.specs.Taken.{NoAnswer}
 use Rattle.olap_order.specs.Words.{texts}
-use Rattle.olap_cubes.specs.Steps.{another_tuple}
+use Rattle.olap_cubes.specs.Cut.{another_tuple}
 use Rattle.olap_cubes.proofs.DimensionLemmas.{file_is}
 use Rattle.olap_cubes.proofs.TupleLemmas.{ended_plain, word_ends, word_more}
 use Rattle.olap_cubes.proofs.naming.tuples_at.Goals as goal

@@ -2,14 +2,14 @@ use Rattle.std.proofs.Common.{List, ap, sym, ◌∙◌}
 use Rattle.std.specs.declared.string.String.{String}
 use Rattle.std.specs.declared.alloc.Global.{Global}
 use Rattle.olap_order.specs.Words.{texts}
-use Rattle.olap_cubes.specs.Commands.{by_target, cube_order}
+use Rattle.olap_cubes.specs.Cut.{by_target, cube_of}
 use Rattle.olap_cubes.proofs.WordLemmas.{cut_schemas}
 use Rattle.olap_cubes.proofs.words.cube.Goals as goal
 
 pub returns-clause-order : goal.returns-clause-order
 returns-clause-order c =
     let first = c.in_ok-schemas.ensures.cases in
-    let order = cube_order (texts c.in_ok-schemas.schemas.now) in
+    let order = cube_of (texts c.in_ok-schemas.schemas.now) in
     c.after_schemas.ensures.order
     ∙ ap (λ (ws : List (String Global)). by_target order (texts ws)) first.2
     ∙ sym (cut_schemas c.args.words.now c.in_ok-schemas.schemas.now c.args.dimensions first.1)

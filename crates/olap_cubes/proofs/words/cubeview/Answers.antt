@@ -1,9 +1,9 @@
 use Rattle.std.proofs.Common.{◌≡◌, List, ap, drop, sym, take, ◌∙◌}
 use Rattle.std.specs.declared.string.String.{String}
 use Rattle.std.specs.declared.alloc.Global.{Global}
-use Rattle.olap_order.specs.Arguments.{by_two}
+use Rattle.olap_order.specs.Behind.{by_two}
 use Rattle.olap_order.specs.Words.{texts}
-use Rattle.olap_cubes.specs.Commands.{cubeview_order}
+use Rattle.olap_cubes.specs.Cut.{cubeview_of}
 use Rattle.olap_cubes.proofs.WordLemmas.{cut_words}
 use Rattle.olap_cubes.proofs.words.cubeview.Goals as goal
 
@@ -14,7 +14,7 @@ returns-clause-order c =
     let first = c.in_ok-schemas.ensures.cases in
     let second = c.in_ok-instances.ensures.cases in
     let left : c.in_ok-instances.words.now ≡ drop k (drop k words) = second.2 ∙ ap (drop k) first.2 in
-    let order = cubeview_order (texts c.in_ok-schemas.schemas.now) (texts c.in_ok-instances.instances.now) in
+    let order = cubeview_of (texts c.in_ok-schemas.schemas.now) (texts c.in_ok-instances.instances.now) in
     c.after_files.ensures.order
     ∙ ap (λ (ws : List (String Global)). by_two order (texts ws)) left
     ∙ sym (cut_words words c.in_ok-schemas.schemas.now c.in_ok-instances.instances.now k first.1

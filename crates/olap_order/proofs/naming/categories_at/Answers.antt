@@ -8,7 +8,7 @@ use Rattle.olap_base.proofs.ListLemmas.{AllPairs-from_Distinct}
 use Rattle.olap_schema.specs.Schemas.{schema_of}
 use Rattle.olap_order.specs.Judged.{Replies}
 use Rattle.olap_order.specs.Order.{Done}
-use Rattle.olap_order.specs.Steps.{another_word}
+use Rattle.olap_order.specs.Behind.{another_category}
 use Rattle.olap_order.specs.Taken.{NoAnswer}
 use Rattle.olap_order.specs.Words.{texts}
 use Rattle.olap_ast.specs.Trees.{numbers_of}
@@ -27,10 +27,10 @@ returns-in_err-category-clause-step c =
     (ends_at c.args.twice.now g c.args.at (texts c.args.names.now) c.words.k
     (numbers_of c.words.categories.items) c.in_err-category.field-0.0
     h c.words.invariant
-    (subst (λ w. Replies NoAnswer (another_word c.args.twice.now g at (numbers_of c.words.categories.items) w)
+    (subst (λ w. Replies NoAnswer (another_category c.args.twice.now g at (numbers_of c.words.categories.items) w)
     (Err c.in_err-category.field-0.0)) word
     (subst (λ (xs : List CatId). Replies NoAnswer
-    (another_word c.args.twice.now g at (numbers_of xs) c.as_str-name.result.now)
+    (another_category c.args.twice.now g at (numbers_of xs) c.as_str-name.result.now)
     (Err c.in_err-category.field-0.0)) c.deref.ensures.value c.in_err-category.ensures.step.ends)))
 
 pub words-preserved : goal.words-preserved
@@ -43,9 +43,9 @@ words-preserved c =
     subst (λ n. c.words.k < n) (sym (length-map c.args.names.now string_bytes)) c.words-test.true in
     read_more c.args.twice.now g c.args.at (texts c.args.names.now) c.words.k (numbers_of c.words.categories.items)
     (numbers_of c.push.new.self.items) c.in_ok-category.category.0 h c.words.invariant
-    (subst (λ w. another_word c.args.twice.now g at (numbers_of c.words.categories.items) w
+    (subst (λ w. another_category c.args.twice.now g at (numbers_of c.words.categories.items) w
     ≡ Done c.in_ok-category.category.0) word
-    (subst (λ (xs : List CatId). another_word c.args.twice.now g at (numbers_of xs) c.as_str-name.result.now
+    (subst (λ (xs : List CatId). another_category c.args.twice.now g at (numbers_of xs) c.as_str-name.result.now
     ≡ Done c.in_ok-category.category.0)
     c.deref.ensures.value c.in_ok-category.ensures.step.comes_out))
     c.in_ok-category.ensures.category

@@ -12,7 +12,8 @@ use Rattle.olap_instance.specs.InstanceText.{instance_read}
 use Rattle.olap_instance.specs.Kinds.{name_of_kind}
 use Rattle.olap_instance.specs.declared.refusals.InstanceKind.{InstanceKind}
 use Rattle.olap_order.specs.Order.{and_then}
-use Rattle.olap_order.specs.Steps.{meaning_or_fault, part_text}
+use Rattle.olap_order.specs.Refusals.{part_text}
+use Rattle.olap_order.specs.Steps.{meaning_or_fault}
 use Rattle.olap_records.specs.Records.{records_of}
 use Rattle.olap_schema.specs.Schemas.{schema_of}
 use Rattle.olap_reading.specs.Steps.{legal_or_violation}

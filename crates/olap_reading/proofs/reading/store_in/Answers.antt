@@ -2,7 +2,8 @@
 use Rattle.std.proofs.Common.{List, ℕ, All, ap, codes, subst}
 use Rattle.olap_base.specs.Instance.{Instance}
 use Rattle.olap_base.specs.Limits.{most_store_bytes}
-use Rattle.olap_order.specs.Steps.{meaning_or_fault, part_text}
+use Rattle.olap_order.specs.Refusals.{part_text}
+use Rattle.olap_order.specs.Steps.{meaning_or_fault}
 use Rattle.olap_records.specs.Records.{records_of}
 use Rattle.olap_schema.specs.Schemas.{schema_of}
 use Rattle.olap_view.specs.Kinds.{name_of_kind}
