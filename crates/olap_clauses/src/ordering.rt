@@ -1,5 +1,6 @@
 // Whose order a round of the search goes by, and who searches. Nothing here is trusted.
 use crate::effort::Effort;
+use crate::outcomes::Outcome;
 
 /// Whose order the decisions of a round are taken in.
 #[derive(Clone, Copy)]
@@ -10,6 +11,15 @@ pub(crate) enum Order {
     Shown,
     /// That of the scores over all variables, before the judge is asked.
     Free,
+}
+
+/// How a variable is decided for which the judge isn't asked.
+#[derive(Clone, Copy)]
+pub(crate) enum Sign {
+    /// It is false: most edges and names are, where there is a frozen dimension.
+    False,
+    /// As it was last.
+    Last,
 }
 
 /// Which solver searches.
@@ -28,6 +38,7 @@ pub(crate) enum Part {
 pub(crate) struct Round {
     pub(crate) part: Part,
     pub(crate) order: Order,
+    pub(crate) sign: Sign,
     /// So many conflicts it has.
     pub(crate) budget: u64,
 }
@@ -36,17 +47,21 @@ pub(crate) struct Round {
 const ALONE: u64 = 6;
 
 /// Conflicts of a round that tries an order.
-const SHORT: u64 = 200;
+const SHORT: u64 = 150;
 
 /// Conflicts of a round by the order that was best.
 const LONG: u64 = 1000;
 
-/// What the rounds of each order took, late ones counting more.
+/// Conflicts of the first turn of each solver.
+const TURN: u64 = 300;
+
+/// What the rounds of each order took, late ones counting more, and which of them ended the last search.
 #[derive(Clone, Copy)]
 pub(crate) struct Orders {
     judge: Effort,
     shown: Effort,
     free: Effort,
+    last: Order,
 }
 
 impl Orders {
@@ -56,6 +71,7 @@ impl Orders {
             judge: Effort::NONE,
             shown: Effort::NONE,
             free: Effort::NONE,
+            last: Order::Judge,
         }
     }
 
@@ -79,17 +95,27 @@ impl Orders {
         best
     }
 
+    /// This order, or the judge's if this one was tried first.
+    fn untried(&self, order: Order) -> Order {
+        if order == self.last {
+            Order::Judge
+        } else {
+            order
+        }
+    }
+
     /// What the first solver does in a round that it has alone.
     fn alone(&self, round: u64) -> Round {
         let (order, budget) = match round {
-            0 => (Order::Judge, SHORT),
-            1 => (Order::Free, SHORT),
-            2 => (Order::Shown, SHORT),
+            0 => (self.last, SHORT),
+            1 => (self.untried(Order::Free), SHORT),
+            2 => (self.untried(Order::Shown), SHORT),
             _ => (self.best(), LONG),
         };
         Round {
             part: Part::First,
             order,
+            sign: Sign::False,
             budget,
         }
     }
@@ -108,17 +134,21 @@ impl Orders {
         Round {
             part,
             order,
-            budget: SHORT.max((SHORT / 4).saturating_mul(turn)),
+            sign: Sign::Last,
+            budget: TURN.max((TURN / 4).saturating_mul(turn)),
         }
     }
 
-    /// Notes what a round of this order took.
-    pub(crate) fn note(&mut self, order: Order, effort: Effort) {
+    /// Notes what a round of this order took, and how it ended.
+    pub(crate) fn note(&mut self, order: Order, effort: Effort, outcome: Outcome) {
         let took = self.took(order).halved_with(effort);
         match order {
             Order::Judge => self.judge = took,
             Order::Shown => self.shown = took,
             Order::Free => self.free = took,
+        }
+        if outcome != Outcome::Stop {
+            self.last = order;
         }
     }
 }

@@ -2,19 +2,19 @@
 ghost use Rattle.std.specs.Prelude.{IfSome};
 ghost use Rattle.olap_clauses.specs.Trails.{IsOpen};
 
+use crate::scoring::Scores;
 use crate::trails::Trail;
 use crate::values::Value;
 use olap_pool::Lit;
 
-/// The unknown variable of highest score, with the sign that it had last, if one has a score at
-/// all. Nothing is said of it.
-fn best(trail: &Trail, scores: &[u32]) -> Option<Lit> {
+/// The unknown variable of highest score, if one has a score at all. Nothing is said of it.
+fn best(trail: &Trail, scores: &Scores) -> Option<Lit> {
     let mut best = None;
     let mut top = 0;
     let mut variable: u32 = 0;
-    'scores: for score in scores {
+    'scores: for score in scores.free() {
         if *score > top {
-            let positive = trail.last_sign(variable);
+            let positive = scores.sign(trail, variable);
             let lit = Lit { variable, positive };
             if trail.value(lit) == Value::Unknown {
                 best = Some(lit);
@@ -27,7 +27,7 @@ fn best(trail: &Trail, scores: &[u32]) -> Option<Lit> {
 }
 
 /// The open literal that had most to do with conflicts of late, if one had.
-pub(crate) fn pick(trail: &Trail, scores: &[u32]) -> Option<Lit>
+pub(crate) fn pick(trail: &Trail, scores: &Scores) -> Option<Lit>
     ensures { IfSome result (λ lit. IsOpen trail.now lit) }
 {
     let lit = best(trail, scores)?;

@@ -1,5 +1,6 @@
 // How much each variable had to do with conflicts of late. Nothing here is trusted.
-use crate::ordering::Order;
+use crate::ordering::{Order, Sign};
+use crate::trails::Trail;
 use olap_pool::Lit;
 use std::alloc::{AllocError, Global};
 
@@ -16,6 +17,7 @@ pub(crate) struct Scores {
     bump: u32,
     shown: bool,
     free: bool,
+    sign: Sign,
 }
 
 impl Scores {
@@ -26,13 +28,15 @@ impl Scores {
             bump: FIRST,
             shown: false,
             free: false,
+            sign: Sign::False,
         })
     }
 
-    /// Whether the judge is shown the scores, and whether they are followed before it is asked.
-    pub(crate) fn show(&mut self, order: Order) {
+    /// Whether the judge is shown the scores, and whether they are followed before it is asked, by which sign.
+    pub(crate) fn show(&mut self, order: Order, sign: Sign) {
         self.shown = order == Order::Shown;
         self.free = order == Order::Free;
+        self.sign = sign;
     }
 
     /// The scores, or none.
@@ -45,9 +49,14 @@ impl Scores {
         if self.free { &self.scores } else { &[] }
     }
 
+    /// The sign with which a variable is decided where the judge isn't asked.
+    pub(crate) fn sign(&self, trail: &Trail, variable: u32) -> bool {
+        self.sign == Sign::Last && trail.last_sign(variable)
+    }
+
     /// A conflict more: what is added from now on counts more.
     pub(crate) fn age(&mut self) {
-        self.bump = self.bump.saturating_add(self.bump / 8);
+        self.bump = self.bump.saturating_add(self.bump / 9);
         if self.bump > MOST {
             'scores: for score in self.scores.iter_mut() {
                 *score >>= 16;

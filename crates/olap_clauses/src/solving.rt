@@ -12,7 +12,7 @@ use crate::effort::Effort;
 use crate::fixpoints::Fixpoints;
 use crate::judging::{Judge, Verdict};
 use crate::learning::{Notes, copy_some, learn};
-use crate::ordering::Order;
+use crate::ordering::{Order, Sign};
 use crate::outcomes::Outcome;
 use crate::picking::pick;
 use crate::propagating::{force_each_short, propagate};
@@ -28,7 +28,7 @@ use std::mem::swap;
 const KEPT: usize = 6000;
 
 /// So many more are kept each time.
-const MORE_KEPT: usize = 300;
+const MORE_KEPT: usize = 500;
 
 /// Clauses, a trail, and the search over them.
 #[derive(Drop)]
@@ -316,13 +316,13 @@ impl Solver {
         some
     }
 
-    /// From now on decisions are taken in this order.
-    pub(crate) fn show(&mut self, order: Order)
+    /// From now on decisions are taken in this order, and by this sign where the judge isn't asked.
+    pub(crate) fn show(&mut self, order: Order, sign: Sign)
         ensures trail { trail_of self.new ≡ trail_of self.old }
         ensures variables { variables_of self.new ≡ variables_of self.old }
         ensures admits { (v : ℕ → Bool) → admits v self.old → admits v self.new }
     {
-        self.notes.scores.show(order);
+        self.notes.scores.show(order, sign);
     }
 
     /// Learns from a clause that is false.
@@ -343,7 +343,7 @@ impl Solver {
         ensures right { JudgesSo (J.Means judge.now) (J.Took judge.now state.new) self.now.trail result }
         ensures suits { J.Suits judge.now state.new (variables_of self.now) }
     {
-        match pick(&self.trail, self.notes.scores.free()) {
+        match pick(&self.trail, &self.notes.scores) {
             Some(lit) => Verdict::Decide(lit),
             None => judge.judge(state, &self.trail, self.notes.scores.shown()),
         }

@@ -126,7 +126,8 @@ impl Counting {
             .len()
             .saturating_mul(size)
             .saturating_mul(pool.len());
-        if self.ids.len() < 3 || cost > self.patience {
+        // The literals of one clause lie in a set each, so there are as many sets at least.
+        if self.ids.len() <= size || cost > self.patience {
             return false;
         }
         self.patience -= cost;
