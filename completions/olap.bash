@@ -93,7 +93,7 @@ _olap() {
     current=${words[-1]}
     if [[ ${#words[@]} -le 2 ]]; then
         compopt +o default
-        for each in rollup check format summarizable prove verify prove-short verify-short needs breaks implies satisfiable frozen shapes audit store answer append retract cube cubeview generate; do
+        for each in rollup check format summarizable prove verify prove-short verify-short needs breaks implies satisfiable frozen shapes audit store answer append retract cube cubeview generate version; do
             if [[ $each == "$current"* ]]; then COMPREPLY+=("$each"); fi
         done
         return

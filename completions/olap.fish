@@ -40,7 +40,7 @@ function __olap_candidates
     set -l place (math (count $words) - 1)
     if test $place -eq 0
         printf '%s\n' rollup check format summarizable prove verify prove-short verify-short needs breaks implies satisfiable \
-            frozen shapes audit store answer append retract cube cubeview generate
+            frozen shapes audit store answer append retract cube cubeview generate version
         return
     end
     if contains -- $words[2] cube cubeview

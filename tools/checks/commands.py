@@ -1,7 +1,7 @@
 """Each command of the program stands in each place that lists commands, and no other does.
 
-The commands are those that src/words.rt of each family tells apart. Of docs/proved/claim.md only the other way is left out: its rows speak of
-more than commands.
+The commands are those that src/words.rt of each family tells apart, and `version`, which the top call answers itself. Of
+docs/proved/claim.md only the other way is left out: its rows speak of more than commands.
 """
 
 import re
@@ -9,20 +9,21 @@ import re
 from . import families, sources
 
 WORDS = [sources.CRATES / family / "src" / "words.rt" for family in families.FAMILIES]
+WORDS += [sources.CRATES / families.TOP / "src" / "judging.rt"]
 
 # Where commands are listed, what leads to the list there, and the form of a name in it.
-ROW = r"^\| `([\w-]+) [A-Z]"
+ROW = r"^\| `([\w-]+)(?: [A-Z][^`]*)?` \|"
 PLACES = (
     ("README.md", "", ROW),
     ("docs/COMMANDS.md", "\n| words | what it does | status |\n", ROW),
     ("docs/COMMANDS.md", "\n| command | order |\n", r"^\| `([\w-]+)` \|"),
     ("man/olap.1", "\n.SH SYNOPSIS\n", r"^\\fBolap ([\w\\-]+)\\fR"),
-    ("man/olap.1", "\n.SH COMMANDS\n", r'^\.BI ([\w\\-]+) "'),
+    ("man/olap.1", "\n.SH COMMANDS\n", r'^\.TP\n\.BI? ([\w\\-]+)(?: "|$)'),
     ("completions/olap.bash", "\n        for each in ", r"(?<![\w-])([a-z-]{3,})(?![\w-])(?=[a-z -]*; do$)"),
     ("examples/runs.txt", "", r"^[013456] \S+ ([\w-]+)"),
-    ("tools/attack", "", r'\["([a-z-]+)", '),
-    ("tools/refuse-memory", "\nCOMMANDS = (\n", r'^    \["([\w-]+)", '),
-    ("tools/real-edges", "\nORDERS = (\n", r'^    \(\["([\w-]+)", '),
+    ("tools/attack", "", r'\["([a-z][a-z-]+)"(?:, (?!\[)|\](?=\]\n))'),
+    ("tools/refuse-memory", "\nCOMMANDS = (\n", r'^    \["([\w-]+)"(?:, |\])'),
+    ("tools/real-edges", "\nORDERS = (\n", r'^    \(\["([\w-]+)"(?:, |\])'),
 )
 
 

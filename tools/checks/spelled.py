@@ -11,7 +11,7 @@ NAMES = sources.CRATES / "olap_base" / "specs" / "Bytes.antt"
 BYTE = r"(9|10|13|3[2-9]|4\d|5\d|6\d|7\d|8\d|9\d|1[01]\d|12[0-7]|239)"
 SPELLED = re.compile(
     rf"(?<![\w.^]){BYTE} ∷|∷ {BYTE}(?=\)|\s|$)|(?:==|≡) {BYTE}(?![\w.])|(?<![\w.^]){BYTE} ≤"
-    rf"|(?:pieces_of|in_front|join_with_byte|atom_word \w+ \w+) {BYTE}(?![\w.])|replicate \w+ {BYTE}(?![\w.])"
+    rf"|(?:pieces_of|onto_first|join_with_byte|atom_word \w+ \w+) {BYTE}(?![\w.])|replicate \w+ {BYTE}(?![\w.])"
     rf"|nat_l[et] \w+ {BYTE}(?![\w.])"
 )
 

@@ -84,6 +84,17 @@ def tiers(claim, subject):
         yield command, counts
 
 
+def without(claim, left_out):
+    """The number of lines that the readers of all commands but these believe together."""
+    kept = [cut_to(command, *place) for command, place in commands() if command not in left_out]
+    cut = {}
+    for module, name in {key for each in kept for key in each}:
+        declaration = modules()[module].declarations[name]
+        read = {id(line) for each in kept for line in each.get((module, name), ())}
+        cut[module, name] = declaration.type_lines + [line for line in declaration.body if id(line) in read]
+    return sum(believed(claim, cut).values())
+
+
 def own(claim, command):
     """The lines that the reader of this one command believes, and of no other: its own declarations, and its case of those that have
     a case for each.

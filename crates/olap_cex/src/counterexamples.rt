@@ -125,9 +125,8 @@ pub fn print_cex(alloc: Global, graph: &Graph, cex: &Cex) -> Result<Text, Memory
     ensures text { IfOk result (λ text. text ≡ cex_text graph.now cex.now) }
 {
     let mut out = print_instance(alloc, graph, &cex.instance)?.into_bytes();
-    out.extend_from_slice(b"fact ")?;
-    out.extend_from_slice(graph.name(cex.instance.category(cex.fact)).bytes())?;
-    out.extend_from_slice(b" 1\n")?;
+    let root = graph.name(cex.instance.category(cex.fact)).bytes();
+    push_sum(alloc, &mut out, b"fact", root, Some(1))?;
     let target = graph.name(cex.target).bytes();
     push_sum(alloc, &mut out, b"direct", target, Some(cex.direct))?;
     push_sum(alloc, &mut out, b"views", target, cex.views)?;

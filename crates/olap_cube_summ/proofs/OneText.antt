@@ -10,7 +10,8 @@ use Rattle.olap_cube.specs.CubeSummarizable.{AreOneChoice, Chosen, bottoms_of, g
 use Rattle.olap_grammar.specs.Quoting.{quoted}
 use Rattle.olap_graph.specs.Lookups.{name_of_category}
 use Rattle.olap_instance.specs.Printing.{text_of_instance}
-use Rattle.olap_cube_summ.specs.CubeCexText.{cube_direct_sum, cube_sums_text, cube_views_sum, dimensions_text, number_line, roots_of}
+use Rattle.olap_cube_summ.specs.CubeCexText.{dimensions_text, roots_of}
+use Rattle.olap_cube_summ.specs.Telling.{cube_direct_sum, cube_sums_text, cube_views_sum, number_line}
 use Rattle.olap_cube_summ.specs.Laws.{OneChoiceHasOneText}
 
 -- frozen dimensions that can't be told apart have one line

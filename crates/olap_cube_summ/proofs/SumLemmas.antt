@@ -19,7 +19,8 @@ use Rattle.olap_frozen.proofs.ChosenLemmas.{choice_of}
 use Rattle.olap_cube_summ.specs.Found.{IsCubeCounterexampleFound, chosen_of}
 use Rattle.olap_frozen.specs.declared.founding.Found.{Found}
 use Rattle.olap_frozen.specs.declared.frozen.Room.{Room}
-use Rattle.olap_cube_summ.specs.CubeCexText.{cube_counterexample_text, cube_direct_sum, cube_sums_text, cube_views_sum, dimensions_text, roots_of}
+use Rattle.olap_cube_summ.specs.CubeCexText.{cube_counterexample_text, dimensions_text, roots_of}
+use Rattle.olap_cube_summ.specs.Telling.{cube_direct_sum, cube_sums_text, cube_views_sum}
 use Rattle.olap_cube_summ.specs.Drawn.{AreDrawn}
 use Rattle.olap_cube_summ.specs.Laws.{CubeCounterexampleSumsDiffer}
 use Rattle.olap_cube_summ.specs.Reaching.{ReachBy}

@@ -9,7 +9,8 @@ use Rattle.olap_cube_summ.specs.Dimensions.{AreCategoriesOf, no_schema}
 use Rattle.olap_cube_summ.specs.Found.{chosen_of}
 use Rattle.olap_frozen.specs.declared.founding.Found.{Found}
 use Rattle.olap_graph.specs.Lookups.{name_of_category}
-use Rattle.olap_cube_summ.specs.CubeCexText.{dimension_text, dimensions_text, names_of}
+use Rattle.olap_cube_summ.specs.CubeCexText.{dimension_text, dimensions_text}
+use Rattle.olap_cube_summ.specs.Telling.{names_of}
 
 -- ---- dimensions
 

@@ -2,6 +2,7 @@
 pub mod Dimensions
 pub mod Found
 pub mod CubeCexText
+pub mod Telling
 pub mod Laws
 pub mod Masks
 pub mod Ways

@@ -2,7 +2,8 @@
 ghost use Rattle.std.specs.Prelude.{◌≡◌, ◌++◌, IfOk, OnOk, map};
 ghost use Rattle.olap_ast.specs.Frozen.{thawed};
 ghost use Rattle.olap_instance.specs.Printing.{text_of_instance};
-ghost use Rattle.olap_cube_summ.specs.CubeCexText.{dimension_text, dimensions_text, number_line};
+ghost use Rattle.olap_cube_summ.specs.CubeCexText.{dimension_text, dimensions_text};
+ghost use Rattle.olap_cube_summ.specs.Telling.{number_line};
 ghost use Rattle.olap_cube_summ.specs.Drawn.{AreFound, IsFoundOf};
 ghost use Rattle.olap_cube_summ.specs.Dimensions.{schemas_of};
 ghost use Rattle.olap_cube_summ.specs.Found.{chosen_of};

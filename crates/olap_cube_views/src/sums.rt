@@ -86,7 +86,8 @@ pub(crate) fn join_rows(rows: &mut Vec<CubeRow>)
     }
 }
 
-/// Rows that are gathered. Those of one tuple are joined when they have doubled, so that memory goes by tuples.
+/// Rows that are gathered. Those of one tuple are joined when they have doubled, so that memory goes by tuples; or when
+/// they are four times as many, if few were of one tuple the last time: rows of many tuples are sorted in vain.
 #[derive(Drop)]
 pub(crate) struct Sums {
     pub(crate) rows: Vec<CubeRow>,
@@ -113,10 +114,12 @@ impl Sums {
         ensures within { (n : ℕ) → IsWithin n (entries_of self.old.rows.items)
             → IsWithin n (entries_of self.new.rows.items) }
     {
-        if self.rows.len() >= self.most {
+        let before = self.rows.len();
+        if before >= self.most {
             join_rows(&mut self.rows);
             let count = self.rows.len();
-            self.most = count.saturating_add(count.max(LOT));
+            let more = if count > before / 4 * 3 { 3 } else { 1 };
+            self.most = count.saturating_add(count.max(LOT).saturating_mul(more));
         }
     }
 

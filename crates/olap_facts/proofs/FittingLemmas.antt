@@ -10,7 +10,7 @@ use Rattle.olap_base.specs.Instance.{Instance}
 use Rattle.olap_base.specs.declared.refusals.Fault.{Fault}
 use Rattle.olap_base.specs.Views.{Fact}
 use Rattle.olap_base.proofs.ListLemmas.{second_true}
-use Rattle.olap_facts.specs.FactText.{body_read_within, fact_fault_within, fact_read, header}
+use Rattle.olap_facts.specs.FactText.{fact_fault_within, fact_read, header}
 use Rattle.olap_facts.specs.Laws.{ReadFactsFit}
 use Rattle.olap_facts.specs.declared.kinds.FactKind.{FactKind}
 use Rattle.olap_numerals.specs.Values.{is_numeral, value_of}
@@ -51,7 +51,8 @@ read-facts-fit most g i records fs e = go (begins_with header records) _ e
         subst (λ xs. All (λ (f : Fact). FitsSigned w64 f.value) xs) z (all-facts i (drop 1 records))
     read (Some p) e = absurd (cc)
 
-    go : (b : Bool) (fault : Fault FactKind) → cond b (body_read_within most g i (drop 1 records)) (Err fault) ≡ Ok fs
+    go : (b : Bool) (fault : Fault FactKind) → cond b (or_read (first_fault (fact_fault_within most g i) [] (drop 1 records))
+        (Ok (map (fact_read i) (drop 1 records)))) (Err fault) ≡ Ok fs
         → All (λ f. FitsSigned w64 f.value) fs
     go true fault e = read (first_fault (fact_fault_within most g i) [] (drop 1 records)) e
     go false fault e = absurd (cc)

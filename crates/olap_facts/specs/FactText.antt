@@ -46,14 +46,10 @@ fact_read i r = record { member = member_number i (field r 0); value = unwrap_or
 
 -- ---- all of them
 
--- the records after the header
-abbrev pub body_read_within : ℕ → Graph → Instance → List (List (List ℕ)) → Result (List Fact) (Fault FactKind)
-body_read_within most g i rows =
-    or_read (first_fault (fact_fault_within most g i) [] rows) (Ok (map (fact_read i) rows))
-
 -- what the records of a text stand for, where there may be so many facts
 abbrev pub facts_read_within : ℕ → Graph → Instance → List (List (List ℕ)) → Result (List Fact) (Fault FactKind)
-facts_read_within most g i = table_read header kind.BadHeader (body_read_within most g i)
+facts_read_within most g i = table_read header kind.BadHeader
+    (λ rows. or_read (first_fault (fact_fault_within most g i) [] rows) (Ok (map (fact_read i) rows)))
 
 -- the same for a file that is read into a list
 abbrev pub facts_read : Graph → Instance → List (List (List ℕ)) → Result (List Fact) (Fault FactKind)

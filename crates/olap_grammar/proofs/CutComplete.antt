@@ -2,7 +2,8 @@
 use Rattle.std.proofs.Common.{◌≡◌, ◌==◌, ℕ, Bool, true, false, arith, List, [], ◌∷◌, ◌++◌, refl, Some, append_assoc, append-nil, ap, ◌∙◌}
 use Rattle.std.specs.List.{fold}
 use Rattle.std.specs.Char.{is_ascii_digit}
-use Rattle.olap_grammar.specs.Cutting.{is_word_byte, AreWordBytes, EndsWord, mark_bytes, EndsDash, EndsLess, EndsMark, IsMarkIn, Spells, nothing, quote, slash, other, IsCut, end, blank, tabbed, word, quoted, signed, marked}
+use Rattle.olap_grammar.specs.Cutting.{is_word_byte, AreWordBytes, EndsWord, mark_bytes, IsMarkIn, Spells, nothing, quote, slash, other, IsCut, end, blank, tabbed, word, quoted, signed, marked}
+use Rattle.olap_grammar.specs.Longest.{EndsDash, EndsLess, EndsMark}
 use Rattle.olap_grammar.specs.CuttingMachine.{Between, InWord, InQuotes, InSigned, Dash, Less, LessDash, cut_step, cut_ended, tokens_of}
 use Rattle.olap_grammar.specs.declared.tokens.Token.{Token}
 use Rattle.olap_grammar.specs.declared.tokens.Token.TheVariants as token
@@ -11,6 +12,7 @@ use Rattle.olap_grammar.specs.declared.tokens.Mark.TheVariants as mark
 use Rattle.olap_grammar.specs.declared.tokens.Joint.TheVariants as joint
 use Rattle.olap_grammar.specs.declared.tokens.Version.{Version}
 use Rattle.olap_grammar.specs.declared.tokens.Version.TheVariants as version
+use Rattle.olap_grammar.proofs.LongestLemmas.{ends_of}
 
 -- a word goes on
 in_word : (v : Version) (ts : List Token) (w : List ℕ) (b : ℕ) → is_word_byte b ≡ true
@@ -135,7 +137,7 @@ cut_on {v = v} (signed c w {bs = bs} {ts = ts} two digit h n d) done =
         ∙ number_ends version.Two done (45 ∷ c ∷ w) bs n ∙ rw e at ih
 cut_on {v = v} (marked m {bs = bs} {ts = ts} in' ends d) done =
     let e : (done ++ token.Mark m ∷ []) ++ ts ≡ done ++ token.Mark m ∷ ts = simp append_assoc in
-    go v m bs in' ends (rw e at (cut_on d (done ++ token.Mark m ∷ [])))
+    go v m bs in' (ends_of v m bs in' ends) (rw e at (cut_on d (done ++ token.Mark m ∷ [])))
   where
     less : (v : Version) (bs : List ℕ) → v ≡ version.Two → EndsLess bs
         → cut_ended v (fold (cut_step v) (Between (done ++ token.Mark mark.Less ∷ [])) bs)

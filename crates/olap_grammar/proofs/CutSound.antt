@@ -3,7 +3,8 @@ use Rattle.std.proofs.Common.{◌≡◌, ◌==◌, ◌⊎◌, ◌&&◌, inl, inr
 use Rattle.std.specs.List.{fold}
 use Rattle.std.specs.Char.{is_ascii_digit}
 use Rattle.olap_base.proofs.ListLemmas.{first_true, second_true}
-use Rattle.olap_grammar.specs.Cutting.{is_word_byte, AreWordBytes, EndsWord, mark_bytes, EndsMark, IsMarkIn, Spells, nothing, quote, slash, other, IsCut, end, blank, tabbed, word, quoted, signed, marked}
+use Rattle.olap_grammar.specs.Cutting.{is_word_byte, AreWordBytes, EndsWord, mark_bytes, IsMarkIn, Spells, nothing, quote, slash, other, IsCut, end, blank, tabbed, word, quoted, signed}
+use Rattle.olap_grammar.specs.Longest.{EndsMark}
 use Rattle.olap_grammar.specs.CuttingMachine as machine
 use Rattle.olap_grammar.specs.Cutting.{has_numbers}
 use Rattle.olap_grammar.specs.CuttingMachine.{Cut, Between, InWord, InQuotes, Escaped, InSigned, Dash, Less, LessDash, Stuck, after_dash, after_less, between, mark_of, cut_step, cut_ended, tokens_of}
@@ -14,6 +15,7 @@ use Rattle.olap_grammar.specs.declared.tokens.Mark.TheVariants as mark
 use Rattle.olap_grammar.specs.declared.tokens.Joint.TheVariants as joint
 use Rattle.olap_grammar.specs.declared.tokens.Version.{Version}
 use Rattle.olap_grammar.specs.declared.tokens.Version.TheVariants as version
+use Rattle.olap_grammar.proofs.LongestLemmas.{cut_mark, same_byte}
 
 -- the tokens before, and the rest of the line is cut into the tokens after them
 pub record Follows (v : Version) (done : List Token) (bs : List ℕ) (all : List Token) : Type 0 where
@@ -53,10 +55,6 @@ Gives v (Less ts) bs all = Follows v ts (60 ∷ bs) all
 Gives v (LessDash ts) bs all = Follows v ts (60 ∷ 45 ∷ bs) all
 Gives v Stuck bs all = ⊥
 
--- equal by the test is equal
-same_byte : (a b : ℕ) → a == b ≡ true → a ≡ b
-same_byte a b h = grind (arith)
-
 -- a choice by a test
 choose : {A : Type 0} (P : A → Type 0) (Q : Type 0) (t : Bool) (x y : A) → (t ≡ true → P x → Q)
     → (t ≡ false → P y → Q) → P (if t then x else y) → Q
@@ -69,7 +67,7 @@ after_mark : (v : Version) (m : Mark) (done : List Token) (bs : List ℕ) (all :
 after_mark v m done bs all in' ends h = record {
   later = token.Mark m ∷ h.later;
   whole = rw h.whole (simp append_assoc);
-  cut = marked m in' ends h.cut;
+  cut = cut_mark m in' ends h.cut;
 }
 
 -- numbers stand in the second version alone
@@ -321,7 +319,7 @@ less_ended : (v : Version) (ts all : List Token) (t : Bool) → has_numbers v �
 less_ended v ts all true e h = record {
   later = token.Mark mark.Less ∷ [];
   whole = cc;
-  cut = marked mark.Less (is_two v e) tt end;
+  cut = cut_mark mark.Less (is_two v e) tt end;
 }
 less_ended v ts all false e h = absurd cc
 

@@ -5,6 +5,7 @@ pub mod Sound
 mod Hom
 mod TokenLemmas
 pub mod FewTokens
+pub mod LongestLemmas
 pub mod CutComplete
 pub mod CutSound
 mod CutterLemmas

@@ -2,12 +2,13 @@
 --     is_word_byte          bytes of which words are made
 --     mark_bytes            how a mark is spelt
 --     has_numbers           the version that has numbers and comparisons
---     EndsWord, EndsMark    where a word ends, and the longest mark
+--     EndsWord, IsLongest   where a word ends, and the longest mark
 --     Spells                what the bytes between two quotes stand for
 --     IsCut                 the tokens that a line is cut into
-use Rattle.std.specs.Prelude.{◌≡◌, ◌==◌, ◌||◌, ℕ, Bool, true, false, List, [], ◌∷◌, ◌++◌, codes}
+use Rattle.std.specs.Prelude.{◌≡◌, ◌==◌, ◌≤◌, ◌||◌, ℕ, Bool, true, false, List, [], ◌∷◌, ◌++◌, codes, length}
 use Rattle.std.specs.Char.{is_ascii_alphanumeric, is_ascii_digit}
-use Rattle.olap_base.specs.Bytes.{backslash, equals_sign, full_stop, greater_than_sign, hyphen, quotation_mark, space, tab, underscore}
+use Rattle.std.specs.List.{AllByRecursion}
+use Rattle.olap_base.specs.Bytes.{backslash, full_stop, hyphen, quotation_mark, space, tab, underscore}
 use Rattle.olap_grammar.specs.declared.tokens.Token.{Token}
 use Rattle.olap_grammar.specs.declared.tokens.Token.TheVariants as token
 use Rattle.olap_grammar.specs.declared.tokens.Mark.{Mark}
@@ -20,11 +21,6 @@ use Rattle.olap_grammar.specs.declared.tokens.Version.TheVariants as version
 -- a letter, a digit, `_` or `.`
 abbrev pub is_word_byte : ℕ → Bool
 is_word_byte b = is_ascii_alphanumeric b || (b == underscore) || (b == full_stop)
-
--- all are bytes of words
-abbrev pub AreWordBytes : List ℕ → Type 0
-AreWordBytes [] = Unit {0}
-AreWordBytes (b ∷ bs) = (is_word_byte b ≡ true) × AreWordBytes bs
 
 -- no word goes on here
 abbrev pub EndsWord : List ℕ → Type 0
@@ -62,20 +58,14 @@ IsMarkIn mark.Less v = v ≡ version.Two
 IsMarkIn mark.AtMost v = v ≡ version.Two
 IsMarkIn m v = Unit {0}
 
--- no arrow ends here
-abbrev pub EndsDash : List ℕ → Type 0
-EndsDash [] = Unit {0}
-EndsDash (b ∷ bs) = b == greater_than_sign ≡ false
+-- no longer mark of the version begins where this one stands in front of these bytes
+abbrev pub IsLongest : Version → Mark → List ℕ → Type 0
+IsLongest v m bs = (n : Mark) (rest : List ℕ) → IsMarkIn n v → mark_bytes n ++ rest ≡ mark_bytes m ++ bs
+    → length (mark_bytes n) ≤ length (mark_bytes m)
 
--- behind a `<` no longer mark goes on here: neither `<=` nor `<->`
-abbrev pub EndsLess : List ℕ → Type 0
-EndsLess [] = Unit {0}
-EndsLess (b ∷ bs) = (b == equals_sign ≡ false) × (b == hyphen ≡ true → EndsDash bs)
-
--- no longer mark goes on here
-abbrev pub EndsMark : Mark → List ℕ → Type 0
-EndsMark mark.Less bs = EndsLess bs
-EndsMark m bs = Unit {0}
+-- all are bytes of words
+abbrev pub AreWordBytes : List ℕ → Type 0
+AreWordBytes bs = AllByRecursion (λ b. is_word_byte b ≡ true) bs
 
 -- the bytes between two quotes stand for this text
 pub data Spells : List ℕ → List ℕ → Type 0 where
@@ -97,5 +87,5 @@ pub data IsCut (v : Version) : List ℕ → List Token → Type 0 where
   signed : (d : ℕ) (w : List ℕ) {bs : List ℕ} {ts : List Token} → v ≡ version.Two → is_ascii_digit d ≡ true
       → AreWordBytes w → EndsWord bs → IsCut v bs ts
       → IsCut v (hyphen ∷ d ∷ (w ++ bs)) (token.Signed (hyphen ∷ d ∷ w) ∷ ts)
-  marked : (m : Mark) {bs : List ℕ} {ts : List Token} → IsMarkIn m v → EndsMark m bs → IsCut v bs ts
+  marked : (m : Mark) {bs : List ℕ} {ts : List Token} → IsMarkIn m v → IsLongest v m bs → IsCut v bs ts
       → IsCut v (mark_bytes m ++ bs) (token.Mark m ∷ ts)

@@ -11,6 +11,7 @@ pub mod Laws
 pub mod Answering
 pub mod Quoting
 -- The inside: the readers' states, which `Laws` says find what is cut and formed.
+pub mod Longest
 pub mod CuttingMachine
 pub mod Tallying
 pub mod Keeping

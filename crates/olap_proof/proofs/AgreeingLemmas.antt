@@ -29,7 +29,8 @@ use Rattle.olap_frozen.proofs.ChosenLemmas.{bit_joins, choice_of, chosen_place, 
 use Rattle.olap_graph.specs.Lookups.{edge_at, edge_between, edges_from}
 use Rattle.olap_names.specs.Names.{name_at}
 use Rattle.olap_trail.specs.Decisions.{Decided, Decision, HoldsCycle, HoldsShortcut, present_edges, present_graph, status_in, status_of}
-use Rattle.olap_proof.specs.Places.{Naming, index_of, is_possible, name_of, possible_graph, truth_of, truth_of_edge}
+use Rattle.olap_proof.specs.Places.{Naming, index_of, name_of, possible_graph, truth_of, truth_of_edge}
+use Rattle.olap_proof.specs.Seen.{is_possible}
 
 -- ---- what was decided
 

@@ -20,8 +20,10 @@ use Rattle.olap_names.specs.Names.{name_at}
 use Rattle.olap_numerals.specs.Comparing.{is_numbered}
 use Rattle.olap_proof.specs.declared.forms.Form.{Form}
 use Rattle.olap_proof.specs.Places.{Naming, Place, index_of, knowledge, name_of, truth_of_edge, truth_of_name, truth_of_reach}
-use Rattle.olap_proof.specs.Lines.{Closes, IsUnmetAt, Line, Line.Asked, Line.Clash, Line.Cycle, Line.Dead, Line.EdgeOrNot, Line.Loose, Line.NameOf, Line.Shortcut, Line.Unmet, Line.Unreached, Line.WayOrNot, line_text}
+use Rattle.olap_proof.specs.Lines.{Line, Line.Asked, Line.Clash, Line.Cycle, Line.Dead, Line.EdgeOrNot, Line.Loose, Line.NameOf, Line.Shortcut, Line.Unmet, Line.Unreached, Line.WayOrNot, line_text}
+use Rattle.olap_proof.specs.Closing.{Closes, IsUnmetAt}
 use Rattle.olap_proof.specs.Certificates.{IsFirstWrong, Open, Open.At, Runs, Runs.more, Runs.none, Steps, Steps.begins, Steps.closes, Steps.edges, Steps.names, Steps.roots, Steps.ways, with_name}
+use Rattle.olap_proof.proofs.ReasonLemmas.{about_of, closes_of, closing}
 
 -- the same names, and as many of each category
 pub record Alike (k h : Candidates) : Type 0 where
@@ -97,7 +99,8 @@ module _ (f : Form) (k h : Candidates) (a : Alike k h) where
       subst (λ n. Steps f s q h (line_text s.graph (NameOf c)) (At p)
       (map (λ i. At (with_name p c i)) (range_with_len 0 (n + 1)))) (sym (count_alike s c d)) (names d u)
   steps_alike s q (ways o x y u) = ways o x y u
-  steps_alike s q (closes {p = p} l i m) = closes l i (closes_alike s q p l m)
+  steps_alike s q (closes {p = p} l m) =
+      closing l (about_of f s q k p l m) (closes_alike s q p l (closes_of f s q k p l m))
 
   pub runs_alike : (s : Schema) (q : Formula) {lines : List (List ℕ)} {os end : List Open} → Runs f s q k lines os end
       → Runs f s q h lines os end

@@ -24,10 +24,12 @@ use Rattle.olap_names.specs.Names.{name_at}
 use Rattle.olap_trail.specs.Decisions.{Decision}
 use Rattle.olap_proof.specs.declared.forms.Form.{Form}
 use Rattle.olap_proof.specs.Places.{Naming, Place, Way}
-use Rattle.olap_proof.specs.Lines.{Closes, Line}
+use Rattle.olap_proof.specs.Lines.{Line}
+use Rattle.olap_proof.specs.Closing.{Closes}
 use Rattle.olap_proof.specs.Certificates.{CertificatesAreRight, Open, Open.At, Open.Bottom, Open.Head, Runs, Runs.more, Runs.none, Steps, Steps.begins, Steps.closes, Steps.edges, Steps.names, Steps.roots, Steps.ways, bottoms_of, indexes_of, start, with_edge, with_name, with_way}
 use Rattle.olap_proof.proofs.AgreeingLemmas.{Like, edges_in, is_there, walk_present}
 use Rattle.olap_proof.proofs.WayLemmas.{IsSo, LikeToo, closed_none}
+use Rattle.olap_proof.proofs.ReasonLemmas.{closes_of}
 
 -- the bottom category has no frozen dimension
 abbrev pub HasNone : Schema → Formula → Candidates → ℕ → Type 0
@@ -193,7 +195,7 @@ module _ (form : Form) (s : Schema) (q : Formula) (k : Candidates) (hier : IsHie
       way_split p a b
       (all (At (with_way p a b false)) (contains_head (At (with_way p a b false)) (At (with_way p a b true) ∷ [])))
       (all (At (with_way p a b true)) (1, omega arith, refl))
-  step_refuted (closes {p = p} l a h) all = at_closed p l h
+  step_refuted (closes {p = p} l h) all = at_closed p l (closes_of form s q k p l h)
 
   runs_refuted : {lines : List (List ℕ)} {os end : List Open} → Runs form s q k lines os end → end ≡ []
       → (x : Open) → Contains os x → Refuted x

@@ -26,7 +26,8 @@ use Rattle.olap_graph.specs.Lookups.{edge_at, edges_from}
 use Rattle.olap_trail.specs.Decisions.{Decided, Decision, HoldsCycle, HoldsShortcut, present_edges, present_graph, status_in, status_of}
 use Rattle.olap_proof.specs.FullPlaces.{IsFull}
 use Rattle.olap_proof.specs.Lines.{IsDead, IsLoose}
-use Rattle.olap_proof.specs.Places.{Naming, Place, is_known, is_possible, leading_edges, possible_graph}
+use Rattle.olap_proof.specs.Places.{Naming, Place, is_known, leading_edges, possible_graph}
+use Rattle.olap_proof.specs.Seen.{is_possible}
 use Rattle.olap_proof.proofs.AgreeingLemmas.{status_some, walk_present, wider, wider_climb}
 use Rattle.olap_proof.proofs.TallyLemmas.{false_from, tally, tally_more}
 

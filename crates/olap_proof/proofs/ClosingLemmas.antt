@@ -6,7 +6,7 @@
 --     some_unmet            whether some constraint is unmet
 --     full_places_close     where nothing is left to decide
 use Rattle.std.specs.Prelude.{◌==◌, ◌&&◌, ◌||◌, ◌≢◌}
-use Rattle.std.proofs.Common.{cond, ◌≡◌, ℕ, zero, suc, ◌<◌, List, [], ◌∷◌, length, Bool, true, false, Option, Some, None, refl, sym, subst, ◌⊎◌, inl, inr, arith}
+use Rattle.std.proofs.Common.{cond, ◌≡◌, ℕ, zero, suc, ◌<◌, List, [], ◌∷◌, length, Bool, true, false, Option, Some, None, refl, sym, subst, ◌⊎◌, inl, inr}
 use Rattle.std.specs.Prelude.{All, Contains, IsTrue}
 use Rattle.std.specs.List.{range_with_len}
 use Rattle.std.proofs.lemmas.List.Elements.{All-cons, All-head, All-nil, All-tail}
@@ -31,10 +31,12 @@ use Rattle.olap_proof.proofs.LineLemmas.{edge_there}
 use Rattle.olap_proof.proofs.AgreeingLemmas.{wider}
 use Rattle.std.proofs.lemmas.Bool.{ne_eqb}
 use Rattle.olap_base.specs.Reaching.{category_reaches, category_reaches_is}
-use Rattle.olap_proof.specs.Lines.{Closes, IsAbout, IsDead, IsLoose, IsUnmet, IsUnmetAt, Line, Line.Asked, Line.Cycle, Line.Dead, Line.Loose, Line.Shortcut, Line.Unmet, Line.Unreached}
+use Rattle.olap_proof.specs.Lines.{IsDead, IsLoose, IsUnmet, Line, Line.Asked, Line.Cycle, Line.Dead, Line.Loose, Line.Shortcut, Line.Unmet, Line.Unreached}
+use Rattle.olap_proof.specs.Closing.{Closes, IsAbout, IsUnmetAt}
 use Rattle.olap_proof.specs.Places.{Naming, Place, is_known, knowledge, leading_graph, possible_graph, truth_of_reach}
 use Rattle.olap_proof.proofs.ChosenEdgeLemmas.{child_known, joins_possible, leading_joins, reaches_all, sound}
 use Rattle.olap_proof.proofs.FullPlaceLemmas.{frozen_there, value_of_place}
+use Rattle.olap_proof.proofs.ReasonLemmas.{unmet_inside}
 
 -- ---- decisions
 
@@ -172,13 +174,6 @@ some_unmet m k p (c ∷ cs) = go (dec_and (dec_true (is_known p c.root))
     go (yes h) d = yes (0, h)
     go (no a) (yes w) = yes (suc w.0, w.1)
     go (no a) (no b) = no (λ w. neither a b w.0 w.1)
-
--- a constraint that is unmet is one of them
-unmet_inside : (m : Form) (k : Candidates) (p : Place) (cs : List Constraint) (n : ℕ) → IsUnmetAt m cs n k p
-    → n < length cs
-unmet_inside m k p [] n h = absurd h
-unmet_inside m k p (c ∷ cs) zero h = omega arith
-unmet_inside m k p (c ∷ cs) (suc n) h = let i = unmet_inside m k p cs n h in omega arith
 
 -- ---- where nothing is left to decide
 

@@ -25,7 +25,8 @@ use Rattle.olap_proof.specs.declared.forms.Form.{Form}
 use Rattle.olap_proof.specs.declared.forms.Form.TheVariants.{Long, Short}
 use Rattle.olap_proof.specs.Certificates.{Open, Open.At, Open.Bottom, Open.Head, Steps, Steps.begins, Steps.roots, bottom_text, bottoms_of, head_text, start}
 use Rattle.olap_proof.specs.Doing.{Does, leaves_open}
-use Rattle.olap_proof.specs.Lines.{IsAbout, IsClash, IsDead, IsLoose, IsNoStep, IsUnmet, IsUnmetAt, IsUnreached, Line, Line.Asked, Line.Clash, Line.Cycle, Line.Dead, Line.EdgeOrNot, Line.Loose, Line.NameOf, Line.Shortcut, Line.Unmet, Line.Unreached, Line.WayOrNot, line_text}
+use Rattle.olap_proof.specs.Lines.{IsClash, IsDead, IsLoose, IsNoStep, IsUnmet, IsUnreached, Line, Line.Asked, Line.Clash, Line.Cycle, Line.Dead, Line.EdgeOrNot, Line.Loose, Line.NameOf, Line.Shortcut, Line.Unmet, Line.Unreached, Line.WayOrNot, line_text}
+use Rattle.olap_proof.specs.Closing.{IsAbout, IsUnmetAt}
 use Rattle.olap_proof.specs.Places.{Place, index_of, is_known, knowledge, leads, possible_graph, truth_of_reach, way_of}
 use Rattle.olap_proof.proofs.CycleLemmas.{cyclic_is, shortened_is}
 use Rattle.olap_proof.proofs.DoingLemmas.{does_step, step_does}

@@ -13,9 +13,11 @@ use Rattle.olap_ast.specs.declared.three_values.Truth3.TheVariants.{No, Yes, Unk
 use Rattle.olap_trail.specs.Decisions.{status_of}
 use Rattle.olap_proof.specs.declared.forms.Form.TheVariants.{Long, Short}
 use Rattle.olap_proof.specs.Places.{Place, Way, leading_graph, possible_graph, truth_of_reach}
-use Rattle.olap_proof.specs.Lines.{Closes, Line.Asked, Line.Clash, Line.Dead}
-use Rattle.olap_proof.specs.Certificates.{Runs.more, Runs.none, Steps.begins, Steps.closes, Steps.edges, Steps.roots, Steps.ways}
+use Rattle.olap_proof.specs.Lines.{Line.Asked, Line.Clash, Line.Dead}
+use Rattle.olap_proof.specs.Closing.{Closes}
+use Rattle.olap_proof.specs.Certificates.{Runs.more, Runs.none, Steps.begins, Steps.edges, Steps.roots, Steps.ways}
 use Rattle.olap_proof.specs.Examples.{ChainIsCertified, ChainIsShortlyCertified, chain, city_not_by_store}
+use Rattle.olap_proof.proofs.ReasonLemmas.{closing}
 
 -- the place where the edge from Store to City was decided, after these ways
 abbrev linked : Bool → List Way → Place
@@ -73,23 +75,23 @@ module _ (k : Candidates) where
 -- the lines close each case, one after the other
 pub chain_is_certified : ChainIsCertified
 chain_is_certified k = more begins (more (roots {b = 1}) (more (edges {e = 0} (omega arith) refl)
-    (more (closes (Dead 1) (omega arith) (
+    (more (closing (Dead 1) (omega arith) (
       λ e. cc,
       refl,
       All-cons (λ e. status_of (linked false []).decided e ≡ Some false) 0 [] refl
           (All-nil (λ e. status_of (linked false []).decided e ≡ Some false)),
     ))
-    (more (closes Asked tt (question_closes k)) none))))
+    (more (closing Asked tt (question_closes k)) none))))
 
 -- and so do those of the short form
 pub chain_is_shortly_certified : ChainIsShortlyCertified
 chain_is_shortly_certified k = more begins (more (roots {b = 1})
     (more (ways {a = 1} {b = 2} refl (omega arith) (omega arith) refl) (more (edges {e = 0} (omega arith) refl)
-    (more (closes (Dead 1) (omega arith) (
+    (more (closing (Dead 1) (omega arith) (
       λ e. cc,
       refl,
       All-cons (λ e. status_of (linked false []).decided e ≡ Some false) 0 [] refl
           (All-nil (λ e. status_of (linked false []).decided e ≡ Some false)),
     ))
-    (more (closes (Clash 1 2) (omega arith, omega arith) (steps_close k))
-    (more (closes Asked tt (question_closes_shortly k)) none))))))
+    (more (closing (Clash 1 2) (omega arith, omega arith) (steps_close k))
+    (more (closing Asked tt (question_closes_shortly k)) none))))))

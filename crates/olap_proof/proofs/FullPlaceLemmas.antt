@@ -33,7 +33,7 @@ use Rattle.olap_trail.specs.Decisions.{Decided, Decision, status_in}
 use Rattle.olap_proof.specs.declared.forms.Form.{Form}
 use Rattle.olap_proof.specs.declared.forms.Form.TheVariants.{Long, Short}
 use Rattle.olap_proof.specs.FullPlaces.{IsFull}
-use Rattle.olap_proof.specs.Lines.{IsUnmetAt}
+use Rattle.olap_proof.specs.Closing.{IsUnmetAt}
 use Rattle.olap_proof.specs.Places.{Naming, Place, index_of, is_known, is_top, knowledge, leading_edges, leading_graph, name_of, possible_graph, truth_of, truth_of_edge, truth_of_name, truth_of_reach}
 use Rattle.olap_proof.proofs.AgreeingLemmas.{walk_present, wider}
 use Rattle.olap_proof.proofs.ToldLemmas.{IsTold, formula_told, truth_told, unmet_listed}

@@ -15,6 +15,7 @@ mod CycleLemmas
 mod DrawnLemmas
 mod EdgesOutLemmas
 mod UnmetLemmas
+mod ReasonLemmas
 mod OneLineLemmas
 mod BranchLemmas
 mod WithinLemmas

@@ -10,7 +10,8 @@ use Rattle.olap_ast.specs.Schema.{Schema}
 use Rattle.olap_graph.specs.Lookups.{edge_at, name_of_category}
 use Rattle.olap_proof.specs.declared.lines.Word.{Word}
 use Rattle.olap_proof.specs.declared.lines.Word.TheVariants as word
-use Rattle.olap_proof.specs.Lines.{IsAbout, Line, Line.Asked, Line.Clash, Line.Cycle, Line.Dead, Line.EdgeOrNot, Line.Loose, Line.NameOf, Line.Shortcut, Line.Unmet, Line.Unreached, Line.WayOrNot, edge_words, line_text, way_words}
+use Rattle.olap_proof.specs.Lines.{Line, Line.Asked, Line.Clash, Line.Cycle, Line.Dead, Line.EdgeOrNot, Line.Loose, Line.NameOf, Line.Shortcut, Line.Unmet, Line.Unreached, Line.WayOrNot, edge_words, line_text, way_words}
+use Rattle.olap_proof.specs.Closing.{IsAbout}
 use Rattle.olap_proof.specs.Reading.{first_of, rest_of, word_text}
 use Rattle.olap_proof.proofs.LineLemmas.{edge_there, name_plain, names_differ, pair_once, unparted}
 use Rattle.olap_proof.proofs.ReadingLemmas.{joined_once, line_joined, word_plain, words_differ}

@@ -22,7 +22,8 @@ use Rattle.olap_ast.specs.Schema.{Schema}
 use Rattle.olap_graph.specs.Lookups.{name_of_category, names_of}
 use Rattle.olap_proof.specs.declared.forms.Form.{Form}
 use Rattle.olap_proof.specs.declared.forms.Form.TheVariants.{Long, Short}
-use Rattle.olap_proof.specs.Lines.{IsAbout, Line, Line.Asked, Line.Clash, Line.Cycle, Line.Dead, Line.EdgeOrNot, Line.Loose, Line.NameOf, Line.Shortcut, Line.Unmet, Line.Unreached, Line.WayOrNot, line_text, way_words, words}
+use Rattle.olap_proof.specs.Lines.{Line, Line.Asked, Line.Clash, Line.Cycle, Line.Dead, Line.EdgeOrNot, Line.Loose, Line.NameOf, Line.Shortcut, Line.Unmet, Line.Unreached, Line.WayOrNot, line_text, way_words, words}
+use Rattle.olap_proof.specs.Closing.{IsAbout}
 use Rattle.olap_proof.specs.Certificates.{Open, Open.At, Open.Bottom, Open.Head, Steps, head_text}
 use Rattle.olap_proof.proofs.DoingLemmas.{step_does}
 use Rattle.olap_proof.proofs.LineLemmas.{name_plain}

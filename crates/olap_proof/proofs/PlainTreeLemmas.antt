@@ -24,13 +24,15 @@ use Rattle.olap_ast.proofs.Shape.{is_same, list_any_is}
 use Rattle.olap_ast.proofs.Summing.{summarizable_exactly}
 use Rattle.olap_trail.specs.Decisions.{AreDecisions, Decision, status_in}
 use Rattle.olap_proof.specs.declared.forms.Form.{Form}
-use Rattle.olap_proof.specs.Certificates.{IsCertificate, Open, Open.At, Open.Bottom, Runs, Runs.more, Runs.none, Steps.begins, Steps.closes, Steps.edges, Steps.names, Steps.roots, bottom_text, bottoms_of, head_text, indexes_of, start, with_edge, with_name}
+use Rattle.olap_proof.specs.Certificates.{IsCertificate, Open, Open.At, Open.Bottom, Runs, Runs.more, Runs.none, Steps.begins, Steps.edges, Steps.names, Steps.roots, bottom_text, bottoms_of, head_text, indexes_of, start, with_edge, with_name}
 use Rattle.olap_proof.specs.Existing.{CertificatesExistExactlyWhereSummarizable}
 use Rattle.olap_proof.specs.FullPlaces.{IsFull}
-use Rattle.olap_proof.specs.Lines.{Closes, IsAbout, Line, Line.EdgeOrNot, Line.NameOf, line_text}
+use Rattle.olap_proof.specs.Lines.{Line, Line.EdgeOrNot, Line.NameOf, line_text}
+use Rattle.olap_proof.specs.Closing.{Closes, IsAbout}
 use Rattle.olap_proof.specs.Places.{Naming, Place, index_of}
 use Rattle.olap_proof.proofs.CertificateLemmas.{certificates_are_right}
 use Rattle.olap_proof.proofs.ClosingLemmas.{full_places_close}
+use Rattle.olap_proof.proofs.ReasonLemmas.{closing}
 
 -- ---- decisions on edges
 
@@ -115,7 +117,7 @@ module _ (m : Form) (s : Schema) (q : Formula) (k : Candidates) where
   HasTree p = (rest : List Open) → Ends rest → Ends (At p ∷ rest)
 
   pub leaf_tree : (p : Place) (l : Line) → IsAbout s l → Closes m s q k p l → HasTree p
-  leaf_tree p l a h rest e = (line_text s.graph l ∷ e.0, more (closes l a h) e.1)
+  leaf_tree p l a h rest e = (line_text s.graph l ∷ e.0, more (closing l a h) e.1)
 
   pub edge_tree : (p : Place) (e : ℕ) → e < length s.graph.edges → status_in p.decided.decisions e ≡ None
       → HasTree (with_edge p e false) → HasTree (with_edge p e true) → HasTree p

@@ -9,7 +9,8 @@ use Rattle.olap_proof.specs.declared.forms.Form.{Form}
 use Rattle.olap_proof.specs.declared.forms.Form.TheVariants.{Long, Short}
 use Rattle.olap_trail.specs.Decisions.{status_of}
 use Rattle.olap_proof.specs.Places.{Place, index_of}
-use Rattle.olap_proof.specs.Lines.{Closes, IsAbout, Line, Line.Asked, Line.Clash, Line.Cycle, Line.Dead, Line.EdgeOrNot, Line.Loose, Line.NameOf, Line.Shortcut, Line.Unmet, Line.Unreached, Line.WayOrNot, line_text}
+use Rattle.olap_proof.specs.Lines.{Line, Line.Asked, Line.Clash, Line.Cycle, Line.Dead, Line.EdgeOrNot, Line.Loose, Line.NameOf, Line.Shortcut, Line.Unmet, Line.Unreached, Line.WayOrNot, line_text}
+use Rattle.olap_proof.specs.Closing.{Closes, IsAbout}
 use Rattle.olap_proof.specs.Certificates.{IsCertificate, Open, Open.At, Open.Bottom, Open.Head, Runs, bottom_text, head_text, indexes_of, start, with_edge, with_name}
 use Rattle.olap_proof.specs.Examples.{EdgesAreDecidedOnce, LinesAreSpelledExactly, NamesAreDecidedOnce, TheRootIsNotLoose, chain, city_not_by_store}
 use Rattle.olap_proof.proofs.StepLemmas.{AtStep, AtStep.by_edge, AtStep.by_name, AtStep.by_reason, AtStep.by_way, FirstStep, FirstStep.first, first_step, step_at, step_bottom, step_head}

@@ -16,8 +16,8 @@ use Rattle.olap_trail.specs.Decisions.{AreDecisions, Decided, Decision, present_
 use Rattle.olap_trail.specs.Trails.{decision_of, decisions_of}
 use Rattle.olap_trail.specs.declared.decisions.Decision.{Decision as OneDecision}
 use Rattle.olap_proof.specs.KeptWays.{leading_way}
-use Rattle.olap_proof.specs.Places.{Place, Way, edge_of_way, is_possible, leading_graph, possible_graph}
-use Rattle.olap_proof.specs.Seen.{LeadsHere, SeenDecisions, SeenPossible, decision_at}
+use Rattle.olap_proof.specs.Places.{Place, Way, edge_of_way, leading_graph, possible_graph}
+use Rattle.olap_proof.specs.Seen.{is_possible, LeadsHere, SeenDecisions, SeenPossible, decision_at}
 use Rattle.olap_proof.proofs.KeptWayLemmas.{whole}
 
 -- what a list of one has is that one

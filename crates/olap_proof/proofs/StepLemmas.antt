@@ -13,8 +13,10 @@ use Rattle.olap_trail.specs.Decisions.{status_of}
 use Rattle.olap_proof.specs.declared.forms.Form.{Form}
 use Rattle.olap_proof.specs.declared.forms.Form.TheVariants.{Short}
 use Rattle.olap_proof.specs.Places.{Place, index_of, way_of}
-use Rattle.olap_proof.specs.Lines.{Closes, IsAbout, Line, Line.EdgeOrNot, Line.NameOf, Line.WayOrNot, line_text}
+use Rattle.olap_proof.specs.Lines.{Line, Line.EdgeOrNot, Line.NameOf, Line.WayOrNot, line_text}
+use Rattle.olap_proof.specs.Closing.{Closes, IsAbout}
 use Rattle.olap_proof.specs.Certificates.{Open, Open.At, Open.Bottom, Open.Head, Runs, Runs.more, Runs.none, Steps, Steps.begins, Steps.closes, Steps.edges, Steps.names, Steps.roots, Steps.ways, bottom_text, bottoms_of, head_text, indexes_of, start, with_edge, with_name, with_way}
+use Rattle.olap_proof.proofs.ReasonLemmas.{about_of, closes_of}
 
 -- a line splits a place, or closes it
 pub data AtStep (f : Form) (s : Schema) (q : Formula) (k : Candidates) (line : List ℕ) (p : Place) (new : List Open)
@@ -60,8 +62,9 @@ step_at f s q k (names {p = x} {c = c} l u) p e =
 step_at f s q k (ways {p = x} {a = a} {b = b} o i j u) p e =
     subst (λ y. AtStep f s q k (line_text s.graph (WayOrNot a b)) y
     (At (with_way x a b false) ∷ At (with_way x a b true) ∷ [])) (ap (place_in s) e) (by_way a b refl o i j u refl)
-step_at f s q k (closes {p = x} l a h) p e =
-    subst (λ y. AtStep f s q k (line_text s.graph l) y []) (ap (place_in s) e) (by_reason l refl a h refl)
+step_at f s q k (closes {p = x} l h) p e =
+    subst (λ y. AtStep f s q k (line_text s.graph l) y []) (ap (place_in s) e)
+    (by_reason l refl (about_of f s q k x l h) (closes_of f s q k x l h) refl)
 
 -- the first line is the form's
 pub step_head : (f : Form) (s : Schema) (q : Formula) (k : Candidates) {line : List ℕ} {o : Open} {new : List Open}
@@ -71,7 +74,7 @@ step_head f s q k (roots {b = b}) e = absurd (cc)
 step_head f s q k (edges {p = x} {e = i} l u) e = absurd (cc)
 step_head f s q k (names {p = x} {c = c} l u) e = absurd (cc)
 step_head f s q k (ways {p = x} {a = a} {b = b} o i j u) e = absurd (cc)
-step_head f s q k (closes {p = x} l a h) e = absurd (cc)
+step_head f s q k (closes {p = x} l h) e = absurd (cc)
 
 -- above a tree the bottom category is named
 pub step_bottom : (f : Form) (s : Schema) (q : Formula) (k : Candidates) {line : List ℕ} {o : Open} {new : List Open}
@@ -84,7 +87,7 @@ step_bottom f s q k (roots {b = x}) b e =
 step_bottom f s q k (edges {p = x} {e = i} l u) b e = absurd (cc)
 step_bottom f s q k (names {p = x} {c = c} l u) b e = absurd (cc)
 step_bottom f s q k (ways {p = x} {a = a} {b = y} o i j u) b e = absurd (cc)
-step_bottom f s q k (closes {p = x} l a h) b e = absurd (cc)
+step_bottom f s q k (closes {p = x} l h) b e = absurd (cc)
 
 -- the first of some lines does something with what is open first
 pub data FirstStep (f : Form) (s : Schema) (q : Formula) (k : Candidates) (line : List ℕ) (lines : List (List ℕ))

@@ -24,8 +24,9 @@ use Rattle.olap_base.proofs.ListLemmas.{Contains-nil, Contains-range}
 use Rattle.olap_names.specs.Names.{Named, candidates_of}
 use Rattle.olap_trail.specs.Decisions.{Decision, status_of}
 use Rattle.olap_proof.specs.declared.forms.Form.{Form}
-use Rattle.olap_proof.specs.Certificates.{Open, Open.At, Open.Bottom, Runs, Runs.more, Steps.closes, Steps.edges, Steps.names, Steps.roots, bottom_text, indexes_of, lines_text, start, with_edge, with_name}
-use Rattle.olap_proof.specs.Lines.{Closes, IsAbout, Line, Line.EdgeOrNot, Line.NameOf, line_text}
+use Rattle.olap_proof.specs.Certificates.{Open, Open.At, Open.Bottom, Runs, Runs.more, Steps.edges, Steps.names, Steps.roots, bottom_text, indexes_of, lines_text, start, with_edge, with_name}
+use Rattle.olap_proof.specs.Lines.{Line, Line.EdgeOrNot, Line.NameOf, line_text}
+use Rattle.olap_proof.specs.Closing.{Closes, IsAbout}
 use Rattle.olap_proof.specs.Places.{Naming, Place, index_of}
 use Rattle.olap_proof.specs.Trees.{Adds, Close, IsPlaceOf}
 use Rattle.olap_proof.specs.Within.{IsWithin}
@@ -33,6 +34,7 @@ use Rattle.olap_proof.proofs.AgreeingLemmas.{index_some}
 use Rattle.olap_proof.proofs.ClosingLemmas.{full_places_close}
 use Rattle.olap_proof.proofs.PlainTreeLemmas.{decisions_push, index_new, index_other, status_new, status_other}
 use Rattle.olap_proof.proofs.TallyLemmas.{tally, tally_more}
+use Rattle.olap_proof.proofs.ReasonLemmas.{closing}
 
 -- ---- lines
 
@@ -79,7 +81,7 @@ module _ (m : Form) (s : Schema) (q : Formula) (k : Candidates) where
   adds_leaf p l a b i h e = (
     line_text s.graph l ∷ [],
     in_front (line_text s.graph l) [] a b b e (sym (append-nil b)),
-    λ after rest end r. more (closes l i h) r,
+    λ after rest end r. more (closing l i h) r,
   )
 
   pub adds_edge : (p : Place) (e : ℕ) (a b c d : List ℕ) → e < length s.graph.edges → status_of p.decided e ≡ None

@@ -8,7 +8,7 @@
 --     completes      all that is known is so
 --     closed_none    none agrees where a line closes
 use Rattle.std.proofs.Common.{◌≡◌, ◌≢◌, ℕ, ℤ, zero, suc, ◌<◌, ◌⊎◌, List, [], ◌∷◌, length, get_or, map, Bool, true, false, cond, Option, Some, None, refl, sym, subst, ◌∙◌, inl, inr, arith}
-use Rattle.std.specs.Prelude.{Contains, ◌==◌, ◌&&◌, ◌||◌, All, filter}
+use Rattle.std.specs.Prelude.{Contains, ◌==◌, ◌&&◌, ◌||◌, All, filter, if◌then◌else◌}
 use Rattle.std.specs.List.{list_any}
 use Rattle.std.specs.Str.{bytes_eq}
 use Rattle.std.proofs.lemmas.Slice.Eq.{bytes_eq-Decides}
@@ -24,6 +24,7 @@ use Rattle.olap_ast.specs.Formula.{Formula, Holds, IsNumbered}
 use Rattle.olap_ast.specs.Frozen.{Candidates, Frozen, IsFrozen, instance_of, is_present, name_in}
 use Rattle.olap_ast.specs.Schema.{Constraint, Schema}
 use Rattle.olap_ast.proofs.Shape.{either_true, list_any_is, same_is}
+use Rattle.olap_ast.specs.ThreeValues.{known}
 use Rattle.olap_ast.specs.declared.three_values.Truth3.TheVariants.{No, Yes, Unknown}
 use Rattle.olap_eval.specs.Partial.{Agrees as Tells, Completes, value_at}
 use Rattle.olap_eval.specs.Shapes.{HasNameThere, HasNumberThere, ReachesThere}
@@ -36,8 +37,9 @@ use Rattle.olap_numerals.specs.Comparing.{Op, is_numbered}
 use Rattle.olap_trail.specs.Decisions.{Decided, Decision, HoldsCycle, HoldsShortcut, present_edges, present_graph, status_of}
 use Rattle.olap_proof.specs.declared.forms.Form.{Form}
 use Rattle.olap_proof.specs.declared.forms.Form.TheVariants.{Long, Short}
-use Rattle.olap_proof.specs.Places.{Naming, Place, Way, edge_of_way, is_known, is_top, knowledge, leading_edges, leading_graph, leads, name_of, possible_graph, truth_of_name, truth_of_reach, truth_of_way, way_of}
-use Rattle.olap_proof.specs.Lines.{Closes, IsClash, IsDead, IsLoose, IsUnmet, IsUnmetAt, IsUnreached, Line, Line.Asked, Line.Clash, Line.Cycle, Line.Dead, Line.EdgeOrNot, Line.Loose, Line.NameOf, Line.Shortcut, Line.Unmet, Line.Unreached, Line.WayOrNot}
+use Rattle.olap_proof.specs.Places.{Naming, Place, Way, edge_of_way, is_known, is_top, knowledge, leading_edges, leading_graph, leads, name_of, possible_graph, truth_of_name, truth_of_reach, way_of}
+use Rattle.olap_proof.specs.Lines.{IsClash, IsDead, IsLoose, IsUnmet, IsUnreached, Line, Line.Asked, Line.Clash, Line.Cycle, Line.Dead, Line.EdgeOrNot, Line.Loose, Line.NameOf, Line.Shortcut, Line.Unmet, Line.Unreached, Line.WayOrNot}
+use Rattle.olap_proof.specs.Closing.{Closes, IsUnmetAt}
 use Rattle.olap_proof.proofs.AgreeingLemmas as agreeing
 use Rattle.olap_proof.proofs.CycleLemmas.{cyclic_is, shortened_is}
 use Rattle.olap_proof.proofs.AgreeingLemmas.{Like, edge_from, edges_in, wider, wider_climb}
@@ -223,8 +225,10 @@ module _ (form : Form) (s : Schema) (q : Formula) (r : ℕ) (k : Candidates) (f 
           (reaches_from_Steps (wider chosen_possible (leads_from c e h).1)) in
           let z : true ≡ false = sym v ∙ x in cc
 
-      go : (o : Option Bool) → way_of ws c e ≡ o
-          → Tells (truth_of_way form p c e o) (ReachesThere inst present place c e)
+      go : (o : Option Bool) → way_of ws c e ≡ o → Tells (elim o [
+        | Some there ↦ known there
+        | None ↦ if leads form p c e then Yes else (if category_reaches (possible_graph t) c e then Unknown else No)
+      ]) (ReachesThere inst present place c e)
       go (Some true) h = there_from c e (way_there c e h)
       go (Some false) h = λ w. way_absent c e h (leads_from c e w)
       go None h = free (leads form p c e) refl (category_reaches (possible_graph t) c e) refl

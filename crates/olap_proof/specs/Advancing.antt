@@ -13,7 +13,7 @@ use Rattle.olap_proof.specs.Asking.{names_in, question_in, schema_in}
 use Rattle.olap_proof.specs.Branches.{IsBranch, first_of, left_open}
 use Rattle.olap_proof.specs.Certificates.{Open, Open.At, Steps}
 use Rattle.olap_proof.specs.Doing.{Does, leaves_open}
-use Rattle.olap_proof.specs.Lines.{IsAbout}
+use Rattle.olap_proof.specs.Closing.{IsAbout}
 use Rattle.olap_proof.specs.Places.{Place}
 use Rattle.olap_proof.specs.Reading.{meaning}
 

@@ -16,7 +16,8 @@ use Rattle.olap_trail.specs.Decisions.{status_of}
 use Rattle.olap_proof.specs.declared.asking.Asked.{Asked}
 use Rattle.olap_proof.specs.declared.forms.Form.{Form}
 use Rattle.olap_proof.specs.declared.lines.Line as program
-use Rattle.olap_proof.specs.Lines.{Closes, IsAbout, Line}
+use Rattle.olap_proof.specs.Lines.{Line}
+use Rattle.olap_proof.specs.Closing.{Closes, IsAbout}
 use Rattle.olap_proof.specs.Places.{Place, index_of}
 use Rattle.olap_proof.specs.Reading.{meaning}
 

@@ -19,7 +19,7 @@ use Rattle.olap_trail.specs.Decisions.{status_of}
 use Rattle.olap_proof.specs.declared.forms.Form.{Form}
 use Rattle.olap_proof.specs.declared.forms.Form.TheVariants.{Long, Short}
 use Rattle.olap_proof.specs.Places.{Place, index_of, way_of}
-use Rattle.olap_proof.specs.Lines.{Closes, IsAbout, Line, Line.EdgeOrNot, Line.NameOf, Line.WayOrNot, line_text, words}
+use Rattle.olap_proof.specs.Lines.{IsReason, Line, Line.EdgeOrNot, Line.NameOf, Line.WayOrNot, line_text, words}
 
 -- ---- the first lines
 
@@ -50,11 +50,9 @@ start g b = record { decided = record { graph = g; root = b; decisions = [] }; n
 
 -- one decision more, on an edge
 abbrev pub with_edge : Place → ℕ → Bool → Place
-with_edge p e b = record p {
-  decided = record p.decided {
-    decisions = p.decided.decisions ++ (record { edge = e; present = b }) ∷ [];
-  };
-}
+with_edge p e b =
+    let decisions = p.decided.decisions ++ (record { edge = e; present = b }) ∷ [] in
+    record p { decided = record p.decided { decisions = decisions } }
 
 -- on a name
 abbrev pub with_name : Place → ℕ → ℕ → Place
@@ -81,7 +79,7 @@ pub data Steps (f : Form) (s : Schema) (q : Formula) (k : Candidates) : List ℕ
   ways : {p : Place} {a b : ℕ} → f ≡ Short → IsCategory s.graph a → IsCategory s.graph b → way_of p.ways a b ≡ None
       → Steps f s q k (line_text s.graph (WayOrNot a b)) (At p)
       (At (with_way p a b false) ∷ At (with_way p a b true) ∷ [])
-  closes : {p : Place} (l : Line) → IsAbout s l → Closes f s q k p l → Steps f s q k (line_text s.graph l) (At p) []
+  closes : {p : Place} (l : Line) → IsReason f s q k p l → Steps f s q k (line_text s.graph l) (At p) []
 
 -- lines one after another
 pub data Runs (f : Form) (s : Schema) (q : Formula) (k : Candidates) : List (List ℕ) → List Open → List Open → Type 0
@@ -102,7 +100,8 @@ lines_text lines = flat_map (λ line. line ++ line_feed ∷ []) lines
 
 -- the text is a certificate's lines, each ended by an LF
 abbrev pub IsCertificateText : Form → Schema → Formula → Candidates → List ℕ → Type 0
-IsCertificateText f s q k text = (lines : List (List ℕ)) × (text ≡ lines_text lines) × IsCertificate f s q k lines
+IsCertificateText f s q k text =
+    (lines : List (List ℕ)) × (text ≡ lines_text lines) × Runs f s q k lines (Head ∷ []) []
 
 -- so many lines run; then the text ends while something is open, or what stands there is no line that does something
 pub record IsFirstWrong (f : Form) (s : Schema) (q : Formula) (k : Candidates) (text : List ℕ) (count : ℕ) : Type 0

@@ -10,7 +10,8 @@ use Rattle.olap_names.specs.Names.{candidates_of}
 use Rattle.olap_proof.specs.declared.lines.Line as program
 use Rattle.olap_proof.specs.declared.telling.Known.{Known}
 use Rattle.olap_proof.specs.DoneHere.{schema_at}
-use Rattle.olap_proof.specs.Lines.{Closes, IsAbout, Line}
+use Rattle.olap_proof.specs.Lines.{Line}
+use Rattle.olap_proof.specs.Closing.{Closes, IsAbout}
 use Rattle.olap_proof.specs.Reading.{meaning}
 
 -- the line closes it

@@ -9,7 +9,8 @@ use Rattle.olap_trail.specs.Decisions.{status_of}
 use Rattle.olap_proof.specs.declared.forms.Form.{Form}
 use Rattle.olap_proof.specs.declared.forms.Form.TheVariants.{Short}
 use Rattle.olap_proof.specs.Places.{Place, index_of, way_of}
-use Rattle.olap_proof.specs.Lines.{Closes, Line, Line.Asked, Line.Clash, Line.Cycle, Line.Dead, Line.EdgeOrNot, Line.Loose, Line.NameOf, Line.Shortcut, Line.Unmet, Line.Unreached, Line.WayOrNot}
+use Rattle.olap_proof.specs.Lines.{Line, Line.Asked, Line.Clash, Line.Cycle, Line.Dead, Line.EdgeOrNot, Line.Loose, Line.NameOf, Line.Shortcut, Line.Unmet, Line.Unreached, Line.WayOrNot}
+use Rattle.olap_proof.specs.Closing.{Closes}
 use Rattle.olap_proof.specs.Certificates.{Open, Open.At, indexes_of, with_edge, with_name, with_way}
 
 -- it decides what isn't decided, or closes the place

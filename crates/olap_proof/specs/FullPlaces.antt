@@ -8,7 +8,8 @@ use Rattle.olap_ast.specs.Frozen.{AreCandidates, Candidates, Frozen, IsFrozen}
 use Rattle.olap_ast.specs.Schema.{Schema}
 use Rattle.olap_trail.specs.Decisions.{AreDecisions, status_of}
 use Rattle.olap_proof.specs.declared.forms.Form.{Form}
-use Rattle.olap_proof.specs.Lines.{Closes, IsAbout, Line}
+use Rattle.olap_proof.specs.Lines.{Line}
+use Rattle.olap_proof.specs.Closing.{Closes, IsAbout}
 use Rattle.olap_proof.specs.Places.{Place, index_of}
 
 -- no edge is decided twice, each edge is decided, and the name of each declared category; no way is

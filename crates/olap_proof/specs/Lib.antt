@@ -6,6 +6,7 @@ pub mod Examples
 pub mod FullPlaces
 pub mod Existing
 -- How the program reads a text.
+pub mod Closing
 pub mod Doing
 pub mod Reading
 pub mod KeptParts

@@ -1,8 +1,7 @@
 -- The lines of a certificate's trees: what each says, and when one closes its place.
 --     Line         a split of what is still open, or a reason why nothing is
 --     line_text    its bytes, without the LF
---     IsAbout      what it names is in the schema
---     Closes       no frozen dimension has what is decided: the line says why
+--     IsReason     no frozen dimension has what is decided: the line says why
 use Rattle.std.specs.Prelude.{◌≡◌, ◌≢◌, ◌<◌, ◌⊎◌, ◌++◌, ℕ, suc, List, ◌∷◌, All, true, false, MatchOption, Some, IsTrue, codes, length, slice_get}
 use Rattle.std.specs.Fmt.{decimal}
 use Rattle.olap_base.specs.Bytes.{space}
@@ -61,18 +60,6 @@ line_text g (Clash a b) = words (codes "steps") (way_words g a b)
 line_text g (Unmet n) = words (codes "constraint") (decimal (suc n))
 line_text g Asked = codes "question"
 
--- what the line names is in the schema
-abbrev pub IsAbout : Schema → Line → Type 0
-IsAbout s (EdgeOrNot e) = e < length s.graph.edges
-IsAbout s (NameOf c) = IsCategory s.graph c
-IsAbout s (WayOrNot a b) = IsCategory s.graph a × IsCategory s.graph b
-IsAbout s (Dead c) = IsCategory s.graph c
-IsAbout s (Loose e) = e < length s.graph.edges
-IsAbout s (Unreached c) = IsCategory s.graph c
-IsAbout s (Clash a b) = IsCategory s.graph a × IsCategory s.graph b
-IsAbout s (Unmet n) = n < length s.constraints
-IsAbout s l = Unit {0}
-
 -- ---- the reasons
 
 -- a walk of edges leads back to where it began
@@ -110,18 +97,14 @@ IsClash f g p a b =
 abbrev pub IsUnmet : Form → Candidates → Place → Constraint → Type 0
 IsUnmet f k p c = IsTrue (is_known p c.root) × (value_at (knowledge f k p) c.root c.formula ≡ No)
 
--- the constraint at this place of the list
-abbrev pub IsUnmetAt : Form → List Constraint → ℕ → Candidates → Place → Type 0
-IsUnmetAt f cs n k p = MatchOption (slice_get cs n) ⊥ (IsUnmet f k p)
-
--- no frozen dimension for the question has what is decided, for the reason that the line says
-abbrev pub Closes : Form → Schema → Formula → Candidates → Place → Line → Type 0
-Closes f s q k p (Dead c) = IsDead s.graph p c
-Closes f s q k p Cycle = IsCyclic (present_graph p.decided)
-Closes f s q k p Shortcut = IsShortened (present_graph p.decided)
-Closes f s q k p (Loose e) = (f ≡ Long) × IsLoose s.graph p e
-Closes f s q k p (Unreached c) = (f ≡ Short) × IsUnreached f p c
-Closes f s q k p (Clash a b) = (f ≡ Short) × IsClash f s.graph p a b
-Closes f s q k p (Unmet n) = IsUnmetAt f s.constraints n k p
-Closes f s q k p Asked = value_at (knowledge f k p) p.decided.root q ≡ No
-Closes f s q k p l = ⊥
+-- what the line names is in the schema, and no frozen dimension for the question has what is decided: the line says why
+abbrev pub IsReason : Form → Schema → Formula → Candidates → Place → Line → Type 0
+IsReason f s q k p (Dead c) = IsCategory s.graph c × IsDead s.graph p c
+IsReason f s q k p Cycle = IsCyclic (present_graph p.decided)
+IsReason f s q k p Shortcut = IsShortened (present_graph p.decided)
+IsReason f s q k p (Loose e) = (f ≡ Long) × (e < length s.graph.edges) × IsLoose s.graph p e
+IsReason f s q k p (Unreached c) = (f ≡ Short) × IsCategory s.graph c × IsUnreached f p c
+IsReason f s q k p (Clash a b) = (f ≡ Short) × IsCategory s.graph a × IsCategory s.graph b × IsClash f s.graph p a b
+IsReason f s q k p (Unmet n) = MatchOption (slice_get s.constraints n) ⊥ (IsUnmet f k p)
+IsReason f s q k p Asked = value_at (knowledge f k p) p.decided.root q ≡ No
+IsReason f s q k p l = ⊥

@@ -11,6 +11,7 @@ use Rattle.std.specs.Str.{bytes_eq}
 use Rattle.olap_base.specs.Graph.{Edge, Graph}
 use Rattle.olap_base.specs.Reaching.{category_reaches}
 use Rattle.olap_ast.specs.Frozen.{Candidates, is_present}
+use Rattle.olap_ast.specs.ThreeValues.{known}
 use Rattle.olap_ast.specs.declared.three_values.Truth3.{Truth3}
 use Rattle.olap_ast.specs.declared.three_values.Truth3.TheVariants.{No, Yes, Unknown}
 use Rattle.olap_eval.specs.Partial.{Knowledge}
@@ -66,15 +67,11 @@ is_known p c = is_present p.decided.root (leading_edges p) c
 
 -- ---- what reaches what
 
--- it wasn't decided that the edge is absent
-abbrev pub is_possible : Option Bool → Bool
-is_possible present = unwrap_or present true
-
 -- the graph without the edges that were decided absent
 abbrev pub possible_graph : Decided → Graph
 possible_graph d = record d.graph {
   edges = map (edge_at d.graph)
-      (filter (λ e. is_possible (status_of d e)) (range_with_len 0 (length d.graph.edges)));
+      (filter (λ e. unwrap_or (status_of d e) true) (range_with_len 0 (length d.graph.edges)));
 }
 
 -- the graph of the edges and ways that are known to be there
@@ -90,28 +87,23 @@ is_top Short b = b == 0
 abbrev pub leads : Form → Place → ℕ → ℕ → Bool
 leads f p a b = is_known p a && (is_top f b || category_reaches (leading_graph p) a b)
 
--- what a decision says
-abbrev pub truth_of : Option Bool → Truth3
-truth_of None = Unknown
-truth_of (Some false) = No
-truth_of (Some true) = Yes
-
--- what was decided; else Yes where it leads there, and No where no walk of edges that aren't absent does
-abbrev pub truth_of_way : Form → Place → ℕ → ℕ → Option Bool → Truth3
-truth_of_way f p a b (Some there) = truth_of (Some there)
-truth_of_way f p a b None = if leads f p a b then Yes
-    else (if category_reaches (possible_graph p.decided) a b then Unknown else No)
-
--- whether a has a member that reaches one of b
+-- whether a has a member that reaches one of b: what was decided; else Yes where it leads there, and No where no walk of
+-- edges that aren't absent does
 abbrev pub truth_of_reach : Form → Place → ℕ → ℕ → Truth3
-truth_of_reach f p a b = truth_of_way f p a b (way_of p.ways a b)
+truth_of_reach f p a b = elim (way_of p.ways a b) [
+  | Some there ↦ known there
+  | None ↦ if leads f p a b then Yes else (if category_reaches (possible_graph p.decided) a b then Unknown else No)
+]
 
 -- ---- edges and names
 
+-- what a decision says
+abbrev pub truth_of : Option Bool → Truth3
+truth_of present = unwrap_or (option_map known present) Unknown
+
 -- whether the edge between two categories is present, if there is one
 abbrev pub truth_of_edge : Decided → Option ℕ → Truth3
-truth_of_edge d None = No
-truth_of_edge d (Some e) = truth_of (status_of d e)
+truth_of_edge d edge = unwrap_or (option_map (λ e. truth_of (status_of d e)) edge) No
 
 -- the name that was decided; that of `All` always is
 abbrev pub name_of : Candidates → List Naming → ℕ → Option (List ℕ)

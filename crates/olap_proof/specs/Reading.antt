@@ -12,7 +12,8 @@ use Rattle.olap_proof.specs.declared.lines.Line as program
 use Rattle.olap_proof.specs.declared.lines.Line.TheVariants as variant
 use Rattle.olap_proof.specs.declared.lines.Word.{Word}
 use Rattle.olap_proof.specs.declared.lines.Word.TheVariants as word
-use Rattle.olap_proof.specs.Lines.{IsAbout, Line, Line.Asked, Line.Clash, Line.Cycle, Line.Dead, Line.EdgeOrNot, Line.Loose, Line.NameOf, Line.Shortcut, Line.Unmet, Line.Unreached, Line.WayOrNot, edge_words, line_text, way_words}
+use Rattle.olap_proof.specs.Lines.{Line, Line.Asked, Line.Clash, Line.Cycle, Line.Dead, Line.EdgeOrNot, Line.Loose, Line.NameOf, Line.Shortcut, Line.Unmet, Line.Unreached, Line.WayOrNot, edge_words, line_text, way_words}
+use Rattle.olap_proof.specs.Closing.{IsAbout}
 
 -- the definitions' line
 abbrev pub meaning : program.Line → Line

@@ -1,10 +1,11 @@
 -- The edges and ways that the program has seen, of those that it goes through in their order.
 --     AreOfGraph       ways between categories of a graph
+--     is_possible      an edge that wasn't decided absent
 --     LeadsHere        of ways, those that are there
 --     SeenDecisions    of decisions on edges, those that say present
 --     SeenPossible     of the edges of a graph, those that weren't decided absent
 --     TouchedByDecisions    the ends of those that say present
-use Rattle.std.specs.Prelude.{ℕ, Contains, List, false, slice_index_or}
+use Rattle.std.specs.Prelude.{ℕ, Bool, Contains, List, Option, false, true, slice_index_or, unwrap_or}
 use Rattle.std.specs.FinSet as set
 use Rattle.std.specs.Ordering.{nat_cmp}
 use Rattle.olap_base.specs.Graph.{Graph, IsCategory}
@@ -12,8 +13,12 @@ use Rattle.olap_graph.specs.Lookups.{edge_at}
 use Rattle.olap_trail.specs.Decisions.{Decided, status_of}
 use Rattle.olap_trail.specs.declared.decisions.Decision.{Decision}
 use Rattle.olap_proof.specs.KeptWays.{leading_way}
-use Rattle.olap_proof.specs.Places.{is_possible, Way as WayHere}
+use Rattle.olap_proof.specs.Places.{Way as WayHere}
 use Rattle.olap_proof.specs.Walking.{SeenUpTo, TouchedUpTo}
+
+-- it wasn't decided that the edge is absent
+abbrev pub is_possible : Option Bool → Bool
+is_possible present = unwrap_or present true
 
 -- a way that is there leads from c to d
 abbrev pub LeadsHere : List WayHere → ℕ → ℕ → Type 0

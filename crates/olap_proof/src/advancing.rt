@@ -51,6 +51,9 @@ fn less_atoms(f: &Formula, left: u32) -> u32 {
 /// The same of the parts of a list.
 #[cycle(atoms)]
 fn less_all(parts: &Terms, left: u32) -> u32 {
+    if left == 0 {
+        return 0;
+    }
     match parts {
         Terms::End => left,
         Terms::More(f, rest) => less_all(rest, less_atoms(f, left)),

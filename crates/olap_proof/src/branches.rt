@@ -7,7 +7,7 @@ ghost use Rattle.olap_ast.specs.Formula.{Formula as AnyFormula};
 ghost use Rattle.olap_ast.specs.Schema.{Schema};
 ghost use Rattle.olap_names.specs.Names.{Named, candidates_of};
 ghost use Rattle.olap_proof.specs.Doing.{Does, leaves_open};
-ghost use Rattle.olap_proof.specs.Lines.{IsAbout};
+ghost use Rattle.olap_proof.specs.Closing.{IsAbout};
 ghost use Rattle.olap_proof.specs.Places.{Place as Decisions};
 ghost use Rattle.olap_proof.specs.Reading.{meaning};
 ghost use Rattle.olap_proof.specs.declared.forms.Form.{Form as AnyForm};

@@ -3,7 +3,8 @@ ghost use Rattle.std.specs.Prelude.{◌≡◌, ◌<◌, ℕ, Bool, IfOk, IfSome,
 ghost use Rattle.olap_base.specs.Graph.{IsCategory};
 ghost use Rattle.olap_proof.specs.Asking.{IsAsked, IsClosing, IsOpenTo, names_in, schema_in};
 ghost use Rattle.olap_proof.specs.Certificates.{start, with_edge, with_name};
-ghost use Rattle.olap_proof.specs.Lines.{IsAbout, Line as AnyLine};
+ghost use Rattle.olap_proof.specs.Lines.{Line as AnyLine};
+ghost use Rattle.olap_proof.specs.Closing.{IsAbout};
 ghost use Rattle.olap_proof.specs.Places.{Place as Decisions, index_of, is_known};
 ghost use Rattle.olap_proof.specs.Trees.{IsPlaceOf};
 ghost use Rattle.olap_trail.specs.Decisions.{status_of};

@@ -6,7 +6,8 @@ ghost use Rattle.olap_proof.specs.DoneHere.{schema_at};
 ghost use Rattle.olap_bits.specs.Sets.{members};
 ghost use Rattle.olap_proof.specs.Places.{possible_graph};
 ghost use Rattle.olap_proof.specs.Walking.{IsWalk};
-ghost use Rattle.olap_proof.specs.Lines.{IsAbout, Line as AnyLine, Line.Asked, Line.Cycle, Line.Dead, Line.Loose, Line.Shortcut, Line.Unmet, Line.Unreached};
+ghost use Rattle.olap_proof.specs.Lines.{Line as AnyLine, Line.Asked, Line.Cycle, Line.Dead, Line.Loose, Line.Shortcut, Line.Unmet, Line.Unreached};
+ghost use Rattle.olap_proof.specs.Closing.{IsAbout};
 
 use crate::leaves::closes;
 use crate::lines::Line;

@@ -2,7 +2,7 @@
 ghost use Rattle.std.specs.Prelude.{◌<◌, ◌^◌, ◌↔◌, List, IfSome, IsNone, IsTrue, length};
 ghost use Rattle.olap_proof.specs.Certificates.{Open};
 ghost use Rattle.olap_proof.specs.DoneHere.{DoesHere, StepsHere, open_after, schema_at};
-ghost use Rattle.olap_proof.specs.Lines.{IsAbout};
+ghost use Rattle.olap_proof.specs.Closing.{IsAbout};
 ghost use Rattle.olap_proof.specs.Reading.{meaning};
 
 use crate::Form;

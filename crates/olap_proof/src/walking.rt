@@ -4,8 +4,8 @@ ghost use Rattle.olap_base.specs.Graph.{Graph as AnyGraph, HasEdge, category_cou
 ghost use Rattle.olap_base.specs.Limits.{most_categories};
 ghost use Rattle.olap_bits.specs.Sets.{members};
 ghost use Rattle.olap_graph.specs.Lookups.{edge_at};
-ghost use Rattle.olap_proof.specs.Places.{Way as OneWay, is_possible, leading_graph, possible_graph};
-ghost use Rattle.olap_proof.specs.Seen.{AreOfGraph, LeadsHere, SeenDecisions, SeenPossible, decision_at};
+ghost use Rattle.olap_proof.specs.Places.{Way as OneWay, leading_graph, possible_graph};
+ghost use Rattle.olap_proof.specs.Seen.{is_possible, AreOfGraph, LeadsHere, SeenDecisions, SeenPossible, decision_at};
 ghost use Rattle.olap_proof.specs.Walking.{Grows, IsAdded, IsAddedFrom, IsIn, IsWalk, SeenFrom};
 
 use crate::places::Place;

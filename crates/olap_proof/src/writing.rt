@@ -6,7 +6,8 @@ ghost use Rattle.olap_base.specs.Graph.{IsCategory};
 ghost use Rattle.olap_graph.specs.Lookups.{name_of_category};
 ghost use Rattle.olap_names.specs.Names.{with_graph};
 ghost use Rattle.olap_proof.specs.Certificates.{bottom_text, head_text};
-ghost use Rattle.olap_proof.specs.Lines.{IsAbout, edge_words, line_text, way_words, words};
+ghost use Rattle.olap_proof.specs.Lines.{edge_words, line_text, way_words, words};
+ghost use Rattle.olap_proof.specs.Closing.{IsAbout};
 ghost use Rattle.olap_proof.specs.Reading.{meaning};
 
 use crate::Form;

@@ -2,23 +2,25 @@
 --     IsAsked      so it is of a question
 --     all_asked    and of all that the order of whatever words comes to
 use Rattle.std.proofs.Common.{List, [], ◌∷◌, ℕ, length}
-use Rattle.std.specs.Prelude.{codes, nat_lt, unwrap_or}
+use Rattle.std.specs.Prelude.{None, Some, codes, nat_lt, unwrap_or}
 use Rattle.std.specs.Option.{option_or}
+use Rattle.std.specs.Str.{bytes_eq}
 use Rattle.olap_base.specs.Limits.{most_words}
 use Rattle.olap_cubes.specs.Commands as cubes
 use Rattle.olap_cubes.specs.Existing.{IsAsked as IsCubeAsked}
 use Rattle.olap_cubes.proofs.AskedLemmas.{asked_named as cubes_asked}
 use Rattle.olap_order.specs.Families.{asking}
+use Rattle.olap_order.specs.Order.{Told}
 use Rattle.olap_order.specs.Outputs.{line}
-use Rattle.olap_order.specs.declared.status.Status.TheVariants.{Usage}
-use Rattle.olap_order.proofs.Coming.{Comes, MayCome, either, may_ask, may_or, or_else, told, whichever}
+use Rattle.olap_order.specs.declared.status.Status.TheVariants.{Usage, Yes}
+use Rattle.olap_order.proofs.Coming.{Comes, MayCome, an_order, either, may_ask, may_either, may_or, no_order, or_else, told, whichever}
 use Rattle.olap_plans.specs.Commands as plans
 use Rattle.olap_plans.specs.Existing.{IsAsked as IsPlanAsked}
 use Rattle.olap_plans.proofs.AskedLemmas.{asked_named as plans_asked}
 use Rattle.olap_reasoning.specs.Commands as reasoning
 use Rattle.olap_reasoning.specs.Existing.{IsAsked as IsReasoningAsked}
 use Rattle.olap_reasoning.proofs.AskedLemmas.{asked_named as reasoning_asked}
-use Rattle.olap_run.specs.Commands.{order_named, order_of, usage}
+use Rattle.olap_run.specs.Commands.{order_named, order_of, usage, version, version_told}
 use Rattle.olap_run.specs.Questions.{Question, OfReasoning, OfTotals, OfPlans, OfVerdicts, OfCubes}
 use Rattle.olap_schema_text.specs.Laws.{ReadQuestionsAreValid, ReadSchemasAreReadable}
 use Rattle.olap_totals.specs.Commands as totals
@@ -33,6 +35,12 @@ IsAsked (OfTotals q) = Unit {0}
 IsAsked (OfPlans q) = IsPlanAsked q
 IsAsked (OfVerdicts q) = IsVerdictAsked q
 IsAsked (OfCubes q) = IsCubeAsked q
+
+-- that of `version` comes to none
+version_asked : (name : List ℕ) (words : List (List ℕ)) → MayCome IsAsked (version_told name words)
+version_asked name [] = may_either IsAsked (bytes_eq name (codes "version")) (Some (Told Yes (line version))) None
+    (an_order IsAsked (Told Yes (line version)) (told IsAsked Yes (line version))) (no_order IsAsked)
+version_asked name (word ∷ words) = no_order IsAsked
 
 module _ (readable : ReadSchemasAreReadable) (questions : ReadQuestionsAreValid) where
   -- the order of a command comes to such questions
@@ -61,7 +69,9 @@ module _ (readable : ReadSchemasAreReadable) (questions : ReadQuestionsAreValid)
   pub all_asked : (words : List (List ℕ)) → Comes IsAsked (order_of words)
   all_asked [] = told IsAsked Usage (line (codes "usage"))
   all_asked (name ∷ words) =
-      either IsAsked (nat_lt most_words (length (name ∷ words))) usage (unwrap_or (order_named name words) usage)
+      let order = option_or (version_told name words) (order_named name words) in
+      either IsAsked (nat_lt most_words (length (name ∷ words))) usage (unwrap_or order usage)
       (told IsAsked Usage (line (codes "usage")))
-      (or_else IsAsked (order_named name words) usage (named_asked name words)
-      (told IsAsked Usage (line (codes "usage"))))
+      (or_else IsAsked order usage
+      (may_or IsAsked (version_told name words) (order_named name words) (version_asked name words)
+      (named_asked name words)) (told IsAsked Usage (line (codes "usage"))))

@@ -1,5 +1,6 @@
 -- Lemmas.
 mod LongWords
+mod VersionLemmas
 mod AskedLemmas
 mod OneOutcome
 mod SomeOutcome

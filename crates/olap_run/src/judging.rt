@@ -1,10 +1,11 @@
 // What comes of the words and the files, before anything is written.
-ghost use Rattle.std.specs.Prelude.{◌≡◌, IfOk, IsErrOf, IsNone, IsSome, MatchOption, codes, ⊤};
+ghost use Rattle.std.specs.Prelude.{◌≡◌, IfOk, IsErrOf, IsNone, IsSome, MatchOption, None, Some, codes, ⊤};
 ghost use Rattle.olap_order.specs.Families.{FamilyJudged, IsNoUsage};
-ghost use Rattle.olap_order.specs.Judged.{GivesTold, Judged, ReadCause, Replied};
+ghost use Rattle.olap_order.specs.Judged.{GivesTold, Judged, ReadCause, Replied, Replies};
+ghost use Rattle.olap_order.specs.Order.{Told};
 ghost use Rattle.olap_order.specs.Outputs.{line};
 ghost use Rattle.olap_order.specs.Words.{texts};
-ghost use Rattle.olap_run.specs.Commands.{order_named, order_of, usage};
+ghost use Rattle.olap_run.specs.Commands.{order_named, order_of, usage, version, version_told};
 ghost use Rattle.olap_run.specs.Outcome.{IsAnswered};
 ghost use Rattle.olap_run.specs.Questions.{IsAnswer};
 
@@ -38,6 +39,31 @@ fn named<L: Library>(
     olap_cubes::judge(alloc, name, words, lib)
 }
 
+/// The program and its version, as the change log has it.
+fn version(alloc: Global) -> Result<Reply, Stop>
+    ensures { Replies IsAnswer (Told Status.Yes (line version)) result }
+{
+    Ok(Reply {
+        status: Status::Yes,
+        bytes: Vec::from_slice(alloc, b"olap 0.2.0\n")?,
+    })
+}
+
+/// The reply to a word that asks about the program itself, with no word after it.
+fn told(alloc: Global, name: &str, words: &[String]) -> Option<Result<Reply, Stop>>
+    ensures none { IsNone result → version_told name.now (texts words.now) ≡ None }
+    ensures some { MatchOption result ⊤ (λ r. (version_told name.now (texts words.now) ≡ Some (Told Status.Yes (line version)))
+        × Replies IsAnswer (Told Status.Yes (line version)) r) }
+{
+    match name {
+        "version" => match words {
+            [] => Some(version(alloc)),
+            _ => None,
+        },
+        _ => None,
+    }
+}
+
 /// The reply of the command that the words are, if they are one.
 fn commanded<L: Library>(
     alloc: Global,
@@ -54,6 +80,9 @@ fn commanded<L: Library>(
         return None;
     }
     let (name, words) = words.split_first()?;
+    if let Some(result) = told(alloc, name.as_str(), words) {
+        return Some(result);
+    }
     named(alloc, name.as_str(), words, lib)
 }
 

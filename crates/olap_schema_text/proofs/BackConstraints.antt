@@ -18,7 +18,8 @@ use Rattle.olap_grammar.specs.Machine.{the_formula}
 use Rattle.olap_grammar.specs.Words.{atoms_of}
 use Rattle.olap_grammar.proofs.ReaderLemmas.{formula_is_found}
 use Rattle.olap_grammar.proofs.Sound.{tighter}
-use Rattle.olap_schema_text.specs.Judging.{Above, constraint_read, form_read, has_too_many_nodes}
+use Rattle.olap_schema_text.specs.Judging.{Above, constraint_read, form_read}
+use Rattle.olap_schema_text.specs.Parts.{has_too_many_nodes}
 use Rattle.olap_grammar.specs.declared.tokens.Version.TheVariants as version
 use Rattle.olap_grammar.specs.Nodes.{nodes_of}
 use Rattle.olap_schema_text.specs.Tokens.{is_bad_number, is_long}

@@ -6,7 +6,8 @@ use Rattle.olap_graph.specs.Lookups.{name_of_category}
 use Rattle.olap_ast.specs.Formula.{equalities}
 use Rattle.olap_ast.specs.Schema.{Constraint}
 use Rattle.olap_ast.specs.Valid.{IsFormulaAt}
-use Rattle.olap_grammar.specs.Cutting.{AreWordBytes, is_word_byte, IsCut, blank, end, marked, word}
+use Rattle.olap_grammar.specs.Cutting.{AreWordBytes, is_word_byte, IsCut, blank, end, word}
+use Rattle.olap_grammar.proofs.LongestLemmas.{cut_mark}
 use Rattle.olap_grammar.specs.CuttingMachine.{tokens_of}
 use Rattle.olap_grammar.specs.declared.tokens.Token.{Token}
 use Rattle.olap_grammar.specs.declared.tokens.Token.TheVariants as token
@@ -103,7 +104,7 @@ module _ (g : Graph) (h : IsHierarchy g) where
       (text_is_cut g h c.root l c.formula v [] [] tt end) in
       let rest : IsCut version.Two (name ++ 58 ∷ 32 ∷ text)
       (token.Word name ∷ token.Mark mark.Colon ∷ spelt g c.root c.formula) =
-      cut_word (name_is_word name (name_is g h c.root l)) refl (marked mark.Colon tt tt (blank cut)) in
+      cut_word (name_is_word name (name_is g h c.root l)) refl (cut_mark mark.Colon tt tt (blank cut)) in
       cut_is_found version.Two _ _
       (keyword version.Two 99 (codes "onstraint") (name ++ 58 ∷ 32 ∷ text)
       (token.Word name ∷ token.Mark mark.Colon ∷ spelt g c.root c.formula) refl rest)

@@ -3,12 +3,13 @@
 --     line_says       a line is read by what its tokens say
 use Rattle.std.proofs.Common.{◌≡◌, ◌==◌, ◌||◌, ◌+◌, ◌-◌, ℕ, zero, suc, Bool, true, false, List, [], ◌∷◌, ◌++◌, Some, length, refl, arith, ap, ◌∙◌}
 use Rattle.std.specs.Prelude.{Ok, slice_index}
-use Rattle.std.specs.List.{list_any}
+use Rattle.std.specs.List.{list_any, onto_first}
 use Rattle.olap_grammar.specs.CuttingMachine.{tokens_of}
 use Rattle.olap_grammar.specs.declared.tokens.Token.{Token}
-use Rattle.olap_schema_text.specs.Judging.{Above, line_read, lines_on, tokens_read, version_at}
+use Rattle.olap_schema_text.specs.Judging.{Above, line_read, lines_on}
+use Rattle.olap_schema_text.specs.Parts.{tokens_read, version_at}
 use Rattle.olap_schema.specs.Readable.{is_control}
-use Rattle.olap_schema_text.specs.Lines.{chomped, in_front, is_quiet, lines_of}
+use Rattle.olap_schema_text.specs.Lines.{chomped, is_quiet, lines_of}
 use Rattle.olap_schema_text.specs.Printing.{text_of_lines}
 use Rattle.olap_schema_text.proofs.BackBytes.{IsPlain, not_bad}
 
@@ -36,7 +37,7 @@ unfolding lines_of
 one_line [] rest e = refl
 one_line (b ∷ line) rest e =
     let n = no_control b line e in
-    rw (no_lf b n.0) (ap (in_front b) (one_line line rest n.1))
+    rw (no_lf b n.0) (ap (onto_first b) (one_line line rest n.1))
 
 -- each line is plain
 abbrev pub ArePlain : List (List ℕ) → Type 0

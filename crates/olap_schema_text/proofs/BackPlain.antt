@@ -103,7 +103,6 @@ joined_plain j x y p q =
 
 module _ (g : Graph) (h : IsHierarchy g) where
   after_plain : (m : ℕ) (cs : List ℕ) → is_printable m ≡ true → AreCategories g cs → IsPlain (names_after g m cs)
-  unfolding names_after
   after_plain m [] e v = plain-nil
   after_plain m (c ∷ cs) e v =
       byte m (name_of_category g c ++ names_after g m cs) e

@@ -11,7 +11,9 @@ use Rattle.olap_ast.specs.Schema.{Constraint, Schema}
 use Rattle.olap_ast.specs.Valid.{IsValidSchema, with_number, with_pair}
 use Rattle.olap_grammar.specs.declared.tokens.Token.TheVariants as token
 use Rattle.olap_grammar.specs.declared.tokens.Mark.TheVariants as mark
-use Rattle.olap_schema_text.specs.Judging.{Above, lines_on, nothing_above, schema_read, statement_read, text_ended, tokens_read}
+use Rattle.olap_schema_text.specs.Judging.{Above, lines_on, nothing_above, schema_read, statement_read}
+use Rattle.olap_schema_text.specs.Parts.{tokens_read}
+use Rattle.olap_schema_text.specs.Judging.{text_ended}
 use Rattle.olap_schema_text.specs.Printing.{category_text, category_texts, constraint_text, edge_text, schema_lines, schema_text, version_text}
 use Rattle.olap_schema.specs.Readable.{AreTexts, IsReadable}
 use Rattle.olap_schema_text.specs.PrintingLaws.{PrintedIsRead}

@@ -75,7 +75,7 @@ module _ (g : Graph) (h : IsHierarchy g) where
       → (x : List ℕ) (cs : List ℕ)
       → All (λ b. (b == m) ≡ false) x → AreCategories g cs
       → pieces_of m (x ++ names_after g m cs) ≡ x ∷ map (name_of_category g) cs
-  unfolding pieces_of names_after
+  unfolding pieces_of
   pieces_after m k x [] a v = rw (append-nil x) (slice_split_none (λ b. b == m) x a)
   pieces_after m k x (c ∷ cs) a v =
       slice_split_at (λ b. b == m) x m (name_of_category g c ++ names_after g m cs) a (same_byte m)
@@ -91,7 +91,6 @@ module _ (g : Graph) (h : IsHierarchy g) where
   reach_pieces r cs l v = pieces_after 46 no_46 (name_of_category g r) cs (no_46 r l) v
 
   after_no_95 : (cs : List ℕ) → AreCategories g cs → All (λ b. (b == 95) ≡ false) (names_after g 46 cs)
-  unfolding names_after
   after_no_95 [] v = λ k d b. absurd (omega (arith, b))
   after_no_95 (c ∷ cs) v = All-cons (λ b. (b == 95) ≡ false) 46 (name_of_category g c ++ names_after g 46 cs) refl
       (All-append (λ b. (b == 95) ≡ false) (name_of_category g c) (names_after g 46 cs) (no_95 c v.0)

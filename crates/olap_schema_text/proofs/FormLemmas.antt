@@ -6,7 +6,7 @@ use Rattle.std.proofs.lemmas.Bool.{le-ltb, ltb-false, or_from, or_parts}
 use Rattle.olap_base.specs.Limits.{most_depth, most_nodes, most_schema_nodes}
 use Rattle.olap_grammar.specs.Answering.{formula_answer}
 use Rattle.olap_grammar.specs.Forms.{Form, depth_of}
-use Rattle.olap_schema_text.specs.Judging.{has_too_many_nodes}
+use Rattle.olap_schema_text.specs.Parts.{has_too_many_nodes}
 use Rattle.olap_schema_text.specs.Reading.{form_answer}
 use Rattle.olap_schema_text.specs.Resolving.{given}
 

@@ -6,7 +6,8 @@ use Rattle.std.proofs.lemmas.Str.{IsUtf8-from_is_utf8}
 use Rattle.std.proofs.lemmas.Bool.{eqb-true}
 use Rattle.std.specs.Prelude.{Ok}
 use Rattle.olap_schema_text.specs.Judging.{Above, lines_on}
-use Rattle.olap_schema_text.specs.Lines.{in_front, line_length, lines_of}
+use Rattle.std.specs.List.{onto_first}
+use Rattle.olap_schema_text.specs.Lines.{line_length, lines_of}
 
 -- up to its LF stands the first line
 pub lines_first : (text : List ℕ) → line_length text < length text →
@@ -18,11 +19,11 @@ lines_first (b ∷ bs) h = go (b == 10) h (λ k. lines_first bs k)
     go : (c : Bool) → cond c 0 (suc (line_length bs)) < length (b ∷ bs) →
         (line_length bs < length bs → lines_of bs ≡ take (line_length bs) bs ∷ lines_of
         (drop (suc (line_length bs)) bs)) →
-        cond c ([] ∷ lines_of bs) (in_front b (lines_of bs))
+        cond c ([] ∷ lines_of bs) (onto_first b (lines_of bs))
         ≡ take (cond c 0 (suc (line_length bs))) (b ∷ bs) ∷ lines_of
         (drop (suc (cond c 0 (suc (line_length bs)))) (b ∷ bs))
     go true k rest = refl
-    go false k rest = ap (in_front b) (rest (omega arith))
+    go false k rest = ap (onto_first b) (rest (omega arith))
 
 -- without a LF the text is one line
 pub lines_last : (text : List ℕ) → 0 < length text → length text ≤ line_length text → lines_of text ≡ text ∷ []
@@ -32,11 +33,11 @@ lines_last (b ∷ bs) h l = go (b == 10) l (λ k m. lines_last bs k m) bs refl
   where
     go : (c : Bool) → length (b ∷ bs) ≤ cond c 0 (suc (line_length bs)) →
         (0 < length bs → length bs ≤ line_length bs → lines_of bs ≡ bs ∷ []) → (cs : List ℕ) → cs ≡ bs →
-        cond c ([] ∷ lines_of bs) (in_front b (lines_of bs)) ≡ (b ∷ bs) ∷ []
+        cond c ([] ∷ lines_of bs) (onto_first b (lines_of bs)) ≡ (b ∷ bs) ∷ []
     go true k rest cs e = absurd (omega arith)
     go false k rest [] e = rw (← e) refl
     go false k rest (c ∷ cs) e =
-        ap (in_front b) (rest (let n : 0 < length bs = rw (← e) (omega arith) in n) (omega arith))
+        ap (onto_first b) (rest (let n : 0 < length bs = rw (← e) (omega arith) in n) (omega arith))
 
 -- an empty text has no lines
 pub no_lines : lines_of [] ≡ []

@@ -24,7 +24,8 @@ use Rattle.olap_grammar.specs.declared.tokens.Version.{Version}
 use Rattle.olap_grammar.specs.declared.tokens.Version.TheVariants as version
 use Rattle.olap_grammar.proofs.FewTokens.{few_tokens}
 use Rattle.olap_grammar.proofs.ReaderLemmas.{found_is_formula}
-use Rattle.olap_schema_text.specs.Judging.{Above, form_read, has_too_many_nodes, question_cut, statement_read, tokens_read, version_at}
+use Rattle.olap_schema_text.specs.Judging.{Above, form_read, statement_read}
+use Rattle.olap_schema_text.specs.Parts.{has_too_many_nodes, question_cut, tokens_read, version_at}
 use Rattle.olap_schema_text.specs.Reading.{IsTallyBehind, said}
 use Rattle.olap_schema_text.specs.Statements as says
 use Rattle.olap_schema_text.specs.Statements.{Statement, statement_of}

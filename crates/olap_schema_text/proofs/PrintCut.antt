@@ -10,7 +10,9 @@ use Rattle.olap_ast.specs.Formula.{Formula, Terms}
 use Rattle.olap_ast.specs.Valid.{AreFormulasAt, IsFormulaAt}
 use Rattle.olap_numerals.specs.Comparing.{Op}
 use Rattle.olap_numerals.specs.Numerals.{IsSmall, canonical}
-use Rattle.olap_grammar.specs.Cutting.{AreWordBytes, EndsMark, EndsWord, IsMarkIn, is_word_byte, joint_bytes, mark_bytes, Spells, nothing, quote, slash, other, IsCut, blank, word, quoted, signed, marked}
+use Rattle.olap_grammar.specs.Cutting.{AreWordBytes, EndsWord, IsMarkIn, is_word_byte, joint_bytes, mark_bytes, Spells, nothing, quote, slash, other, IsCut, blank, word, quoted, signed}
+use Rattle.olap_grammar.specs.Longest.{EndsMark}
+use Rattle.olap_grammar.proofs.LongestLemmas.{cut_mark}
 use Rattle.olap_grammar.specs.Grammar.{comparing}
 use Rattle.olap_grammar.specs.Quoting.{escaped}
 use Rattle.olap_grammar.specs.declared.tokens.Token.{Token}
@@ -68,7 +70,6 @@ cut_word (is_word b w h) n d = word b w h n d
 module _ (g : Graph) (h : IsHierarchy g) where
   after_are_word : (m : ℕ) → is_word_byte m ≡ true → (cs : List ℕ) → AreCategories g cs
       → AreWordBytes (names_after g m cs)
-  unfolding names_after
   after_are_word m e [] k = tt
   after_are_word m e (c ∷ cs) k = (
     e,
@@ -112,7 +113,7 @@ escaped_spells (b ∷ k) = go (b == 34) (b == 92) refl refl (escaped_spells k)
 -- `=` and a string
 cut_quoted : (k bs : List ℕ) (ts : List Token) → IsCut version.Two bs ts
     → IsCut version.Two (32 ∷ 61 ∷ 32 ∷ 34 ∷ (escaped k ++ 34 ∷ bs)) (token.Mark mark.Equal ∷ token.Quoted k ∷ ts)
-cut_quoted k bs ts d = blank (marked mark.Equal tt tt (blank (quoted (escaped_spells k) d)))
+cut_quoted k bs ts d = blank (cut_mark mark.Equal tt tt (blank (quoted (escaped_spells k) d)))
 
 -- ---- numbers
 
@@ -151,7 +152,7 @@ cut_compared : (op : Op) (z : ℤ) (bs : List ℕ) (ts : List Token) → IsSmall
     → IsCut version.Two (32 ∷ (mark_bytes (comparing op) ++ 32 ∷ (canonical z ++ bs)))
     (token.Mark (comparing op) ∷ number_token z ∷ ts)
 cut_compared op z bs ts h e d =
-    blank (marked (comparing op) (compares_in_two op) (ends_at_space op (canonical z ++ bs))
+    blank (cut_mark (comparing op) (compares_in_two op) (ends_at_space op (canonical z ++ bs))
     (blank (cut_number z bs ts h e d)))
 
 -- ---- formulas
@@ -167,9 +168,9 @@ joined_cut : (j : Joint) (x y : List ℕ) (l r : List Token) → Cuts x l → Cu
 joined_cut j x y l r c d bs us n e =
     let inner =
     c (32 ∷ (joint_bytes j ++ 32 ∷ (y ++ 41 ∷ bs))) (token.Mark (mark.Joint j) ∷ (r ++ token.Mark mark.Close ∷ us)) refl
-    (blank (marked (mark.Joint j) tt tt
-    (blank (d (41 ∷ bs) (token.Mark mark.Close ∷ us) refl (marked mark.Close tt tt e))))) in
-    simp append_assoc (marked mark.Open tt tt inner)
+    (blank (cut_mark (mark.Joint j) tt tt
+    (blank (d (41 ∷ bs) (token.Mark mark.Close ∷ us) refl (cut_mark mark.Close tt tt e))))) in
+    simp append_assoc (cut_mark mark.Open tt tt inner)
 
 -- what stands behind a part ends a word
 rest_ends : (g : Graph) (r : ℕ) (fs : Terms) (bs : List ℕ) → EndsWord bs → EndsWord (rest_text g r fs ++ bs)
@@ -192,7 +193,7 @@ module _ (g : Graph) (h : IsHierarchy g) (r : ℕ) (l : IsCategory g r) where
         simp append_assoc (cut_word (compared_is_word g h r d l v.0) refl (cut_quoted k bs us e))
     text_is_cut (Meaning.Formula.Compare d op z) v bs us n e =
         simp append_assoc (cut_word (compared_is_word g h r d l v.0) refl (cut_compared op z bs us v.2 n e))
-    text_is_cut (Meaning.Formula.Not f) v bs us n e = marked mark.Not tt tt (text_is_cut f v bs us n e)
+    text_is_cut (Meaning.Formula.Not f) v bs us n e = cut_mark mark.Not tt tt (text_is_cut f v bs us n e)
     text_is_cut (Meaning.Formula.And f k) v bs us n e =
         joined_cut joint.And (formula_text g r f) (formula_text g r k) (spelt g r f) (spelt g r k) (text_is_cut f v.0)
         (text_is_cut k v.1) bs us n e
@@ -210,8 +211,8 @@ module _ (g : Graph) (h : IsHierarchy g) (r : ℕ) (l : IsCategory g r) where
         (text_is_cut k v.1) bs us n e
     text_is_cut (Meaning.Formula.One fs) v bs us n e =
         simp append_assoc (word 111 (110 ∷ 101 ∷ []) (refl, (refl, (refl, tt))) refl
-        (marked mark.Open tt tt
-        (list_is_cut fs v (41 ∷ bs) (token.Mark mark.Close ∷ us) refl (marked mark.Close tt tt e))))
+        (cut_mark mark.Open tt tt
+        (list_is_cut fs v (41 ∷ bs) (token.Mark mark.Close ∷ us) refl (cut_mark mark.Close tt tt e))))
 
     list_is_cut : (fs : Terms) → AreFormulasAt g r fs → Cuts (list_text g r fs) (spelt_list g r fs)
     list_is_cut Meaning.Terms.End v bs us n e = e
@@ -222,6 +223,6 @@ module _ (g : Graph) (h : IsHierarchy g) (r : ℕ) (l : IsCategory g r) where
     rest_is_cut : (fs : Terms) → AreFormulasAt g r fs → Cuts (rest_text g r fs) (spelt_rest g r fs)
     rest_is_cut Meaning.Terms.End v bs us n e = e
     rest_is_cut (Meaning.Terms.More f fs) v bs us n e =
-        simp append_assoc (marked mark.Comma tt tt
+        simp append_assoc (cut_mark mark.Comma tt tt
         (blank (text_is_cut f v.0 (rest_text g r fs ++ bs) (spelt_rest g r fs ++ us) (rest_ends g r fs bs n)
         (rest_is_cut fs v.1 bs us n e))))

@@ -21,7 +21,8 @@ use Rattle.olap_grammar.specs.declared.tokens.Token.TheVariants as token
 use Rattle.olap_grammar.specs.declared.tokens.Mark.TheVariants as mark
 use Rattle.olap_grammar.specs.Forms.{Form}
 use Rattle.olap_schema_text.specs.Resolving.{given, goes_on, resolved}
-use Rattle.olap_schema_text.specs.Judging.{Above, category_added, category_read, constraint_read, edge_added, edge_read, form_read, formula_read, line_read, lines_on, statement_read, tokens_read, version_at}
+use Rattle.olap_schema_text.specs.Judging.{Above, category_added, category_read, constraint_read, edge_added, edge_read, form_read, formula_read, line_read, lines_on, statement_read}
+use Rattle.olap_schema_text.specs.Parts.{tokens_read, version_at}
 use Rattle.olap_schema.specs.Readable.{is_bad}
 use Rattle.olap_schema_text.specs.Lines.{chomped, is_quiet}
 use Rattle.olap_schema_text.specs.Statements.{Statement, Statement.Version, Statement.Category, Statement.Edge, Statement.Constraint, Statement.Other, statement_of}

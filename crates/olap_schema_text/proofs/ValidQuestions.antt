@@ -19,7 +19,8 @@ use Rattle.olap_grammar.specs.declared.tokens.Token.{Token}
 use Rattle.olap_grammar.specs.declared.tokens.Version.TheVariants as version
 use Rattle.olap_grammar.specs.Forms.{Form}
 use Rattle.olap_schema_text.specs.Resolving.{resolved}
-use Rattle.olap_schema_text.specs.Judging.{formula_read, question_cut, question_read}
+use Rattle.olap_schema_text.specs.Judging.{formula_read, question_read}
+use Rattle.olap_schema_text.specs.Parts.{question_cut}
 use Rattle.olap_schema_text.specs.Laws.{ReadQuestionsAreValid}
 use Rattle.olap_schema.specs.Readable.{is_bad}
 use Rattle.olap_schema.specs.Readable.{AreTexts, IsReadable}

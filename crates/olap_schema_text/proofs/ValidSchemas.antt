@@ -10,7 +10,7 @@ use Rattle.olap_base.specs.Deciding.{contains_cases}
 use Rattle.olap_base.specs.Reaching.{category_reaches, category_reaches_is}
 use Rattle.olap_base.specs.Graph.{CategoryReaches, Graph, IsCategory}
 use Rattle.olap_base.proofs.ListLemmas.{Contains-nil, Contains-range_at}
-use Rattle.olap_schema_text.specs.Judging.{Above, Read, first_stuck, lines_on, nothing_above, schema_read, text_ended, whole}
+use Rattle.olap_schema_text.specs.Judging.{Above, first_stuck, lines_on, nothing_above, schema_read, whole, Read, text_ended}
 use Rattle.olap_schema_text.specs.Laws.{GivesReadable, ReadSchemasAreReadable, ReadSchemasAreValid}
 use Rattle.olap_schema.specs.Readable.{AreTexts, IsReadable}
 use Rattle.olap_schema_text.specs.Lines.{lines_of}

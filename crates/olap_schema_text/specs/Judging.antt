@@ -49,10 +49,6 @@ pub record Above : Type 0 where
   pub pairs : List Equality
   pub numbers : List Comparison
 
--- the version by which a line is read: the first before the version is known
-abbrev pub version_at : Above → Version
-version_at a = unwrap_or a.version version.One
-
 -- ---- categories and edges
 
 -- the fault that a refused category is
@@ -93,14 +89,11 @@ edge_read a child parent =
 
 -- ---- formulas
 
--- a formula of so many nodes has too many, by itself or with those on the lines above
-abbrev pub has_too_many_nodes : ℕ → ℕ → Bool
-has_too_many_nodes before nodes = nat_lt most_nodes nodes || nat_lt most_schema_nodes (before + nodes)
-
--- the formula over words of the tokens by the version, with so many nodes on the lines above
+-- the formula over words of the tokens by the version, by itself and with so many nodes on the lines above
 unfoldable pub form_read : Version → ℕ → List Token → Result Form (List ℕ)
 form_read v before ts =
-    if has_too_many_nodes before (nodes_of v ts) then Err (codes "TooManyNodes")
+    if nat_lt most_nodes (nodes_of v ts) || nat_lt most_schema_nodes (before + nodes_of v ts)
+    then Err (codes "TooManyNodes")
     else if opens_over 0 0 ts then Err (codes "TooDeep")
     else given (the_formula (atoms_of v) ts) (codes "BadForm")
     (λ f. if nat_lt most_depth (depth_of f) then Err (codes "TooDeep") else Ok f)
@@ -152,25 +145,18 @@ statement_read a n (Some v) (says.Statement.Edge child parent) = edge_read a chi
 statement_read a n (Some v) (says.Statement.Constraint root ts) = constraint_read a v root ts
 statement_read a n v s = Err (codes "BadForm")
 
--- a line that says something
-abbrev pub tokens_read : Above → ℕ → Option (List Token) → Result Above (List ℕ)
-tokens_read a n ts = given ts (codes "BadForm") (λ ts. statement_read a n a.version (statement_of ts))
-
--- the n-th line, without its CR
+-- the n-th line, without its CR: before the version is known, it is read by the first
 unfoldable pub line_read : Above → ℕ → List ℕ → Result Above (List ℕ)
 line_read a n line =
     if is_bad line then Err (codes "BadByte")
     else if is_quiet line then Ok a
-    else tokens_read a n (tokens_of (version_at a) line)
+    else given (tokens_of (unwrap_or a.version version.One) line) (codes "BadForm")
+    (λ ts. statement_read a n a.version (statement_of ts))
 
 -- ---- a text
 
--- the first line with a fault, or what all lines say
-abbrev pub Read : Type 0
-Read = Result Above (Fault (List ℕ))
-
--- the lines after the n-th, where those up to it give this
-abbrev pub lines_on : Result Above (List ℕ) → ℕ → List (List ℕ) → Read
+-- the lines after the n-th, where those up to it give this: what all lines say, or the first that has a fault
+abbrev pub lines_on : Result Above (List ℕ) → ℕ → List (List ℕ) → Result Above (Fault (List ℕ))
 lines_on (Err k) n lines = Err (record { at = n; kind = k })
 lines_on (Ok a) n [] = Ok a
 lines_on (Ok a) n (line ∷ lines) = lines_on (line_read a (n + 1) (chomped line)) (n + 1) lines
@@ -196,27 +182,30 @@ abbrev pub whole : Above → Option ℕ → Result Schema (Fault (List ℕ))
 whole a (Some c) = Err (record { at = slice_index a.category_lines (c - 1); kind = codes "NoWayToAll" })
 whole a None = Ok (record { graph = a.graph; constraints = a.constraints })
 
--- the schema of a text, where some line is the version
-abbrev pub text_ended : Read → Result Schema (Fault (List ℕ))
-text_ended read = goes_on read (λ a.
-    if is_some a.version then whole a (first_stuck a.graph) else Err (record { at = 1; kind = codes "BadForm" }))
-
--- the schema that the text stands for, or its first fault
+-- the schema that the text stands for, or its first fault; some line is the version
 unfoldable pub schema_read : List ℕ → Result Schema (Fault (List ℕ))
-schema_read text = text_ended (lines_on (Ok nothing_above) 0 (lines_of text))
+schema_read text = goes_on (lines_on (Ok nothing_above) 0 (lines_of text)) (λ a.
+    if is_some a.version then whole a (first_stuck a.graph) else Err (record { at = 1; kind = codes "BadForm" }))
 
 -- ---- a question's formula
 
--- a question that has no bad byte, by the second version, whatever the schema's was
-abbrev pub question_cut : Schema → ℕ → Option (List Token) → Result Formula (List ℕ)
-question_cut s root ts =
-    given ts (codes "BadForm") (λ ts.
+-- the formula that the text is, at the root, or its first fault: by the second version, whatever the schema's was
+unfoldable pub question_read : Schema → ℕ → List ℕ → Result Formula (List ℕ)
+question_read s root text =
+    if is_bad text then Err (codes "BadByte")
+    else given (tokens_of version.Two text) (codes "BadForm") (λ ts.
     goes_on (formula_read version.Two 0 (name_of_category s.graph root) ts) (λ form.
     goes_on (resolved s.graph root form) (λ f.
     if nat_lt most_constants (pair_count (all_equalities s f) (all_comparisons s f)) then Err (codes "TooManyConstants")
     else Ok f)))
 
--- the formula that the text is, at the root, or its first fault
-unfoldable pub question_read : Schema → ℕ → List ℕ → Result Formula (List ℕ)
-question_read s root text =
-    if is_bad text then Err (codes "BadByte") else question_cut s root (tokens_of version.Two text)
+-- ---- as it is read
+
+-- the first line with a fault, or what all lines say
+abbrev pub Read : Type 0
+Read = Result Above (Fault (List ℕ))
+
+-- the schema of a text, where some line is the version
+abbrev pub text_ended : Read → Result Schema (Fault (List ℕ))
+text_ended read = goes_on read (λ a.
+    if is_some a.version then whole a (first_stuck a.graph) else Err (record { at = 1; kind = codes "BadForm" }))

@@ -10,6 +10,7 @@ pub mod Kinds
 pub mod Printing
 pub mod PrintingLaws
 pub mod Laws
--- The inside: what the readers' values stand for.
+-- The inside: parts of what a text says, and what the readers' values stand for.
+pub mod Parts
 pub mod Known
 pub mod Reading

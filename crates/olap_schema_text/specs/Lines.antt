@@ -3,17 +3,13 @@
 --     chomped       a line without the CR at its end
 --     is_quiet      it is blank or a comment
 use Rattle.std.specs.Prelude.{◌==◌, ◌||◌, ◌-◌, ℕ, suc, Bool, true, List, [], ◌∷◌, length, take, slice_index, if◌then◌else◌}
+use Rattle.std.specs.List.{onto_first}
 use Rattle.olap_base.specs.Bytes.{carriage_return, hash_sign, line_feed, space, tab}
-
--- a byte in front of the first line
-abbrev pub in_front : ℕ → List (List ℕ) → List (List ℕ)
-in_front b [] = (b ∷ []) ∷ []
-in_front b (line ∷ lines) = (b ∷ line) ∷ lines
 
 -- the text is split at each LF; a last piece that is empty isn't a line
 unfoldable pub lines_of : List ℕ → List (List ℕ)
 lines_of [] = []
-lines_of (b ∷ bs) = if b == line_feed then [] ∷ lines_of bs else in_front b (lines_of bs)
+lines_of (b ∷ bs) = if b == line_feed then [] ∷ lines_of bs else onto_first b (lines_of bs)
 
 -- how many bytes stand before the first LF
 unfoldable pub line_length : List ℕ → ℕ

@@ -1,7 +1,7 @@
 -- The canonical text of a schema.
 --     formula_text     a formula at a root
 --     schema_text      a schema
-use Rattle.std.specs.Prelude.{◌==◌, ◌++◌, ℕ, Bool, true, false, List, [], ◌∷◌, codes, map, if◌then◌else◌}
+use Rattle.std.specs.Prelude.{◌==◌, ◌++◌, ℕ, Bool, false, List, [], ◌∷◌, codes, flat_map, map, if◌then◌else◌}
 use Rattle.olap_base.specs.Bytes.{colon, comma, equals_sign, exclamation_mark, full_stop, left_parenthesis, line_feed, right_parenthesis, space, underscore}
 use Rattle.olap_base.specs.Graph.{Edge, Graph}
 use Rattle.olap_graph.specs.Lookups.{name_of_category}
@@ -17,14 +17,9 @@ use Rattle.olap_grammar.specs.declared.tokens.Joint.TheVariants as joint
 
 -- ---- formulas
 
--- the names of these categories, with the mark before each
-unfoldable pub names_after : Graph → ℕ → List ℕ → List ℕ
-names_after g mark [] = []
-names_after g mark (c ∷ cs) = mark ∷ (name_of_category g c ++ names_after g mark cs)
-
--- the word of an atom: the name of its root, and those of these categories, with the mark between
+-- the word of an atom: the name of its root, and those of these categories, with the mark before each
 abbrev pub atom_word : Graph → ℕ → ℕ → List ℕ → List ℕ
-atom_word g root mark cs = name_of_category g root ++ names_after g mark cs
+atom_word g root mark cs = name_of_category g root ++ flat_map (λ c. mark ∷ name_of_category g c) cs
 
 -- the word of the category whose name is compared: the root stands by itself
 abbrev pub compared_word : Graph → ℕ → ℕ → List ℕ
@@ -65,18 +60,9 @@ abbrev mutual
 
 -- ---- lines, without their LF
 
--- the version line
-abbrev pub version_text : List ℕ
-version_text = codes "schema 2"
-
--- what stands behind the name of a category
-abbrev pub kind_text : Bool → List ℕ
-kind_text true = codes " number"
-kind_text false = []
-
 -- the line of a category
 abbrev pub category_text : List ℕ → Bool → List ℕ
-category_text name number = codes "category " ++ (name ++ kind_text number)
+category_text name number = codes "category " ++ (name ++ (if number then codes " number" else []))
 
 -- a line for each category
 unfoldable pub category_texts : List (List ℕ) → List Bool → List (List ℕ)
@@ -95,14 +81,10 @@ constraint_text g c =
 
 -- ---- texts
 
--- the line with an LF at its end
-abbrev pub ended_line : List ℕ → List ℕ
-ended_line line = line ++ line_feed ∷ []
-
 -- the lines of a schema
 abbrev pub schema_lines : Schema → List (List ℕ)
 schema_lines s =
-    version_text ∷ (category_texts s.graph.names s.graph.numbers ++ (map (edge_text s.graph) s.graph.edges
+    codes "schema 2" ∷ (category_texts s.graph.names s.graph.numbers ++ (map (edge_text s.graph) s.graph.edges
     ++ map (constraint_text s.graph) s.constraints))
 
 -- the lines, each with its LF
@@ -113,3 +95,21 @@ text_of_lines (line ∷ lines) = line ++ line_feed ∷ text_of_lines lines
 -- the canonical text
 abbrev pub schema_text : Schema → List ℕ
 schema_text s = text_of_lines (schema_lines s)
+
+-- ---- as it is printed
+
+-- the names of these categories, with the mark before each
+abbrev pub names_after : Graph → ℕ → List ℕ → List ℕ
+names_after g mark cs = flat_map (λ c. mark ∷ name_of_category g c) cs
+
+-- the version line
+abbrev pub version_text : List ℕ
+version_text = codes "schema 2"
+
+-- what stands behind the name of a category
+abbrev pub kind_text : Bool → List ℕ
+kind_text number = if number then codes " number" else []
+
+-- the line with an LF at its end
+abbrev pub ended_line : List ℕ → List ℕ
+ended_line line = line ++ line_feed ∷ []

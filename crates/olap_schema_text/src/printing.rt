@@ -37,7 +37,6 @@ fn name(graph: &Graph, c: CatId) -> &[u8]
 }
 
 /// The names of the categories, with the mark in front of each.
-#[tactic(auto, unfolding(crate::specs::Printing::names_after))]
 fn push_names(
     out: &mut Vec<u8>,
     graph: &Graph,

@@ -1,5 +1,5 @@
 // Reading a schema from its text.
-ghost use Rattle.olap_schema_text.specs.Judging.{first_stuck, lines_on, schema_read, text_ended, whole};
+ghost use Rattle.olap_schema_text.specs.Judging.{first_stuck, lines_on, schema_read, whole, text_ended};
 ghost use Rattle.olap_schema_text.specs.Kinds.{IsFaultOf};
 ghost use Rattle.olap_schema_text.specs.Laws.{GivesReadable};
 ghost use Rattle.olap_schema_text.specs.Lines.{lines_of};

@@ -8,7 +8,9 @@ mod TableLemmas
 pub mod ViewingLemmas
 pub mod FittingLemmas
 mod SummaryTableLemmas
+mod WaitingLemmas
 mod TallyLemmas
+mod JoinedWaitingLemmas
 mod MergingLemmas
 mod RollerLemmas
 mod StoredNumbersLemmas

@@ -1,23 +1,34 @@
 // Tallies: facts are added one at a time, and give the direct views of some categories.
-ghost use Rattle.std.specs.Prelude.{◌≡◌, ◌≢◌, ◌+◌, ◌∷◌, ◌++◌, ◌<◌, ◌≤◌, ◌^◌, ℕ, All, AllPairs, Contains, IfOk, List as Items, [], length, map};
-ghost use Rattle.olap_base.specs.Limits.{most_count};
+//
+// Where the categories are few, a fact goes into the table of their members at once. Where they are more, what the facts
+// at each member come to waits at that member, and goes into the table once for each member and not for each fact.
+ghost use Rattle.std.specs.Prelude.{◌≡◌, ◌≢◌, ◌+◌, ◌∷◌, ◌++◌, ◌<◌, ◌≤◌, ◌^◌, ℕ, All, AllPairs, Contains, IfOk, List as Items, None, [], length, map, slice_index_or};
+ghost use Rattle.olap_base.specs.Limits.{most_count, most_members};
+ghost use Rattle.olap_base.specs.Summaries.{◌⊕◌};
 ghost use Rattle.olap_base.specs.Views.{Fact as TheFact, direct_view};
 ghost use Rattle.olap_facts.specs.Seen.{fact_of};
 ghost use Rattle.olap_view.specs.Seen.{each_view_of, ids, view_of};
 ghost use Rattle.olap_view.specs.Stores.{Fits};
-ghost use Rattle.olap_view.specs.Tallies.{StandsFor};
+ghost use Rattle.olap_view.specs.SummaryTables.{stands_at, view_at};
+ghost use Rattle.olap_view.specs.Tables.{IsAmong};
+ghost use Rattle.olap_view.specs.Tallies.{IsTableOf, IsTableWithin, IsWaitingWithin, StandsFor, waiting_at};
 
 use crate::{Summary, SummaryTable, View};
-use olap_base::{CatId, List, Memory};
+use olap_base::{CatId, List, MemberId, Memory};
 use olap_facts::Fact;
 use olap_legal::Legal;
 use std::alloc::Global;
 use std::marker::Model;
 
+/// So many categories are few: what a fact's member reaches in each is looked at for each fact.
+const FEW_CATEGORIES: usize = 2;
+
 /// What the values of the facts that were added come to, at each member of some categories.
 #[derive(Drop)]
 pub struct Tally<'a> {
     table: SummaryTable<'a>,
+    // For each member what the facts at it come to that aren't in the table; empty where each goes there at once.
+    waiting: Vec<Option<Summary>>,
     added: u64,
 }
 
@@ -26,14 +37,50 @@ impl<'a> Model for Tally<'a> {
 
     ghost Value = { Tallied };
 
-    ghost view = { λ a. tallied a.table a.added };
+    ghost view = { λ a. tallied a.table a.waiting.items a.added };
 
-    ghost invariant = { λ a. IsTally a.table a.added };
+    ghost invariant = { λ a. IsTally a.table a.waiting.items a.added };
+}
+
+/// Nothing waits: a place for each member where there are more categories than few, and none elsewhere.
+fn nothing_waiting(
+    alloc: Global,
+    members: u32,
+    categories: usize,
+) -> Result<Vec<Option<Summary>>, Memory>
+    ensures size { IfOk result (λ v. length v.items ≤ members) }
+    ensures empty { IfOk result (λ v. (x : ℕ) → slice_index_or v.items x None ≡ None) }
+{
+    let places = if categories > FEW_CATEGORIES {
+        members
+    } else {
+        0
+    };
+    Ok(vec![in alloc; None; places as usize]?)
+}
+
+/// Joins the summary that waits at each member to what stands at the members of the categories that it reaches.
+fn join_waiting(table: &mut SummaryTable, waiting: &[Option<Summary>])
+    requires members { length waiting.now ≤ length table.old.instance }
+    requires few { length table.old.instance ≤ most_members }
+    requires table { IsTableWithin most_count table.old }
+    requires waiting { IsWaitingWithin most_count waiting.now }
+    ensures instance { table.new.instance ≡ table.old.instance }
+    ensures categories { table.new.categories ≡ table.old.categories }
+    ensures at { (y : ℕ) → IsAmong table.old.instance table.old.categories y
+        → stands_at table.new y ≡ stands_at table.old y ⊕ waiting_at table.old.instance waiting.now y }
+{
+    'members: for x in 0..waiting.len() {
+        if let Some(summary) = waiting[x] {
+            table.join(MemberId(x as u32), summary);
+        }
+    }
 }
 
 impl<'a> Tally<'a> {
     /// A tally to which no fact was added. It takes four bytes for each member of the instance, four more for each
-    /// category, and memory for a summary at each member of the categories. `Memory`: out of memory.
+    /// category, and memory for a summary at each member of the categories; with more than two categories also for one
+    /// at each member of the instance. `Memory`: out of memory.
     pub fn new(alloc: Global, legal: &'a Legal, categories: &[CatId]) -> Result<Tally<'a>, Memory>
         requires differ { AllPairs ◌≢◌ (ids categories.now) }
         ensures instance { IfOk result (λ t. t.instance ≡ legal.now) }
@@ -41,6 +88,7 @@ impl<'a> Tally<'a> {
         ensures stands { IfOk result (λ t. StandsFor t []) }
     {
         Ok(Tally {
+            waiting: nothing_waiting(alloc, legal.instance().members(), categories.len())?,
             table: SummaryTable::new(alloc, legal, categories)?,
             added: 0,
         })
@@ -54,7 +102,7 @@ impl<'a> Tally<'a> {
     }
 
     /// Adds a fact: a tally that stood for some facts stands for them and this one behind them. It takes one look at
-    /// a list for each category.
+    /// a list for each of two categories or one, and one look for more.
     pub fn add(&mut self, fact: &Fact)
         requires member { fact.now.member.0 < length self.old.instance }
         requires room { self.old.added < most_count }
@@ -64,7 +112,13 @@ impl<'a> Tally<'a> {
         ensures stands { (facts : Items TheFact) → StandsFor self.old facts
             → StandsFor self.new (facts ++ fact_of fact.now ∷ []) }
     {
-        self.table.join(fact.member, Summary::of_value(fact.value));
+        let alone = Summary::of_value(fact.value);
+        let x = fact.member.0 as usize;
+        if x < self.waiting.len() {
+            self.waiting[x] = Some(alone.beside(self.waiting[x]));
+        } else {
+            self.table.join(fact.member, alone);
+        }
         self.added += 1;
     }
 
@@ -83,16 +137,27 @@ impl<'a> Tally<'a> {
         }
     }
 
+    /// The table, with what was waiting. Its views may be stored.
+    fn into_table(self) -> SummaryTable<'a>
+        ensures table { IsTableOf self.entry result }
+        ensures fit { (c : ℕ) → Contains self.entry.categories c → Fits (view_at result c) }
+    {
+        let mut table = self.table;
+        join_waiting(&mut table, &self.waiting);
+        table
+    }
+
     /// The direct view of one of the categories.
-    pub(crate) fn view(&self, c: CatId) -> Result<View, Memory>
-        requires among { Contains self.now.categories c.0 }
+    pub(crate) fn into_view(self, c: CatId) -> Result<View, Memory>
+        requires among { Contains self.categories c.0 }
         ensures view { IfOk result
-            (λ v. (facts : Items TheFact) → StandsFor self.now facts
-            → view_of v ≡ direct_view self.now.instance facts c.0) }
-        ensures members { IfOk result (λ v. All (λ r. r.member.0 < length self.now.instance) v.rows) }
+            (λ v. (facts : Items TheFact) → StandsFor self.entry facts
+            → view_of v ≡ direct_view self.entry.instance facts c.0) }
+        ensures members { IfOk result (λ v. All (λ r. r.member.0 < length self.entry.instance) v.rows) }
         ensures fits { IfOk result (λ v. Fits (view_of v)) }
     {
-        self.table.view(c)
+        let table = self.into_table();
+        table.view(c)
     }
 
     /// The direct views of the categories, in their order. `Memory`: out of memory.
@@ -102,6 +167,7 @@ impl<'a> Tally<'a> {
         ensures members { IfOk result (λ v. All (λ w. All (λ r. r.member.0 < length self.entry.instance) w.rows) v) }
         ensures fit { IfOk result (λ v. All Fits (each_view_of v)) }
     {
-        self.table.views()
+        let table = self.into_table();
+        table.views()
     }
 }

@@ -28,7 +28,7 @@ pub fn direct(alloc: Global, legal: &Legal, facts: &Facts, c: CatId) -> Result<V
 {
     let mut tally = Tally::new(alloc, legal, &[c])?;
     tally.add_all(facts.rows.items());
-    tally.view(c)
+    tally.into_view(c)
 }
 
 /// Whether the k-th bit is in the mask.

@@ -8,7 +8,7 @@ use Rattle.olap_base.specs.declared.ids.CatId.{CatId}
 use Rattle.olap_cube.specs.CubeSummarizable.{graphs_of}
 use Rattle.olap_cube_summ.specs.Dimensions.{no_schema, schemas_of}
 use Rattle.olap_graph.specs.Lookups.{name_of_category}
-use Rattle.olap_cube_summ.specs.CubeCexText.{names_of}
+use Rattle.olap_cube_summ.specs.Telling.{names_of}
 use Rattle.olap_cube_summ.proofs.PlaceLemmas.{category_at, counted}
 use Rattle.olap_cube_summ.proofs.TextLemmas.{join_more, name_at, names_count}
 use Rattle.olap_cube_summ.proofs.printing.names.Goals as goal

@@ -8,7 +8,8 @@ use Rattle.olap_cube.specs.Told.{tuple_of, tuples_in}
 use Rattle.olap_cube_summ.specs.Dimensions.{schemas_of}
 use Rattle.olap_cube_summ.specs.Found.{IsCubeCounterexampleFound, chosen_of}
 use Rattle.olap_frozen.specs.declared.founding.Found.{Found}
-use Rattle.olap_cube_summ.specs.CubeCexText.{cube_counterexample_text, cube_sums_text, dimensions_text}
+use Rattle.olap_cube_summ.specs.CubeCexText.{cube_counterexample_text, dimensions_text}
+use Rattle.olap_cube_summ.specs.Telling.{cube_sums_text}
 use Rattle.olap_cube_summ.specs.Drawn.{AreFound}
 use Rattle.olap_cube_summ.proofs.PlaceLemmas.{founds_are}
 use Rattle.olap_cube_summ.proofs.SumLemmas.{text_is}

@@ -6,8 +6,8 @@ use Rattle.olap_base.specs.Graph.{Edge, Graph, HasEdge}
 use Rattle.olap_graph.specs.Lookups.{edge_at}
 use Rattle.olap_graph.proofs.RowLemmas.{row_read}
 use Rattle.olap_trail.specs.Decisions.{status_of}
-use Rattle.olap_proof.specs.Places.{is_possible, possible_graph}
-use Rattle.olap_proof.specs.Seen.{SeenPossible}
+use Rattle.olap_proof.specs.Places.{possible_graph}
+use Rattle.olap_proof.specs.Seen.{is_possible, SeenPossible}
 use Rattle.olap_proof.specs.Tables.{Draws}
 use Rattle.olap_proof.proofs.DrawingLemmas.{draws_edge, draws_none, draws_skip}
 use Rattle.olap_proof.proofs.SeenLemmas.{seen_possible}

@@ -4,7 +4,8 @@ use Rattle.olap_base.specs.Graph.{Edge, Graph, category_count}
 use Rattle.olap_bits.specs.Sets.{members}
 use Rattle.olap_graph.specs.Lookups.{edge_at}
 use Rattle.olap_trail.specs.Decisions.{status_of}
-use Rattle.olap_proof.specs.Places.{is_possible, possible_graph}
+use Rattle.olap_proof.specs.Places.{possible_graph}
+use Rattle.olap_proof.specs.Seen.{is_possible}
 use Rattle.olap_proof.specs.Walking.{IsAdded}
 use Rattle.olap_proof.proofs.SeenLemmas.{seen_possible}
 use Rattle.olap_proof.proofs.WalkingLemmas.{grows_by}

@@ -23,8 +23,8 @@ add_all-requires-clause-room c =
     let a = c.in_ok-tally.ensures.stands.added in let l = ap length c.items.ensures in let f = c.requires.few in
     omega arith
 
-pub view-requires : goal.view-requires
-view-requires c = record {
+pub into_view-requires : goal.into_view-requires
+into_view-requires c = record {
   among = subst (λ (l : List ℕ). Contains l c.args.c.0)
       (sym (c.add_all.ensures.categories ∙ c.in_ok-tally.ensures.categories)) (contains_head c.args.c.0 []);
 }
@@ -38,14 +38,14 @@ returns-clause-view c =
     let stands : StandsFor t facts =
     subst (λ (l : List told_fact.Fact). StandsFor t (map fact_of l)) c.items.ensures
     (c.add_all.ensures.stands [] c.in_ok-tally.ensures.stands) in
-    if_ok_more c.view.result
+    if_ok_more c.into_view.result
     (λ (v : told.View). (fs : List Fact) → StandsFor t fs → view_of v ≡ direct_view t.instance fs d)
     (λ (v : told.View). view_of v ≡ direct_view i facts d)
     (λ v e. e facts stands
     ∙ ap (λ (j : Instance). direct_view j facts d) (c.add_all.ensures.instance ∙ c.in_ok-tally.ensures.instance))
-    c.view.ensures.view
+    c.into_view.ensures.view
 
 pub returns-clause-members : goal.returns-clause-members
 returns-clause-members c =
-    subst (λ (i : Instance). IfOk c.view.result (λ v. All (λ r. r.member.0 < length i) v.rows))
-    (c.add_all.ensures.instance ∙ c.in_ok-tally.ensures.instance) c.view.ensures.members
+    subst (λ (i : Instance). IfOk c.into_view.result (λ v. All (λ r. r.member.0 < length i) v.rows))
+    (c.add_all.ensures.instance ∙ c.in_ok-tally.ensures.instance) c.into_view.ensures.members

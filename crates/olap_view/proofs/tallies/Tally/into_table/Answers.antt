@@ -1,0 +1,49 @@
+-- The table stands where what waited is joined.
+use Rattle.std.proofs.Common.{◌≤◌, ap, length, sym, subst, ◌∙◌}
+use Rattle.std.specs.Prelude.{Contains}
+use Rattle.olap_base.specs.Limits.{most_count}
+use Rattle.olap_base.specs.Summaries.{◌⊕◌}
+use Rattle.olap_view.specs.SummaryTables.{stands_at}
+use Rattle.olap_view.specs.Tallies.{IsTableOf, IsWaitingWithin, Tallied, Waiting, tallied, waiting_at}
+use Rattle.olap_view.proofs.TallyLemmas.{table_within, tallied_is, view_stored, waiting_within}
+use Rattle.olap_view.proofs.tallies.Tally.into_table.Goals as goal
+
+pub join_waiting-requires-clause-members : goal.join_waiting-requires-clause-members
+join_waiting-requires-clause-members c =
+    subst (λ (ws : Waiting). length ws ≤ length c.self.inside.table.instance) (sym c.deref.ensures.value)
+    c.self.invariant.places
+
+pub join_waiting-requires-clause-table : goal.join_waiting-requires-clause-table
+join_waiting-requires-clause-table c =
+    let a = c.self.inside in table_within a.table a.waiting.items a.added c.self.invariant
+
+pub join_waiting-requires-clause-waiting : goal.join_waiting-requires-clause-waiting
+join_waiting-requires-clause-waiting c =
+    let a = c.self.inside in
+    subst (IsWaitingWithin most_count) (sym c.deref.ensures.value)
+    (waiting_within a.table a.waiting.items a.added c.self.invariant)
+
+pub returns-clause-table : goal.returns-clause-table
+returns-clause-table c =
+    let a = c.self.inside in
+    let j = c.join_waiting.ensures in
+    subst (λ (t : Tallied). IsTableOf t c.join_waiting.new.table) c.self.view_is (record {
+      instance = j.instance;
+      categories = j.categories;
+      at = λ y m. j.at y m
+          ∙ ap (λ (ws : Waiting). stands_at a.table y ⊕ waiting_at a.table.instance ws y) c.deref.ensures.value
+          ∙ sym (tallied_is a.table a.waiting.items a.added y m.member);
+    })
+
+pub returns-clause-fit : goal.returns-clause-fit
+returns-clause-fit c = λ d k.
+    let a = c.self.inside in
+    let j = c.join_waiting.ensures in
+    let q = c.self.invariant in
+    view_stored (tallied a.table a.waiting.items a.added) c.join_waiting.new.table (record {
+      instance = j.instance;
+      categories = j.categories;
+      at = λ y m. j.at y m
+          ∙ ap (λ (ws : Waiting). stands_at a.table y ⊕ waiting_at a.table.instance ws y) c.deref.ensures.value
+          ∙ sym (tallied_is a.table a.waiting.items a.added y m.member);
+    }) d q.facts (subst (λ (t : Tallied). Contains t.categories d) (sym c.self.view_is) k) q.few q.values q.stands
