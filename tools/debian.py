@@ -1,4 +1,4 @@
-"""Installs Debian's packages for the checks. Checks go side by side, and apt doesn't: so one waits for another here."""
+"""Installs Debian's packages for the checks. Checks run at the same time, and apt can't: so they wait for one another here."""
 
 import fcntl
 import os

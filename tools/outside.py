@@ -1,7 +1,7 @@
-"""The built program with its outside in hand: each open, read, write and close, and each request for memory.
+"""Runs the built program and controls its outside: each open, read, write and close, and each request for memory.
 
-A few lines of C stand before the C library's functions of these names. They count the calls, write down what came of
-each, and let those that are named fail or fall short. They need a C compiler; without one `compiler` is None.
+A few lines of C replace the C library's functions of these names. They count the calls, write down the result of each, and
+make those that are named fail or fall short. They need a C compiler; without one `compiler` is None.
 """
 
 from __future__ import annotations

@@ -1,6 +1,6 @@
 """Cubes by their definitions, slowly: the least counterexample by a loop over all tuples, and the view of a cube fact by fact.
 
-It stands beside the program as a second opinion, and asks it for one thing: the frozen dimensions of each schema alone, which
+It is a second opinion on the program, and asks it for one thing: the frozen dimensions of each schema alone, which
 `frozen` lists by their codes. It is no part of the program, and nothing of it is proved.
 """
 

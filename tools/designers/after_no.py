@@ -2,8 +2,8 @@
 
     olap-tools after-no SCHEMA [INSTANCE [FACTS]] TARGET SOURCE..
 
-Three blocks. With an instance, its members that reach the target by not exactly one source, the largest groups by their ways up;
-with facts, how many facts and which sums are lost, or counted more than once. Then the shortest lists of sources that contain these
+Three blocks. With an instance: its members that reach the target, but not by exactly one source, the largest groups by their ways up;
+with facts also how many facts and which sums are lost, or counted more than once. Then the shortest lists of sources that contain these
 and are enough, or the category to split so that there is one. Then, for each bottom category, the weakest constraint with which the
 answer is yes (or that none leaves it a member), and simple constraints that are enough too and leave each category its members, and
 some of them a way to the target: the weakest of these, and whether the instance meets each.

@@ -1,10 +1,11 @@
-"""Of each category of numbers: which numbers no member may have, and which have no name in a category that is told by them.
+"""For each category of numbers: which numbers no member may have, and which have no name in a category that depends on them.
 
     olap-tools bands SCHEMA
 
-Bands are ranges of numbers that constraints give a name, as `Price < 100 -> Band = "low"`. A number that falls into two bands, or
-into none where one is wanted, can be no member's: a hole or an overlap. A number that leaves the name open may have any other. The
-program is asked at each number at which an answer may change. Status 1 if something is told, 0 and nothing if not.
+Bands are ranges of numbers that constraints give a name, such as `Price < 100 -> Band = "low"`. A number that falls into two bands, or
+into none where one is wanted, can be no member's: a hole or an overlap. A member with a number that leaves the name
+open may have any other name. The program is asked at each number at which an answer may change. Status 1 if something is printed,
+0 if nothing is.
 """
 
 from __future__ import annotations

@@ -1,9 +1,9 @@
-"""Which views to keep so that each of some targets can be taken from them, with the fewest rows.
+"""Which views to keep so that each of some targets can be computed from them, with the fewest rows.
 
     olap-tools keep SCHEMA INSTANCE TARGET..
 
-A view has at most as many rows as its category has members in the instance. Printed are the categories to keep, from the smallest,
-with the rows that they have at most, and for each target the kept views that it is taken from. A store has eight views at most.
+A view has at most as many rows as its category has members in the instance. It prints the categories to keep, from the smallest,
+with the most rows that each may have, and for each target the kept views that it is computed from. A store has at most eight views.
 """
 
 from __future__ import annotations

@@ -4,7 +4,7 @@
     olap-tools split SCHEMA CATEGORY INSTANCE --into FOLDER   writes schema.txt and instance.csv into a new folder
 
 Members keep their ids, so facts stay as they are. Where some members of a category lie in a state and others in a country, each kind
-becomes a level of its own, of which totals can be asked apart. Constraints that say nothing new are left out.
+becomes a level of its own, whose totals can be asked for separately. Constraints that say nothing new are left out.
 """
 
 from __future__ import annotations

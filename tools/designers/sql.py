@@ -1,9 +1,9 @@
-"""The SQL by which the database takes a target's view from the sources' views, if the program says yes.
+"""The SQL by which a database computes a target's view from the sources' views, if the program says yes.
 
     olap-tools sql SCHEMA TARGET SOURCE..
 
 The views are v_SOURCE(member, count, sum, least, greatest), over member(id, category) and lies_in(child, parent), as the recipes
-have them; SQLite and PostgreSQL take the statement. After a no nothing is printed but the counterexample as remarks, with status 1.
+have them; SQLite and PostgreSQL take the statement. After a no only the counterexample is printed, as remarks, with status 1.
 """
 
 from __future__ import annotations

@@ -1,12 +1,12 @@
 """An instance from the wide table that many have: a row for each lowest member, a column for each level, empty where there is none.
 
     olap-tools wide TABLE LEVEL..                     prints the instance; the levels are headings, the lowest first
-    olap-tools wide TABLE LEVEL.. --apart LOW:HIGH    takes it that HIGH isn't above LOW, as Week:Year; for several, say it again
+    olap-tools wide TABLE LEVEL.. --apart LOW:HIGH    takes HIGH as not above LOW, as in Week:Year; may be given several times
     olap-tools wide TABLE LEVEL.. --facts COLUMN      prints the facts: the lowest member of each row, and the number in that column
 
-A level is above a lower one if each value of the lower has one value of it, or none, in all its rows. Where a few values of many lie
-in two, as in the table of a calendar a week at the end of a year, that is a fault, or the levels are apart: you say which. A member's
-parents are the nearest of what is above it. Faults are told with their rows, and so is a row without a lowest member; then nothing is
+A level is above a lower one if each value of the lower has one value of it, or none, in all its rows. If a few values of many lie
+in two, such as a week at the end of a year in a calendar, that is a fault, or the levels are apart: you say which. A member's
+parents are the nearest members above it. Faults, and rows without a lowest member, are reported with their rows; then nothing is
 printed, and the status is 1. An id is `Level:value`, in which `%` and `;` are written `%25` and `%3B`.
 """
 

@@ -257,11 +257,11 @@ def kinds_of(document: str, start: str, end: str) -> list[str]:
 
 # Where one kind is of several texts: a refusal, and words of the sentence on it.
 SAID = (
-    ("schema line 1 BadNumber", "compared with"), ("facts record 1 BadNumber", "no number of the form"), ("word 2 BadNumber", "the seed"),
+    ("schema line 1 BadNumber", "compared with"), ("facts record 1 BadNumber", "of the right form"), ("word 2 BadNumber", "the seed"),
     ("word 3 BadNumber", "the size"), ("schema line 1 TextTooLong", "a string has too many"),
     ("instance record 1 TextTooLong", "an id or name"),
     ("schema line 1 UnknownCategory", "known on this line"), ("store record 1 UnknownCategory", "the schema has no category"),
-    ("store record 1 DuplicateView", "begun twice"), ("word 5 DuplicateView", "an earlier category of store"),
+    ("store record 1 DuplicateView", "has begun already"), ("word 5 DuplicateView", "an earlier category of store"),
     ("schema line 1 RootIsAll", "the root of a constraint"), ("word 3 RootIsAll", "the root of implies"),
     ("instance TooLong", "too many bytes"),
     ("schema line 1 BadForm", "none of the forms"), ("word 3 BadForm", "joined by commas"), ("frozen TooMany", "than are listed"),
@@ -278,7 +278,7 @@ def sentence_faults(room: Path) -> Iterator[str]:
         if len(kinds) < 3:
             yield f"explain: the kinds of {what} can't be read from docs/FORMATS.md"
         refusals += [f"{what} record 1 {kind}" for kind in kinds]
-    refusals += [f"facts record 1 {kind}" for kind in kinds_of(document, "\n| command | kind | comes if |\n", "\n\n")]
+    refusals += [f"facts record 1 {kind}" for kind in kinds_of(document, "\n| command | kind | when |\n", "\n\n")]
     name = str(EXAMPLES / LOCATION)
     words = {"schema": ("format", name), "facts": ("rollup", name, name, name, "All"), "instance": ("check", name, name),
              "store": ("answer", name, name, name, "All"), "frozen": ("frozen", name, "Store")}
