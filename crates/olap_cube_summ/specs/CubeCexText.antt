@@ -42,8 +42,8 @@ dimensions_text _ _ _ = []
 abbrev pub roots_of : List Schema → List Chosen → List ℕ
 roots_of schemas choice = map (λ p. root_place p.0 p.1.bottom p.1.frozen) (zip schemas choice)
 
--- What is told of each dimension of the choice, and what one fact at its roots comes to at c: the SUM of the direct view,
--- and that of the view from the sources' direct views.
+-- What is told of each dimension of the choice, and what one fact at its roots comes to at c: the SUM of the direct
+-- view, and that of the view from the sources' direct views.
 abbrev pub cube_counterexample_text : List Schema → List Chosen → List ℕ → List (List ℕ) → List ℕ
 cube_counterexample_text schemas choice c sources =
     let is = instances_of schemas choice in

@@ -51,7 +51,8 @@ read-facts-fit most g i records fs e = go (begins_with header records) _ e
         subst (λ xs. All (λ (f : Fact). FitsSigned w64 f.value) xs) z (all-facts i (drop 1 records))
     read (Some p) e = absurd (cc)
 
-    go : (b : Bool) (fault : Fault FactKind) → cond b (or_read (first_fault (fact_fault_within most g i) [] (drop 1 records))
+    go : (b : Bool) (fault : Fault FactKind)
+        → cond b (or_read (first_fault (fact_fault_within most g i) [] (drop 1 records))
         (Ok (map (fact_read i) (drop 1 records)))) (Err fault) ≡ Ok fs
         → All (λ f. FitsSigned w64 f.value) fs
     go true fault e = read (first_fault (fact_fault_within most g i) [] (drop 1 records)) e

@@ -87,8 +87,8 @@ is_top Short b = b == 0
 abbrev pub leads : Form → Place → ℕ → ℕ → Bool
 leads f p a b = is_known p a && (is_top f b || category_reaches (leading_graph p) a b)
 
--- whether a has a member that reaches one of b: what was decided; else Yes where it leads there, and No where no walk of
--- edges that aren't absent does
+-- whether a has a member that reaches one of b: what was decided; else Yes where it leads there, and No where no walk
+-- of edges that aren't absent does
 abbrev pub truth_of_reach : Form → Place → ℕ → ℕ → Truth3
 truth_of_reach f p a b = elim (way_of p.ways a b) [
   | Some there ↦ known there
