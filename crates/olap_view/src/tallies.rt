@@ -122,6 +122,36 @@ impl<'a> Tally<'a> {
         self.added += 1;
     }
 
+    /// Adds a fact as `add` does, to the table.
+    #[inline(always)]
+    fn add_to_table(&mut self, fact: &Fact)
+        requires member { fact.now.member.0 < length self.old.instance }
+        requires room { self.old.added < most_count }
+        ensures instance { self.new.instance ≡ self.old.instance }
+        ensures categories { self.new.categories ≡ self.old.categories }
+        ensures added { self.new.added ≡ self.old.added + 1 }
+        ensures stands { (facts : Items TheFact) → StandsFor self.old facts
+            → StandsFor self.new (facts ++ fact_of fact.now ∷ []) }
+    {
+        self.table.join(fact.member, Summary::of_value(fact.value));
+        self.added += 1;
+    }
+
+    /// Adds facts, in their order, as `add_to_table` adds one.
+    fn add_all_to_table(&mut self, facts: &[Fact])
+        requires members { All (λ f. f.member.0 < length self.old.instance) facts.now }
+        requires room { self.old.added + length facts.now ≤ most_count }
+        ensures instance { self.new.instance ≡ self.old.instance }
+        ensures categories { self.new.categories ≡ self.old.categories }
+        ensures added { self.new.added ≡ self.old.added + length facts.now }
+        ensures stands { (before : Items TheFact) → StandsFor self.old before
+            → StandsFor self.new (before ++ map fact_of facts.now) }
+    {
+        'facts: for fact in facts {
+            self.add_to_table(fact);
+        }
+    }
+
     /// Adds facts, in their order, as `add` adds one.
     pub fn add_all(&mut self, facts: &[Fact])
         requires members { All (λ f. f.member.0 < length self.old.instance) facts.now }
@@ -132,8 +162,12 @@ impl<'a> Tally<'a> {
         ensures stands { (before : Items TheFact) → StandsFor self.old before
             → StandsFor self.new (before ++ map fact_of facts.now) }
     {
-        'facts: for fact in facts {
-            self.add(fact);
+        if self.waiting.is_empty() {
+            self.add_all_to_table(facts);
+        } else {
+            'facts: for fact in facts {
+                self.add(fact);
+            }
         }
     }
 
