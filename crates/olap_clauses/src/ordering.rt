@@ -47,13 +47,16 @@ pub(crate) struct Round {
 const ALONE: u64 = 6;
 
 /// Conflicts of a round that tries an order.
-const SHORT: u64 = 150;
+const SHORT: u64 = 110;
 
 /// Conflicts of a round by the order that was best.
 const LONG: u64 = 1000;
 
-/// Conflicts of the first turn of each solver.
+/// Conflicts of the first turns of each solver.
 const TURN: u64 = 300;
+
+/// Conflicts of a later turn, for each turn before it.
+const GROWTH: u64 = 50;
 
 /// What the rounds of each order took, late ones counting more, and which of them ended the last search.
 #[derive(Clone, Copy)]
@@ -135,7 +138,7 @@ impl Orders {
             part,
             order,
             sign: Sign::Last,
-            budget: TURN.max((TURN / 4).saturating_mul(turn)),
+            budget: TURN.max(GROWTH.saturating_mul(turn)),
         }
     }
 

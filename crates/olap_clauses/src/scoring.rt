@@ -56,7 +56,7 @@ impl Scores {
 
     /// A conflict more: what is added from now on counts more.
     pub(crate) fn age(&mut self) {
-        self.bump = self.bump.saturating_add(self.bump / 9);
+        self.bump = self.bump.saturating_add(self.bump / 8);
         if self.bump > MOST {
             'scores: for score in self.scores.iter_mut() {
                 *score >>= 16;

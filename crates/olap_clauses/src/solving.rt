@@ -25,10 +25,10 @@ use std::alloc::{AllocError, Global};
 use std::mem::swap;
 
 /// So many learned clauses are kept at first, before the older ones are dropped: with more, each step takes longer.
-const KEPT: usize = 6000;
+const KEPT: usize = 7500;
 
 /// So many more are kept each time.
-const MORE_KEPT: usize = 500;
+const MORE_KEPT: usize = 600;
 
 /// Clauses, a trail, and the search over them.
 #[derive(Drop)]
