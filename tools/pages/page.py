@@ -17,6 +17,7 @@ from .questions import Facts, Ways
 COLUMNS = 8  # targets of one table
 MOST_LINES = 50  # frozen lines of a category
 MOST_DRAWN, MOST_DRAWN_LARGE, LARGE = 6, 1, 20  # pictures of a category's ways; of a schema with more categories than LARGE
+MOST_WAYS = 30_000  # members and edges in the pictures of all ways
 MOST_OPEN = 6  # counterexamples that aren't folded
 MOST_SHOWN = 500  # counterexamples of a page
 MOST_ENOUGH = 8  # lists of a target that stand in the first table
@@ -220,10 +221,13 @@ class Page:
         """Each picture of the page with its key."""
         schema = self.facts.schema
         yield ("schema",), pictures.of_schema(schema, f"Schema {self.name}", self.facts.taken())
+        room = MOST_WAYS
         for category in self.order:
             for number, (frozen, _) in enumerate(self.drawn_ways(self.facts.ways[category]), 1):
+                room -= len(frozen.names) + len(frozen.edges)
                 name = f"Frozen dimension {number} of {category}"
-                yield ("frozen", category, number), pictures.of_frozen(frozen, category, name)
+                if room >= 0:
+                    yield ("frozen", category, number), pictures.of_frozen(frozen, category, name)
         for shown in self.shown:
             name = f"Counterexample {shown.number}: {shown.example.target} from {listed(shown.drawn_for)}"
             yield ("no", shown.number), pictures.of_counterexample(shown.example, shown.drawn_for, name)
@@ -325,7 +329,7 @@ class Page:
 
     def figure(self, key: tuple, caption: object, label: str) -> Markup:
         if key not in self.drawn:
-            return el("p", "This picture wasn't drawn in the time of this page; ", el("code", "tools/draw"), " draws it alone.")
+            return el("p", "This page has no time or room for this picture; ", el("code", "tools/draw"), " draws it alone.")
         svg = el("div", self.drawn[key], class_="scroll", tabindex="0", role="group", aria_label=label)
         return el("figure", svg, el("figcaption", caption))
 

@@ -195,7 +195,7 @@ def completion_faults(room: Path) -> Iterator[str]:
         f"olap cubeview 1 {quoted} i f ": ["Store", "Stage", "All"],
         "olap generate ": [],
         "olap p": ["prove", "prove-short"],
-        "olap v": ["verify", "verify-short"],
+        "olap v": ["verify", "verify-short", "version"],
         "olap verify-": ["verify-short"],
         f"olap prove {quoted} Store Stage ": ["Store", "All"],
         f"olap verify {quoted} c": [],
