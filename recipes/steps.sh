@@ -1,6 +1,6 @@
 # What the recipes have in common, to be read into a script with `set -euo pipefail`.
 
-# Ends the script with a line about why.
+# Ends the script with a line that says why.
 give_up() {
     printf 'recipe: %s\n' "$1" >&2
     exit 1
@@ -19,7 +19,7 @@ at_end() {
     trap -- "$end" EXIT
 }
 
-# Goes into a new folder, which is taken away at the end.
+# Goes into a new folder, which is removed at the end.
 enter_new_folder() {
     work=$(mktemp -d)
     at_end 'rm -rf -- "$work"'

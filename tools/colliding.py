@@ -1,5 +1,5 @@
 """Ids that all collide under the hash of olap_instance at its fixed point, which anybody can read. The hash of an instance has
-a key made of the instance's text, and there they fall together no more often than others."""
+a key made of the instance's text, and under that hash they collide no more often than others."""
 
 MODULUS = 2**61 - 1
 POINT = 0x9E3779B97F4A7C10 // 8

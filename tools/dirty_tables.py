@@ -1,8 +1,8 @@
-"""Dirty tables for each recipe: a module of check-recipes, which isn't run.
+"""Dirty tables for each recipe: a module of check-recipes, not run by itself.
 
-Each is a change of a recipe's tables, which lose their keys and `not null` before, and what the recipe must say of it
-then: it ends with another status than 0, or it goes on and its totals are the database's. What no recipe may do is
-lose a row without a word.
+Each is a change of a recipe's tables, which lose their keys and `not null` before, and what the recipe must do then:
+it ends with a status other than 0, or it goes on and its totals are the database's. No recipe may lose a row without
+a message.
 """
 
 import re

@@ -1,8 +1,8 @@
-"""How the checks and benches find the program, and how they end where something isn't there: a module, which isn't run.
+"""How the checks and benches find the program, and how they end if something is missing: a module, not run by itself.
 
 - The program is the word that a check was given, else the one that the variable OLAP names, else the one that the
-  gate builds. It is never built for a check. Where it isn't there, a line says so, and the status is 70.
-- What can't be run, as without a C compiler, is told in a line and is no fault; if OLAP_STRICT is set, as by `.ci/run
+  gate builds. It is never built for a check. If it isn't there, a line says so, and the status is 70.
+- What can't be run, as without a C compiler, is reported in a line and is no fault; if OLAP_STRICT is set, as by `.ci/run
   --strict`, it is one.
 - `--help` prints what stands at the head of a check.
 """

@@ -1,4 +1,4 @@
--- Loads the answers, and prints the rows that only one side has: the answers, and the totals by joins from the sales.
+-- Loads the answers, and prints the rows in which they differ from the totals by joins from the sales.
 .bail on
 create table answer (member text primary key, count integer, sum integer, least integer, greatest integer);
 .mode csv

@@ -1,4 +1,4 @@
--- The same, but that weeks have been kept since 2025.
+-- The same, except that weeks have been kept since 2025.
 drop view member;
 drop view lies_in;
 create view member as

@@ -1,4 +1,4 @@
--- What a warehouse has: a row a day, with its month, its quarter, its year, and the week and the year of ISO 8601.
+-- What a warehouse has: a row for each day, with its month, its quarter, its year, and the week and the year of ISO 8601.
 create table day (
     date text primary key, week text not null, month text not null, quarter text not null, year text not null,
     iso_year text not null

@@ -1,4 +1,4 @@
--- Prints the rows that only one side has: the views that were loaded, and what was taken from two of them, and the database's own.
+-- Prints the rows that only one side has: the views that were loaded, and what was computed from two of them, and the database's own.
 with
 program as (select * from answer where category2 <> 'Card'),
 only_program as (select * from program except select * from own),

@@ -1,4 +1,4 @@
--- The totals by country and department, taken from two views that were loaded: that of cities and groups, and that of cities and
+-- The totals by country and department, computed from two views that were loaded: that of cities and groups, and that of cities and
 -- cards. `cube` says that this is right, whatever is sold where.
 create view taken as
     select 'Country' as category1, 'Department' as category2, above_city.parent as m1, above_article.parent as m2,

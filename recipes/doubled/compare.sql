@@ -1,4 +1,4 @@
--- Loads the answer, and prints the rows that only one side has: the answer, and the totals by joins from the sales.
+-- Loads the answer, and prints the rows in which it differs from the totals by joins from the sales.
 .bail on
 create table answer (member text primary key, count integer, sum integer, least integer, greatest integer);
 .mode csv

@@ -1,2 +1,2 @@
--- A store lies where it lies now.
+-- Each store lies only where it lies now.
 delete from store_city where until is not null;

@@ -1,6 +1,6 @@
 -- Prints what is wrong with the views member, lies_in and fact, before they are exported: kinds of faults with how
--- many there are and an example each. It reads the schema's edges from edges.txt, a child and a parent a line. The
--- program would tell the first fault alone. A comparison with null is never true, so each kind asks for nulls by
+-- many there are and an example of each. It reads the schema's edges from edges.txt, a child and a parent on each line. The
+-- program would report only the first fault. A comparison with null is never true, so each kind asks for nulls by
 -- name. The last kind is a hint, and no fault.
 .bail on
 create temp table edge (child text not null, parent text not null);

@@ -1,4 +1,4 @@
--- Prints the rows that only one side has: the store's, as it was loaded, and the countries' that were taken from it; and the
+-- Prints the rows that only one side has: the store's, as it was loaded, and the countries' that were computed from it; and the
 -- database's own, from each sale.
 .bail on
 create temp table kept (category text, member text, count integer, sum integer, least integer, greatest integer);

@@ -1,7 +1,7 @@
--- Follows the tables from now on: each sale that comes or goes is a change, and so is a place that is moved, renamed
--- or taken away. A sale that is corrected goes and comes. Numbers of changes only grow. `insert or replace` takes a
--- row away and fires no trigger for it, unless the session said `pragma recursive_triggers = on`; so where a row is
--- there already, the store is made anew.
+-- Follows the tables from now on: each sale that is inserted or deleted is a change, and so is a place that is moved, renamed
+-- or deleted. A sale that is corrected is deleted and inserted. Numbers of changes only grow. `insert or replace` takes a
+-- row away and fires no trigger for it, unless the session said `pragma recursive_triggers = on`; so if a row is
+-- there already, the store is rebuilt.
 create table change (id integer primary key autoincrement, kind text not null, member text, value integer);
 
 create trigger sale_came after insert on sale begin

@@ -1,7 +1,7 @@
 -- Writes what the program reads, all of one moment: instance.csv, facts.csv with all sales, the number of the last
 -- change, how many sales there are and their sum, and of the changes after number :after the sales that came, those
 -- that went, and the rows that may have changed unseen. A sale that came and went meanwhile is in neither file. It
--- stops where a row of lies_in would be lost.
+-- stops if a row of lies_in would be lost.
 .bail on
 begin;
 create temp table orphan (

@@ -1,6 +1,6 @@
--- Loads the answers, one a measure. A line with the plan stands above each.
--- Another time it replaces what it loaded before, and readers see the old totals or the new ones.
--- It stops, and the old rows stay, where a file isn't whole: a refusal, nothing at all, or cut off within a line.
+-- Loads the answers, one for each measure. Each has a line with the plan above it.
+-- If it is run again, it replaces what it loaded before, and readers see the old totals or the new ones.
+-- It stops, and the old rows stay, if a file isn't whole: a refusal, nothing at all, or cut off within a line.
 .bail on
 begin;
 create temp table whole (file text, is_whole integer, constraint "a file is no whole answer" check (is_whole));

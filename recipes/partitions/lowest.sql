@@ -1,6 +1,6 @@
--- The views of the lowest levels. Each server groups its own sales, so that a row a member comes over the network and
--- not a row a sale, and both work at once; then the parts are added, however the sales lie on servers: counts and
--- sums are summed, and the least is the least of the leasts. It stops where a total would be lost or wrong: foreign
+-- The views of the lowest levels. Each server groups its own sales, so that a row per member comes over the network and
+-- not a row per sale, and both work at once; then the parts are added, however the sales lie on servers: counts and
+-- sums are summed, and the least is the least of the leasts. It stops if a total would be lost or wrong: foreign
 -- keys don't reach over servers, so a sale may be of no lowest member, which are those of :categories; and one of no
 -- amount would be counted.
 create table part as

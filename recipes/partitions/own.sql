@@ -1,4 +1,4 @@
--- The database's own totals of all levels, from each sale. They are here to be compared with.
+-- The database's own totals of all levels, from each sale. The answers are compared with them.
 create table way as
 with recursive up (place, ancestor) as (
     select id, id from place

@@ -1,5 +1,5 @@
 -- Writes instance.csv and facts.csv from the views member, lies_in and fact, both of one moment. Parents are joined
--- by semicolons. It stops where a row of lies_in would be lost: its child is no member, or its parent is null.
+-- by semicolons. It stops if a row of lies_in would be lost: its child is no member, or its parent is null.
 begin isolation level repeatable read read only;
 do $$ declare lost record; begin
     select child::text as child, parent::text as parent into lost from lies_in

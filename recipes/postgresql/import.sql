@@ -1,6 +1,6 @@
--- Loads what the program printed: Store.csv is a view, and in the others a line with the plan stands above the view.
--- A sum may be larger than a bigint. Another time it replaces what it loaded before, and readers see the old totals
--- or the new ones. It stops, and the old ones stay, where a file isn't whole: a refusal, nothing at all, or cut off
+-- Loads what the program printed: Store.csv is a view, and in the others a line with the plan precedes the view.
+-- A sum may be larger than a bigint. If it is run again, it replaces what it loaded before, and readers see the old totals
+-- or the new ones. It stops, and the old ones stay, if a file isn't whole: a refusal, nothing at all, or cut off
 -- within a line.
 begin;
 \set store `head -n 1 Store.csv; tail -c 1 Store.csv | od -An -tx1`

@@ -1,6 +1,6 @@
--- Loads what the program printed: Store.csv is a view, and in the others a line with the plan stands above the view.
--- Another time it replaces what it loaded before, and readers see the old totals or the new ones. It stops, and the
--- old ones stay, where a file isn't whole: a refusal, nothing at all, or cut off within a line.
+-- Loads what the program printed: Store.csv is a view, and in the others a line with the plan precedes the view.
+-- If it is run again, it replaces what it loaded before, and readers see the old totals or the new ones. It stops, and the
+-- old ones stay, if a file isn't whole: a refusal, nothing at all, or cut off within a line.
 .bail on
 begin;
 create temp table whole (file text, is_whole integer, constraint "a file is no whole answer" check (is_whole));

@@ -1,4 +1,4 @@
-"""Questions about schemas for solvers that know nothing of them: a module, which isn't run.
+"""Questions about schemas for solvers that know nothing of them: a module, not run by itself.
 
 `Question` reads a schema's text and formulas, and hands each part to a writer, which answers with what stands for the
 part in the solver's language: `AnswerSets` for clingo, `Clauses` for minisat and cadical.

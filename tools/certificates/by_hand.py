@@ -1,6 +1,6 @@
-"""Certificates, and texts that are none, written by hand from docs/CERTIFICATES.md, each with what must be said of it.
+"""Certificates, and texts that are none, written by hand from docs/CERTIFICATES.md, each with the verdict that it must get.
 
-A row is: what it shows; the line that is rejected, or 0 of a certificate; the schema; the target and the sources; the lines,
+A row is: what it shows; the line that is rejected, or 0 for a certificate; the schema; the target and the sources; the lines,
 separated by ` / `, or the text as bytes.
 """
 

@@ -1,7 +1,7 @@
 """The program's commands on certificates against tools/check-certificate, which knows nothing of the program.
 
-Of the texts written by hand it is known what is to be said; of those that are cut, altered or of another question both say
-the same.
+For the texts written by hand the right verdict is known; on those that are cut, altered or about another question both
+must say the same.
 """
 
 import random

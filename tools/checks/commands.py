@@ -1,7 +1,7 @@
 """Each command of the program stands in each place that lists commands, and no other does.
 
-The commands are those that src/words.rt of each family tells apart, and `version`, which the top call answers itself. Of
-docs/proved/claim.md only the other way is left out: its rows speak of more than commands.
+The commands are those that src/words.rt of each family tells apart, and `version`, which the top call answers itself. For
+docs/proved/claim.md, whose rows speak of more than commands, only the first is checked.
 """
 
 import re

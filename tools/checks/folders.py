@@ -1,7 +1,7 @@
 """Each folder of proofs/ belongs to a function of src/.
 
 The folder's path is the function's: the module, then the type of a method, then the function. The module of a type's
-own method is the type's, wherever the method stands. Behind the type of a trait's method stand the names of the trait and
+own method is the type's, wherever the method stands. After the type of a trait's method come the names of the trait and
 of its arguments, and the module is that of the impl. A folder `+NAME` belongs to functions that call each other: NAME is
 one of them, or what `#[cycle(NAME)]` calls them.
 """

@@ -1,4 +1,4 @@
-"""What `after-no` says of each no of a page, as time allows: first its blocks of all, then simple constraints of some."""
+"""What `after-no` says about each no of a page, as time allows: first its blocks for all of them, then simple constraints for some."""
 
 from __future__ import annotations
 

@@ -1,4 +1,4 @@
-"""Simple constraints that turn a no: those that a designer would write, tried on counterexamples before the program is asked."""
+"""Simple constraints that turn a no into a yes: those that a designer would write, tried on counterexamples before the program is asked."""
 
 from __future__ import annotations
 

@@ -1,7 +1,7 @@
 """`breaks` against `rollup`, member by member: each fact has a digit of its own in all sums.
 
 The fact at the k-th lowest member is 16^k. So in a target's view, made from the facts, a digit of 1 says that the member reaches it;
-and in what the sources' views come to when they are taken up to the target the digit says by how many sources. `answer` refuses to
+and in the total of the sources' views, taken up to the target, the digit says by how many sources it does. `answer` refuses to
 take such views up, since the totals may differ; so that is done here.
 """
 

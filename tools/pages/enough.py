@@ -1,4 +1,4 @@
-"""Which views are enough for a target: the least lists of sources from which it can be taken, asked of the program.
+"""Which views are enough for a target: the least lists of sources from which it can be computed, asked of the program.
 
 A no of the program shows one fact on one legal instance. A list of sources is enough only if just one of them has that fact, so
 each no rules out many lists that need not be asked, and each list that is given has the program's own yes.

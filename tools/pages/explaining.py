@@ -1,4 +1,4 @@
-"""What explains a refusal: the line or record that it names, what of it is at fault, and the manual's sentence on it."""
+"""What explains a refusal: the line or record that it names, the part that is at fault, and the manual's sentence on it."""
 
 from __future__ import annotations
 

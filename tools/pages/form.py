@@ -2,7 +2,7 @@
 there.
 
 This reads lines as docs/FORMATS.md says, "Schema text", and judges nothing but their form. The program has judged
-before; where this finds no cause, it says nothing.
+before; if this finds no cause, it says nothing.
 """
 
 from __future__ import annotations

@@ -8,7 +8,7 @@ from typing import Optional
 
 from .program import TOP
 
-MANUAL = TOP / "man" / "olap.1"
+COMMANDS, FORMATS = TOP / "man" / "olap.1", TOP / "man" / "olap.5"
 SECTIONS = {
     "schema": ("Kinds of a schema's or a formula's fault",),
     "record": ("Kinds of a record's fault", "Kinds of a fact that can't be added or withdrawn"),
@@ -24,9 +24,9 @@ def plain(text: str) -> str:
 
 def entries(title: str) -> list[tuple[str, str]]:
     """The heads of a part of the diagnostics, and what is said below each."""
-    part = MANUAL.read_text(encoding="utf-8").partition(f"\n.SS {title}\n")[2]
+    part = FORMATS.read_text(encoding="utf-8").partition(f"\n.SS {title}\n")[2]
     part = re.split(r"^\.S[SH] ", part, maxsplit=1, flags=re.M)[0]
-    return re.findall(r"^\.TP\n(.*)\n((?:(?!\.TP\b).*\n)*)", part, re.M)
+    return re.findall(r"^\.TP(?: \d+)?\n(.*)\n((?:(?!\.TP\b).*\n)*)", part, re.M)
 
 
 def sentence(kind: str, where: str) -> Optional[str]:
@@ -53,7 +53,7 @@ def sentence_on(refusal: str) -> Optional[str]:
 
 def synopses() -> dict[str, str]:
     """The words of each command."""
-    part = MANUAL.read_text(encoding="utf-8").partition("\n.SH SYNOPSIS\n")[2].partition("\n.SH ")[0]
+    part = COMMANDS.read_text(encoding="utf-8").partition("\n.SH SYNOPSIS\n")[2].partition("\n.SH ")[0]
     lines = [plain(line).replace("\\fI", "") for line in part.splitlines() if line.startswith("\\fB")]
     return {line.split(" ")[1]: line for line in lines}
 

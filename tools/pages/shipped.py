@@ -17,10 +17,12 @@ exec python3 "$(dirname "$(dirname "$(readlink -f "$0")")")/share/olap/tools/ola
 COPIED = {
     Path("share/man/man1/olap.1"): "man/olap.1",
     Path("share/man/man1/olap-tools.1"): "man/olap-tools.1",
+    Path("share/man/man5/olap.5"): "man/olap.5",
     Path("share/bash-completion/completions/olap"): "completions/olap.bash",
     Path("share/zsh/site-functions/_olap"): "completions/_olap",
     Path("share/fish/vendor_completions.d/olap.fish"): "completions/olap.fish",
     BELOW / "man/olap.1": "man/olap.1",
+    BELOW / "man/olap.5": "man/olap.5",
     BELOW / "examples/location/schema.txt": "examples/location/schema.txt",
 }
 Content = Tuple[bytes, int]  # the bytes and the mode

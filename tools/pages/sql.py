@@ -1,4 +1,4 @@
-"""The statement by which a database takes a target's view from the sources' views, as recipes have them."""
+"""The statement by which a database computes a target's view from the sources' views, as recipes have them."""
 
 from __future__ import annotations
 

@@ -4,20 +4,19 @@
 --     all_each           of each atom on names of the constraints and of the question
 --     all_numbers        of each atom on numbers of them
 --     has_kinds          the atoms are of the kinds of their categories
---     atom_on_names      a constant is one of an atom
---     atom_on_numbers    and so is a number
-use Rattle.std.proofs.Common.{◌≡◌, ℕ, ℤ, List, [], ◌∷◌, true, false, subst}
-use Rattle.std.specs.Prelude.{All, Contains, filter, flat_map, ◌==◌, ◌≤◌, length}
-use Rattle.std.proofs.lemmas.Bool.{eqb-true}
+use Rattle.std.proofs.Common.{◌≡◌, ℕ, ℤ, List, [], ◌∷◌, true, false}
+use Rattle.std.specs.Prelude.{All, Contains, flat_map, ◌≤◌, length}
 use Rattle.std.proofs.lemmas.List.Elements.{All-append, All-cons, All-contains, All-nil}
 use Rattle.olap_base.specs.Deciding.{contains_cons}
 use Rattle.olap_base.specs.Graph.{Graph, IsCategory, is_number}
 use Rattle.olap_base.specs.Limits.{most_text_bytes}
-use Rattle.olap_base.proofs.ListLemmas.{Contains-from_filter, Contains-from_map, contains_head}
+use Rattle.olap_base.proofs.ListLemmas.{contains_head}
 use Rattle.olap_numerals.specs.Numerals.{IsSmall}
-use Rattle.olap_ast.specs.Constants.{HasKinds, all_comparisons, all_equalities, numbers_on, texts_on}
-use Rattle.olap_ast.specs.Formula.{Comparison, Equality, Formula, Formula.And, Formula.Compare, Formula.Equals, Formula.Falsity, Formula.Iff, Formula.Implies, Formula.Not, Formula.One, Formula.Or, Formula.Path, Formula.Reach, Formula.Truth, Formula.Via, Formula.Xor, Terms, Terms.End, Terms.More, comparisons, comparisons_of_terms, equalities, equalities_of_terms}
+use Rattle.olap_ast.specs.Atoms.{Comparison, Equality, all_comparisons, all_equalities, comparisons, comparisons_of_terms, equalities, equalities_of_terms}
+use Rattle.olap_ast.specs.Constants.{HasKinds}
+use Rattle.olap_ast.specs.Formula.{Formula, Formula.And, Formula.Compare, Formula.Equals, Formula.Falsity, Formula.Iff, Formula.Implies, Formula.Not, Formula.One, Formula.Or, Formula.Path, Formula.Reach, Formula.Truth, Formula.Via, Formula.Xor, Terms, Terms.End, Terms.More}
 use Rattle.olap_ast.specs.Schema.{Constraint, Schema}
+use Rattle.olap_ast.proofs.ComparedLemmas.{atom_of_number, atom_of_text}
 use Rattle.olap_ast.specs.Valid.{AreFormulasAt, IsFormulaAt}
 
 -- ---- the atoms of one formula
@@ -129,34 +128,6 @@ all_numbers P s r q of f v =
     All-append P (flat_map (λ (c : Constraint). comparisons c.formula) s.constraints) (comparisons q)
     (constraints_numbers P s.graph of s.constraints f) (each_comparison P s.graph of r q v)
 
--- ---- constants are constants of atoms
-
--- a text that is asked for on a category is that of an atom on it
-pub atom_on_names : (d : ℕ) (es : List Equality) (text : List ℕ) → Contains (texts_on d es) text
-    → Contains es (record { category = d; text = text })
-atom_on_names d es text c =
-    let t = Contains-from_map (λ (a : Equality). a.text) (filter (λ (a : Equality). a.category == d) es) text c in
-    let u = Contains-from_filter (λ (a : Equality). a.category == d) es t.0 t.1 in
-    let e : t.0.category ≡ d = eqb-true t.0.category d u.1 in
-    let q : t.0.text ≡ text = t.2 in
-    subst (λ a. Contains es a) (same t.0 e q) u.0
-  where
-    same : (a : Equality) → a.category ≡ d → a.text ≡ text → a ≡ record { category = d; text = text }
-    same a e q = λ i. record { category = e i; text = q i }
-
--- and so is a number
-pub atom_on_numbers : (d : ℕ) (es : List Comparison) (n : ℤ) → Contains (numbers_on d es) n
-    → Contains es (record { category = d; number = n })
-atom_on_numbers d es n c =
-    let t = Contains-from_map (λ (a : Comparison). a.number) (filter (λ (a : Comparison). a.category == d) es) n c in
-    let u = Contains-from_filter (λ (a : Comparison). a.category == d) es t.0 t.1 in
-    let e : t.0.category ≡ d = eqb-true t.0.category d u.1 in
-    let q : t.0.number ≡ n = t.2 in
-    subst (λ a. Contains es a) (same t.0 e q) u.0
-  where
-    same : (a : Comparison) → a.category ≡ d → a.number ≡ n → a ≡ record { category = d; number = n }
-    same a e q = λ i. record { category = e i; number = q i }
-
 -- ---- kinds
 
 -- the atoms are of the kinds of their categories
@@ -167,7 +138,7 @@ has_kinds s r q f v =
     let N : Comparison → Type 0 = λ a. (is_number s.graph a.category ≡ true) × IsSmall a.number in
     record {
       texts = λ d text c. All-contains T (all_equalities s q) (record { category = d; text = text })
-          (all_each T s r q (λ e k h. h.1) f v) (atom_on_names d (all_equalities s q) text c);
+          (all_each T s r q (λ e k h. h.1) f v) (atom_of_text s q d text c);
       numbers = λ d n c. All-contains N (all_comparisons s q) (record { category = d; number = n })
-          (all_numbers N s r q (λ e k h. (h.1, h.2)) f v) (atom_on_numbers d (all_comparisons s q) n c);
+          (all_numbers N s r q (λ e k h. (h.1, h.2)) f v) (atom_of_number s q d n c);
     }

@@ -1,24 +1,27 @@
 -- The fresh name and the candidates exist, whatever the schema and the question, and there is one fresh name.
 use Rattle.std.proofs.Common.{◌≡◌, ℕ, zero, suc, ◌+◌, ◌<◌, ◌≤◌, List, [], ◌∷◌, length, map, replicate, Bool, true, false, refl, ap, sym, subst, ◌∙◌, ◌⊎◌, inl, inr, arith, Ordering, Less, Equal, Greater, nat_cmp}
-use Rattle.std.specs.Prelude.{Contains, codes, filter, ◌==◌, All, AllPairs}
+use Rattle.std.specs.Prelude.{Contains, codes, All, AllPairs}
 use Rattle.std.proofs.lemmas.List.{length-append, length-replicate}
 use Rattle.std.proofs.lemmas.List.Elements.{All-cons}
 use Rattle.std.proofs.lemmas.List.Kept.{AllPairs-cons}
-use Rattle.std.proofs.lemmas.Bool.Decides.{nat_tests}
 use Rattle.std.specs.Ordering.{ordering_reverse, is_eq}
 use Rattle.std.specs.Cmp.Lexicographic.{slice_cmp, texts_ties, nat_list_cmp_total}
 use native.Mathlib.Decide.{ℕ_discrete}
 use mathlib.Core.List.{List-discrete}
 use Rattle.olap_base.specs.Deciding.{decide_contains, contains_cases, contains_cons}
-use Rattle.olap_base.proofs.ListLemmas.{contains_head, Contains-nil, Contains-map, Contains-from_map, Contains-filter, Contains-from_filter}
-use Rattle.olap_ast.specs.Formula.{Formula, Equality}
+use Rattle.olap_base.proofs.ListLemmas.{contains_head, Contains-nil, Contains-map, Contains-from_map}
+use Rattle.olap_ast.specs.Atoms.{Equality, all_equalities, texts_on}
+use Rattle.olap_ast.specs.Formula.{Constant.AText, Formula}
 use Rattle.olap_ast.specs.Schema.{Schema}
-use Rattle.olap_ast.specs.Constants.{IsConstant, IsFreshName, IsBefore, AreInByteOrder, FreshNamesExist, HasKinds, all_equalities, fresh_candidate, constants, numbers}
+use Rattle.olap_ast.specs.Constants.{IsConstant, IsFreshName, IsBefore, AreInByteOrder, FreshNamesExist, HasKinds, fresh_candidate, numbers}
 use Rattle.olap_ast.specs.Frozen.{AreNamesOf, CandidatesExist}
 use Rattle.olap_base.specs.Graph.{is_number}
 use Rattle.olap_numerals.specs.Representatives.{AreSmall}
 use Rattle.olap_numerals.proofs.NameLemmas.{number_names_exist}
+use Rattle.olap_ast.proofs.ComparedLemmas.{atom_of_text, constants_in_order, number_constant, text_of_atom}
 use Rattle.olap_ast.proofs.TextLemmas.{same_text}
+use Rattle.olap_base.proofs.GeneralLemmas.{eqb_same, same_or_below_suc}
+use Rattle.olap_base.proofs.DecisionLemmas.{stable}
 
 -- ---- the fresh name
 
@@ -26,28 +29,18 @@ use Rattle.olap_ast.proofs.TextLemmas.{same_text}
 abbrev texts : Schema → Formula → List (List ℕ)
 texts s q = map (λ (a : Equality). a.text) (all_equalities s q)
 
--- a category passes the test with itself
-eqb_same : (d : ℕ) → (d == d) ≡ true
-eqb_same d = grind (arith, nat_tests)
-
 -- a constant is one of the texts
-known : (s : Schema) (q : Formula) (d : ℕ) (t : List ℕ) → IsConstant s q d t → Contains (texts s q) t
+known : (s : Schema) (q : Formula) (d : ℕ) (t : List ℕ) → IsConstant s q d (AText t) → Contains (texts s q) t
 known s q d t c =
-    let m = Contains-from_map (λ (a : Equality). a.text)
-    (filter (λ (a : Equality). a.category == d) (all_equalities s q)) t c in
-    let f = Contains-from_filter (λ (a : Equality). a.category == d) (all_equalities s q) m.0 m.1 in
-    subst (λ w. Contains (texts s q) w) m.2 (Contains-map (λ (a : Equality). a.text) (all_equalities s q) m.0 f.0)
+    Contains-map (λ (a : Equality). a.text) (all_equalities s q) (record { category = d; text = t })
+    (atom_of_text s q d t c)
 
 -- and each text is a constant of some category
-at : (s : Schema) (q : Formula) (t : List ℕ) → Contains (texts s q) t → (d : ℕ) × IsConstant s q d t
+at : (s : Schema) (q : Formula) (t : List ℕ) → Contains (texts s q) t → (d : ℕ) × IsConstant s q d (AText t)
 at s q t c =
     let m = Contains-from_map (λ (a : Equality). a.text) (all_equalities s q) t c in (
       m.0.category,
-      subst (λ w. IsConstant s q m.0.category w) m.2
-          (Contains-map (λ (a : Equality). a.text)
-          (filter (λ (a : Equality). a.category == m.0.category) (all_equalities s q)) m.0
-          (Contains-filter (λ (a : Equality). a.category == m.0.category) (all_equalities s q) m.0
-          (eqb_same m.0.category) m.1)),
+      subst (λ w. IsConstant s q m.0.category (AText w)) m.2 (text_of_atom s q m.0.category m.0.text m.1),
     )
 
 -- how long the texts are together
@@ -79,10 +72,6 @@ record IsLeastOf (P : ℕ → Type 0) : Type 0 where
   has : P n
   none : (m : ℕ) → m < n → P m → ⊥
 
--- below j + 1 is j, or below j
-split : (m j : ℕ) → m < suc j → (m ≡ j) ⊎ (m < j)
-split m j h = grind arith
-
 -- from j upward, where none below j has the property, and one that is so far above has it
 up : (P : ℕ → Type 0) → ((n : ℕ) → Dec (P n)) → (left j : ℕ) → P (j + left) → ((m : ℕ) → m < j → P m → ⊥) →
     IsLeastOf P
@@ -90,7 +79,7 @@ up P d zero j p none = record { n = j; has = let e : j + 0 ≡ j = omega arith i
 up P d (suc left) j p none = elim (d j) [
   | yes h ↦ record { n = j; has = h; none = none }
   | no n ↦ up P d left (suc j) (let e : j + suc left ≡ suc j + left = omega arith in subst P e p)
-      (λ m l h. elim (split m j l) [ inl e ↦ n (subst P e h) | inr k ↦ none m k h ])
+      (λ m l h. elim (same_or_below_suc m j l) [ inl e ↦ n (subst P e h) | inr k ↦ none m k h ])
 ]
 
 -- whether that candidate is no text
@@ -99,11 +88,6 @@ dec_free s q n = elim (decide_contains (List-discrete ℕ_discrete) (texts s q) 
   | yes c ↦ no (λ f. f c)
   | no m ↦ yes m
 ]
-
--- what can be decided and can't fail holds
-stable : {P : Type 0} → Dec P → ((P → ⊥) → ⊥) → P
-stable (yes p) f = p
-stable (no n) f = absurd (f n)
 
 -- there is a fresh name
 fresh_exists : (s : Schema) (q : Formula) → (name : List ℕ) × IsFreshName s q name
@@ -133,9 +117,9 @@ fresh_is_one s q a b f g = go (order f.underscores g.underscores)
         a ≡ b
     go (inl e) = f.spelled ∙ ap fresh_candidate e ∙ sym g.spelled
     go (inr (inl l)) = let t =
-        g.first f.underscores l in absurd (f.free t.0 (subst (λ w. IsConstant s q t.0 w) (sym f.spelled) t.1))
+        g.first f.underscores l in absurd (f.free t.0 (subst (λ w. IsConstant s q t.0 (AText w)) (sym f.spelled) t.1))
     go (inr (inr l)) = let t =
-        f.first g.underscores l in absurd (g.free t.0 (subst (λ w. IsConstant s q t.0 w) (sym g.spelled) t.1))
+        f.first g.underscores l in absurd (g.free t.0 (subst (λ w. IsConstant s q t.0 (AText w)) (sym g.spelled) t.1))
 
 -- ---- the constants in byte order
 
@@ -244,18 +228,21 @@ sorted (x ∷ xs) =
     }
 
 -- so there is a list of the texts in byte order
-in_order_exist : (xs : List (List ℕ)) → (ts : List (List ℕ)) × AreInByteOrder xs ts
+in_order_exist : (xs : List (List ℕ)) → (ts : List (List ℕ)) × AreInByteOrder (Contains xs) ts
 in_order_exist xs = let r = sorted xs in
     (r.out, record { ordered = ascending r.out r.up; sound = r.sound; complete = r.complete })
 
 -- each category has names
 names_exist : (s : Schema) (q : Formula) → HasKinds s q → (d : ℕ) →
     (first : List ℕ) × (others : List (List ℕ)) × AreNamesOf (is_number s.graph d) s q d first others
-names_exist s q h d = go (is_number s.graph d) (λ n c. (h.numbers d n c).1)
+names_exist s q h d = go (is_number s.graph d) (λ n c. (h.numbers d n (number_constant s q d n c)).1)
   where
     go : (m : Bool) → AreSmall (numbers s q d)
         → (first : List ℕ) × (others : List (List ℕ)) × AreNamesOf m s q d first others
-    go false small = let f = fresh_exists s q in let t = in_order_exist (constants s q d) in (f.0, t.0, (f.1, t.1))
+    go false small =
+        let f = fresh_exists s q in
+        let t = in_order_exist (texts_on d (all_equalities s q)) in
+        (f.0, t.0, (f.1, constants_in_order s q d t.0 t.1))
     go true small = number_names_exist (numbers s q d) small
 
 -- there are candidates

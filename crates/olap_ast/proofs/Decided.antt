@@ -10,17 +10,7 @@ use Rattle.olap_base.specs.Instance.{Instance, IsMemberOf, Reaches, ReachesCateg
 use Rattle.olap_base.specs.Deciding.{dec_or, dec_and, dec_iff, decide_reaches, contains_cons, contains_cases}
 use Rattle.olap_base.proofs.ListLemmas.{contains_head, Contains-nil, Contains-range, Contains-from_range}
 use Rattle.olap_ast.specs.Formula.{Formula, Terms, Formula.Truth, Formula.Falsity, Formula.Path, Formula.Reach, Formula.Via, Formula.Equals, Formula.Compare, Formula.Not, Formula.And, Formula.Or, Formula.Implies, Formula.Iff, Formula.Xor, Formula.One, Terms.End, Terms.More, Holds, ExactlyOneHolds, NoneHolds, HasPath, IsNumbered, ReachesNamed, ReachesNumbered}
-
--- whether A fails
-pub dec_not : {A : Type 0} → Dec A → Dec (A → ⊥)
-dec_not (yes a) = no (λ f. f a)
-dec_not (no n) = yes n
-
--- whether A implies B
-pub dec_implies : {A B : Type 0} → Dec A → Dec B → Dec (A → B)
-dec_implies (no n) d = yes (λ a. absurd (n a))
-dec_implies (yes a) (yes b) = yes (λ c. b)
-dec_implies (yes a) (no m) = no (λ f. m (f a))
+use Rattle.olap_base.proofs.DecisionLemmas.{dec_not, dec_implies}
 
 -- whether P holds of one in the list
 pub dec_some : {A : Type 0} (P : A → Type 0) → ((x : A) → Dec (P x)) → (xs : List A) →

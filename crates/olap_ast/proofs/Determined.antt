@@ -14,17 +14,18 @@ use Rattle.olap_base.proofs.ViewLemmas.{agree_exactly}
 use Rattle.olap_base.specs.Graph.{IsBottom, is_number}
 use Rattle.olap_numerals.specs.Numerals.{canonical}
 use Rattle.olap_base.specs.Instance.{category_of}
-use Rattle.olap_ast.specs.Formula.{Formula}
+use Rattle.olap_ast.specs.Formula.{Constant.AText, Formula}
 use Rattle.olap_ast.specs.Schema.{Schema}
 use Rattle.olap_base.specs.Ranks.{IsNotAfter}
-use Rattle.olap_ast.specs.Constants.{AreInByteOrder, IsBefore, constants}
+use Rattle.olap_ast.specs.Constants.{AreInByteOrder, IsBefore, IsConstant}
 use Rattle.olap_ast.specs.Findings.{Finding, Finding.Unsatisfiable, Finding.Redundant, Finding.Unused, TheFindingsAreOne, finding_rank}
 use Rattle.olap_ast.specs.Frozen.{AreCandidates, AreNamesOf, Candidates, Frozen, IsFrozen, IsFrozenInstance, IsLeastFrozen, TheLeastIsOne, chosen, code, instance_of, name_in, root_place, text_of_index, thawed}
 use Rattle.olap_ast.specs.Summarizable.{IsCounterexample, IsSummarizable, TheCounterexampleIsOne, not_by_one}
 use Rattle.olap_ast.proofs.CandidatesExist.{fresh_names_exist}
 use Rattle.olap_ast.proofs.OrderedLists.{Apart, no_longer, same_list}
 use Rattle.olap_ast.proofs.Summing.{one_of}
-use Rattle.olap_ast.proofs.Uniqueness.{code_is_one, counterexample_is_one, least_is_one, not_after_both}
+use Rattle.olap_ast.proofs.Uniqueness.{code_is_one, counterexample_is_one, least_is_one}
+use Rattle.olap_base.proofs.RankLemmas.{not_after_both}
 
 -- ---- candidates
 
@@ -41,8 +42,8 @@ apart_texts x y l m =
     absurd (subst less_or q tt)
 
 -- the texts in byte order are one list
-same_order : (all xs ys : List (List ℕ)) → AreInByteOrder all xs → AreInByteOrder all ys → xs ≡ ys
-same_order all xs ys a b = same_list IsBefore apart_texts xs ys a.ordered b.ordered
+same_order : (P : List ℕ → Type 0) (xs ys : List (List ℕ)) → AreInByteOrder P xs → AreInByteOrder P ys → xs ≡ ys
+same_order P xs ys a b = same_list IsBefore apart_texts xs ys a.ordered b.ordered
     (λ t c. b.complete t (a.sound t c)) (λ t c. a.complete t (b.sound t c))
 
 -- no two numbers are each less than the other
@@ -55,7 +56,7 @@ same_names_of : (numeric : Bool) (s : Schema) (q : Formula) (d : ℕ) (x y : Lis
 same_names_of false s q d x y xs ys a b =
     let u = (fresh_names_exist s q).2 in
     let e : x ≡ y = u x a.0 ∙ sym (u y b.0) in
-    let t : xs ≡ ys = same_order (constants s q d) xs ys a.1 b.1 in λ i. e i ∷ t i
+    let t : xs ≡ ys = same_order (λ text. IsConstant s q d (AText text)) xs ys a.1 b.1 in λ i. e i ∷ t i
 same_names_of true s q d x y xs ys a b = a.spelled ∙ ap (λ ns. map canonical ns)
     (same_list ◌<ℤ◌ apart_numbers a.numbers b.numbers a.ascending b.ascending
     (λ n c. b.complete n (a.sound n c)) (λ n c. a.complete n (b.sound n c))) ∙ sym b.spelled
@@ -172,7 +173,7 @@ findings_are_one s xs ys a b = same_list Earlier apart_findings xs ys a.ordered 
 
 -- ---- all frozen dimensions
 
--- before, by their codes, of values with so many edges
+-- before, by their codes, of values with this many edges
 abbrev Before : ℕ → Frozen → Frozen → Type 0
 Before n f h = IsNotAfter (code f) (code h) × (f ≢ h) × (length f.edges ≡ n) × (length h.edges ≡ n)
 

@@ -2,6 +2,7 @@
 use Rattle.std.proofs.Common.{◌≡◌, ℕ, zero, suc, ◌<◌, List, [], ◌∷◌, sym, subst, inl, inr, arith}
 use Rattle.std.specs.Prelude.{◌≤◌, ◌⊎◌}
 use Rattle.olap_base.specs.Ranks.{IsNotAfter}
+use Rattle.olap_base.proofs.GeneralLemmas.{less_or_equal}
 
 -- k has the property, and no number with it is below k
 pub record IsLeast (P : ℕ → Type 0) (k : ℕ) : Type 0 where
@@ -67,10 +68,6 @@ decide_begins : (P : List ℕ → Type 0) (x : ℕ) → FirstOrNone (λ xs. P (x
 decide_begins P x (inl t) = yes (t.0, t.1.has)
 decide_begins P x (inr f) = no (λ t. f t.0 t.1)
 
--- at most y is below y, or y
-below_or_same : (x y : ℕ) → x ≤ y → (x < y) ⊎ (x ≡ y)
-below_or_same x y l = grind arith
-
 -- the least head, and the first rest after it
 joined : (P : List ℕ → Type 0) (x : ℕ) (xs : List ℕ) → (P [] → ⊥) → IsLeast (Begins P) x →
     IsFirst (λ ys. P (x ∷ ys)) xs → IsFirst P (x ∷ xs)
@@ -78,7 +75,7 @@ joined P x xs e h r = record { has = r.has; least = first }
   where
     first : (ys : List ℕ) → P ys → IsNotAfter (x ∷ xs) ys
     first [] q = absurd (e q)
-    first (y ∷ ys) q = elim (below_or_same x y (h.least y (ys, q))) [
+    first (y ∷ ys) q = elim (less_or_equal x y (h.least y (ys, q))) [
       | inl l ↦ inl l
       | inr s ↦ inr (s, r.least ys (subst (λ z. P (z ∷ ys)) (sym s) q))
     ]

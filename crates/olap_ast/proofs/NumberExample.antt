@@ -8,7 +8,7 @@ use Rattle.olap_base.specs.Deciding.{contains_cases}
 use Rattle.olap_base.specs.Above.{HasOneMemberEach}
 use Rattle.olap_base.specs.Graph.{IsHierarchy, IsLetterOrDigit, is_number}
 use Rattle.olap_base.specs.Instance.{IsMember, Reaches, category_of, name_of}
-use Rattle.olap_base.proofs.ListLemmas.{contains_head, Contains-nil}
+use Rattle.olap_base.proofs.ListLemmas.{contains_head, Contains-nil, Contains-only}
 use Rattle.olap_numerals.specs.Comparing.{Op.Less, is_numbered}
 use Rattle.olap_numerals.specs.Numerals.{canonical, number_of}
 use Rattle.olap_numerals.specs.Representatives.{AreNumberNames, IsLeast, IsNear, IsNumberName}
@@ -21,7 +21,7 @@ use Rattle.olap_ast.specs.Valid.{IsFormulaAt}
 use Rattle.olap_ast.proofs.AtomLemmas.{has_kinds}
 use Rattle.olap_ast.proofs.CandidatesExist.{candidates_exist}
 use Rattle.olap_ast.proofs.Examples.{head, name_is, small}
-use Rattle.olap_ast.proofs.OneMember.{alone, hierarchy, is_instance, lawful, numerals, one_member}
+use Rattle.olap_ast.proofs.OneMember.{hierarchy, is_instance, lawful, numerals, one_member}
 use Rattle.olap_ast.proofs.OrderedLists.{head_before}
 
 -- ---- the instance
@@ -54,7 +54,7 @@ spelled b = refl
 
 -- so the constraint is met
 met : (c : Constraint) → Contains sizes.constraints c → Meets nine c
-met c h = subst (λ d. Meets nine d) (alone (record { root = 1; formula = Compare 1 Less (pos 10) }) c h) at
+met c h = subst (λ d. Meets nine d) (Contains-only (record { root = 1; formula = Compare 1 Less (pos 10) }) c h) at
   where
     at : Meets nine (record { root = 1; formula = Compare 1 Less (pos 10) })
     at zero m = (0, m, inl refl, below_ten)
@@ -79,7 +79,7 @@ ten = pos 10 ∷ []
 -- the formula is of the graph
 formulas : (c : Constraint) → Contains sizes.constraints c → IsFormulaAt sizes.graph c.root c.formula
 formulas c h = subst (λ (d : Constraint). IsFormulaAt sizes.graph d.root d.formula)
-    (alone (record { root = 1; formula = Compare 1 Less (pos 10) }) c h)
+    (Contains-only (record { root = 1; formula = Compare 1 Less (pos 10) }) c h)
     (omega arith, refl, (omega (arith, ints), omega (arith, ints)))
 
 -- there are candidates
@@ -90,7 +90,7 @@ some = candidates_exist sizes Truth (has_kinds sizes 1 Truth formulas tt)
 ten_is_least : IsLeast ten (pos 10)
 ten_is_least = record {
   is_one = contains_head (pos 10) [];
-  least = λ n c. subst (λ z. pos 10 ≤ℤ z) (alone (pos 10) n c) (omega (arith, ints));
+  least = λ n c. subst (λ z. pos 10 ≤ℤ z) (Contains-only (pos 10) n c) (omega (arith, ints));
 }
 
 -- 9 is a number that names are made of
@@ -99,9 +99,10 @@ nine_is_name = ((omega (arith, ints), omega (arith, ints)), inr (inr (inl (pos 1
 
 -- and none of these is less
 none_less : (a : ℤ) → IsNear ten a → pos 9 ≤ℤ a
-none_less a (inl c) = let e = alone (pos 10) a c in omega (arith, ints, e)
-none_less a (inr (inl t)) = let e = alone (pos 10) t.0 t.1 in let q = t.2 in omega (arith, ints, e, q)
-none_less a (inr (inr (inl t))) = let e = alone (pos 10) t.0 t.1.is_one in let q = t.2 in omega (arith, ints, e, q)
+none_less a (inl c) = let e = Contains-only (pos 10) a c in omega (arith, ints, e)
+none_less a (inr (inl t)) = let e = Contains-only (pos 10) t.0 t.1 in let q = t.2 in omega (arith, ints, e, q)
+none_less a (inr (inr (inl t))) = let e = Contains-only (pos 10) t.0 t.1.is_one in let q = t.2 in
+    omega (arith, ints, e, q)
 none_less a (inr (inr (inr t))) = absurd (cc t.0)
 
 -- its numeral

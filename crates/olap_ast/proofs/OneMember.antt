@@ -5,18 +5,13 @@
 --     numerals       and numbers are numerals
 --     far_is         only the member is far below anything, and only below `all`
 use Rattle.std.proofs.Common.{◌≡◌, ℕ, zero, suc, ◌<◌, List, [], ◌∷◌, Bool, true, false, refl, ap, sym, subst, ◌∙◌, ◌↔◌, ◌⊎◌, inl, inr, arith}
-use Rattle.std.specs.Prelude.{Contains, ◌≢◌, codes, IsSome, IsTrue}
+use Rattle.std.specs.Prelude.{◌≢◌, codes, IsSome, IsTrue}
 use Rattle.olap_base.specs.Steps.{Steps.here, Steps.step, Climb, Climb.climb, Climb-from_leads}
 use Rattle.olap_base.specs.Graph.{CategoryReaches, Edge, Graph, HasEdge, IsCategoryName, IsHierarchy}
 use Rattle.olap_base.specs.Instance.{Instance, IsBelow, IsFarBelow, IsInstance, IsLawful, category_of, member_at, parents_of}
-use Rattle.olap_base.specs.Deciding.{contains_cases}
-use Rattle.olap_base.proofs.ListLemmas.{contains_head, Contains-nil, Distinct, AllPairs-from_Distinct}
+use Rattle.olap_base.proofs.ListLemmas.{contains_head, Contains-nil, Distinct, AllPairs-from_Distinct, Contains-only}
 use Rattle.olap_numerals.specs.Named.{HasNumerals}
 use Rattle.olap_numerals.specs.Numerals.{number_of}
-
--- in a list of one, what is in it is that one
-pub alone : {A : Type 0} (x y : A) → Contains (x ∷ []) y → x ≡ y
-alone x y c = elim (contains_cases y x [] c) [ inl e ↦ e | inr n ↦ absurd (Contains-nil y n) ]
 
 -- a category of a kind, below `All`
 abbrev pub one_category : List ℕ → Bool → Graph
@@ -35,12 +30,12 @@ place x h = grind arith
 module _ (category : List ℕ) (kind : Bool) (id name : List ℕ) where
   -- the graph has one edge
   edge : (c d : ℕ) → HasEdge (one_category category kind) c d → (c ≡ 1) × (d ≡ 0)
-  edge c d h = let e = alone (record { child = 1; parent = 0 }) (record { child = c; parent = d }) h in
+  edge c d h = let e = Contains-only (record { child = 1; parent = 0 }) (record { child = c; parent = d }) h in
       (ap (λ (k : Edge). k.child) (sym e), ap (λ (k : Edge). k.parent) (sym e))
 
   -- the member is below `all`, and nothing else is below anything
   below : (x y : ℕ) → IsBelow (one_member id name) x y → (x ≡ 0) × (y ≡ 1)
-  below zero y b = (refl, sym (alone 1 y b))
+  below zero y b = (refl, sym (Contains-only 1 y b))
   below (suc zero) y b = absurd (Contains-nil y b)
   below (suc (suc x)) y b = absurd (Contains-nil y b)
 
@@ -107,7 +102,7 @@ module _ (category : List ℕ) (kind : Bool) (id name : List ℕ) where
   hierarchy is_name = record {
     kinds_known = refl;
     names_differ = AllPairs-from_Distinct (category ∷ []) (Contains-nil category, tt);
-    names = λ n c. subst (λ m. IsCategoryName m × (m ≢ codes "All")) (alone category n c) is_name;
+    names = λ n c. subst (λ m. IsCategoryName m × (m ≢ codes "All")) (Contains-only category n c) is_name;
     categories = λ c d h. let e = edge c d h in (omega (arith, e.0), omega (arith, e.1));
     edges_differ = AllPairs-from_Distinct (record { child = 1; parent = 0 } ∷ [])
         (Contains-nil (record { child = 1; parent = 0 }), tt);

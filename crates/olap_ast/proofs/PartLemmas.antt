@@ -11,13 +11,14 @@ use Rattle.olap_base.specs.Deciding.{below_is_member}
 use Rattle.olap_base.specs.Steps.{Climb, Climb.climb, Climb-from_leads, leads_from_Climb}
 use Rattle.olap_base.proofs.AboveLemmas.{reaches_all}
 use Rattle.olap_base.proofs.ListLemmas.{Contains-from_map, Contains-map}
-use Rattle.olap_base.proofs.Part.{IsPart, increasing_injective, order, part_instance, part_lawful, part_lift, part_inside}
+use Rattle.olap_base.proofs.Part.{IsPart, increasing_injective, part_instance, part_lawful, part_lift, part_inside}
 use Rattle.olap_numerals.specs.Named.{HasNumerals}
 use Rattle.olap_numerals.specs.Numerals.{number_of}
 use Rattle.olap_ast.specs.Formula.{Holds, IsNumbered}
 use Rattle.olap_ast.specs.Parts.{IsPartOf, LegalExactlyIfPartsAre, StandsIn}
 use Rattle.olap_ast.specs.Schema.{Constraint, Meets, Schema, IsLegal}
 use Rattle.olap_ast.proofs.Truth.{Any_number, Any_text, NamesAgree, NumbersAgree, same}
+use Rattle.std.proofs.lemmas.Bool.{cases_order}
 
 -- a list whose elements differ after a function has no doubles
 pairs_differ : (f : ℕ → ℕ) (xs : List ℕ) → AllPairs ◌≢◌ (map f xs) → AllPairs ◌≢◌ xs
@@ -81,7 +82,7 @@ module _ (i j : Instance) (e : ℕ → ℕ) (p : IsPartOf i j e) where
 
       at_end : (a k b : ℕ) → suc a ≡ length j → k < length j → e k ≡ b → suc b ≡ length i → e a < length i
           → suc (e a) ≡ length i
-      at_end a k b h l q r m = elim (order k a) [
+      at_end a k b h l q r m = elim (cases_order k a) [
         | inl s ↦ ap suc (sym (ap e s) ∙ q) ∙ r
         | inr s ↦ elim s [
           | inl u ↦ let f : e k < e a = p.ordered k a u (last_is_member a h) in absurd (omega arith)

@@ -30,7 +30,7 @@ implied_exactly s r q k h ok = let e = frozen_exactly s (Not q) r k h ok in (
     go n i l x m (no f) = let t = (frozen_exactly s (Not q) r k h ok).1 (i, l, x, m, f) in absurd (n t.0 t.1)
 
 -- a path of one edge is a parent
-one_step : (i : Instance) (x d : ℕ) → HasPath i x (d ∷ []) → (y : ℕ) × IsBelow i x y × (category_of i y ≡ d)
+pub one_step : (i : Instance) (x d : ℕ) → HasPath i x (d ∷ []) → (y : ℕ) × IsBelow i x y × (category_of i y ≡ d)
 one_step i x d ([], h, q) = absurd (cc)
 one_step i x d (y ∷ ys, h, q) = (y, h.0, cc)
 

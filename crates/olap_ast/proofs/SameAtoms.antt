@@ -4,59 +4,67 @@ use Rattle.std.proofs.Common.{◌≡◌, ℕ, ℤ, suc, List, ◌++◌, Bool, tr
 use Rattle.std.specs.Prelude.{Contains, flat_map}
 use Rattle.olap_base.specs.Graph.{is_number}
 use Rattle.olap_numerals.specs.Representatives.{AreNumberNames, IsNumberName}
-use Rattle.olap_ast.specs.Constants.{AreInByteOrder, HasKinds, IsConstant, IsFreshName, IsNameOf, IsNumberConstant, fresh_candidate, numbers_on, texts_on}
-use Rattle.olap_ast.specs.Formula.{Comparison, Equality, Formula, Holds, comparisons, equalities}
+use Rattle.olap_ast.specs.Atoms.{Comparison, Equality, comparisons, equalities, numbers_on}
+use Rattle.olap_ast.specs.Constants.{HasKinds, IsConstant, IsFreshName, IsNameOf, fresh_candidate, numbers}
+use Rattle.olap_ast.specs.Formula.{Constant.ANumber, Constant.AText, Formula, Holds}
 use Rattle.olap_ast.specs.Frozen.{AreCandidates, AreNamesOf, Candidates, Frozen, IsFrozen, thawed}
 use Rattle.olap_ast.specs.Schema.{Constraint, Schema}
+use Rattle.olap_ast.proofs.ComparedLemmas.{atom_of_number, atom_of_text, number_of_atom, numbers_are, text_of_atom}
 
 module _ (s : Schema) (p q : Formula) (same : equalities p ≡ equalities q)
     (same_numbers : comparisons p ≡ comparisons q) where
-  -- what holds of the texts on a category for one question holds for the other
-  on_texts : (P : List (List ℕ) → Type 0) (d : ℕ)
-      → P (texts_on d (flat_map (λ (c : Constraint). equalities c.formula) s.constraints ++ equalities p))
-      → P (texts_on d (flat_map (λ (c : Constraint). equalities c.formula) s.constraints ++ equalities q))
-  on_texts P d h = subst (λ (l : List Equality). P
-      (texts_on d (flat_map (λ (c : Constraint). equalities c.formula) s.constraints ++ l))) same h
+  -- a text of one question is one of the other
+  text_too : (d : ℕ) (text : List ℕ) → IsConstant s p d (AText text) → IsConstant s q d (AText text)
+  text_too d text c = text_of_atom s q d text (subst (λ (l : List Equality). Contains
+      (flat_map (λ (c : Constraint). equalities c.formula) s.constraints ++ l) (record { category = d; text = text }))
+      same (atom_of_text s p d text c))
 
-  -- a constant of one question is one of the other
-  constant_back : (d : ℕ) (text : List ℕ) → IsConstant s q d text → IsConstant s p d text
-  constant_back d text c = subst (λ (l : List Equality). Contains
-      (texts_on d (flat_map (λ (c : Constraint). equalities c.formula) s.constraints ++ l)) text) (sym same) c
+  -- and back
+  text_back : (d : ℕ) (text : List ℕ) → IsConstant s q d (AText text) → IsConstant s p d (AText text)
+  text_back d text c = text_of_atom s p d text (subst (λ (l : List Equality). Contains
+      (flat_map (λ (c : Constraint). equalities c.formula) s.constraints ++ l) (record { category = d; text = text }))
+      (sym same) (atom_of_text s q d text c))
 
-  -- what holds of the numbers on a category for one question holds for the other
-  on_numbers : (P : List ℤ → Type 0) (d : ℕ)
-      → P (numbers_on d (flat_map (λ (c : Constraint). comparisons c.formula) s.constraints ++ comparisons p))
-      → P (numbers_on d (flat_map (λ (c : Constraint). comparisons c.formula) s.constraints ++ comparisons q))
-  on_numbers P d h = subst (λ (l : List Comparison). P
-      (numbers_on d (flat_map (λ (c : Constraint). comparisons c.formula) s.constraints ++ l))) same_numbers h
+  -- a number of the other is one of this one
+  number_back : (d : ℕ) (n : ℤ) → IsConstant s q d (ANumber n) → IsConstant s p d (ANumber n)
+  number_back d n c = number_of_atom s p d n (subst (λ (l : List Comparison). Contains
+      (flat_map (λ (c : Constraint). comparisons c.formula) s.constraints ++ l) (record { category = d; number = n }))
+      (sym same_numbers) (atom_of_number s q d n c))
 
-  -- so is a number
-  number_back : (d : ℕ) (n : ℤ) → IsNumberConstant s q d n → IsNumberConstant s p d n
-  number_back d n c = subst (λ (l : List Comparison). Contains
-      (numbers_on d (flat_map (λ (c : Constraint). comparisons c.formula) s.constraints ++ l)) n) (sym same_numbers) c
+  -- what holds of the numbers of a category for one question holds for the other
+  on_numbers : (P : List ℤ → Type 0) (d : ℕ) → P (numbers s p d) → P (numbers s q d)
+  on_numbers P d h = subst P (sym (numbers_are s q d)) (subst (λ (l : List Comparison). P
+      (numbers_on d (flat_map (λ (c : Constraint). comparisons c.formula) s.constraints ++ l))) same_numbers
+      (subst P (numbers_are s p d) h))
 
   -- a fresh name for one is fresh for the other
   fresh_too : (name : List ℕ) → IsFreshName s p name → IsFreshName s q name
   fresh_too name f = record {
     underscores = f.underscores;
     spelled = f.spelled;
-    free = λ d c. f.free d (constant_back d name c);
+    free = λ d c. f.free d (text_back d name c);
     first = λ m l. let t = f.first m l in
-        (t.0, on_texts (λ ts. Contains ts (fresh_candidate m)) t.0 t.1);
+        (t.0, text_too t.0 (fresh_candidate m) t.1);
   }
 
   -- the kinds are those of the other
   pub kinds_too : HasKinds s p → HasKinds s q
   kinds_too h = record {
-    texts = λ d text c. h.texts d text (constant_back d text c);
+    texts = λ d text c. h.texts d text (text_back d text c);
     numbers = λ d n c. h.numbers d n (number_back d n c);
   }
 
   -- a category's names are those of the other
   names_too : (kind : Bool) (d : ℕ) (first : List ℕ) (others : List (List ℕ)) → AreNamesOf kind s p d first others
       → AreNamesOf kind s q d first others
-  names_too false d first others a =
-      (fresh_too first a.0, on_texts (λ ts. AreInByteOrder ts others) d a.1)
+  names_too false d first others a = (
+    fresh_too first a.0,
+    record {
+      ordered = a.1.ordered;
+      sound = λ text c. text_too d text (a.1.sound text c);
+      complete = λ text c. a.1.complete text (text_back d text c);
+    },
+  )
   names_too true d first others a = on_numbers (λ ns. AreNumberNames ns first others) d a
 
   -- candidates for one are candidates for the other
@@ -69,7 +77,7 @@ module _ (s : Schema) (p q : Formula) (same : equalities p ≡ equalities q)
   -- a member's name for one is one for the other
   name_too : (kind : Bool) (d : ℕ) (name : List ℕ) → IsNameOf kind s p d name → IsNameOf kind s q d name
   name_too false d name n = elim n [
-    | inl c ↦ inl (on_texts (λ ts. Contains ts name) d c)
+    | inl c ↦ inl (text_too d name c)
     | inr f ↦ inr (fresh_too name f)
   ]
   name_too true d name n = (n.0, on_numbers (λ ns. IsNumberName ns n.0) d n.1, n.2)

@@ -1,53 +1,20 @@
 -- The edges that the members above one member use, and what is needed of steps, lists and names to say which instance
 -- stands for them.
-use Rattle.std.proofs.Common.{◌≡◌, ℕ, zero, suc, ◌<◌, List, [], ◌∷◌, ◌++◌, length, get_or, Bool, true, false, cond, ◌&&◌, ◌||◌, refl, ap, sym, subst, ◌∙◌, ◌↔◌, ◌⊎◌, inl, inr, arith, lit<}
-use Rattle.std.specs.Prelude.{Contains, ◌==◌, IsTrue, filter, codes}
+use Rattle.std.proofs.Common.{◌≡◌, ℕ, zero, suc, ◌<◌, List, [], ◌∷◌, ◌++◌, length, get_or, Bool, true, false, cond, ◌&&◌, ◌||◌, refl, ap, sym, subst, ◌∙◌, ◌⊎◌, inl, inr, arith, lit<}
+use Rattle.std.specs.Prelude.{Contains, ◌==◌, filter, codes}
 use Rattle.std.specs.List.{range_with_len, list_any}
 use Rattle.std.proofs.lemmas.List.Elements.{Contains-get_or, Contains-append_cases, filter-append}
-use Rattle.std.proofs.lemmas.Bool.Decides.{nat_tests}
 use Rattle.olap_base.specs.Steps.{Steps, Steps.here, Steps.step}
 use Rattle.olap_base.specs.Graph.{Graph, Edge, IsHierarchy, IsCategoryName}
 use Rattle.olap_base.specs.Instance.{Instance, IsLawful, IsBelow, category_of, parents_of}
 use Rattle.olap_base.specs.Deciding.{below_is_member, contains_cons, contains_cases}
 use Rattle.olap_base.specs.Above.{members_above, place_in}
-use Rattle.olap_base.proofs.ListLemmas.{contains_head, Contains-nil, Contains-from_filter, Contains-from_range_at, Distinct, Distinct-places, Distinct-from_AllPairs, both_true, first_true, second_true}
+use Rattle.olap_base.proofs.ListLemmas.{contains_head, Contains-nil, Contains-from_filter, Contains-from_range_at, Distinct, Distinct-places, Distinct-from_AllPairs, first_true, second_true, list_any_is}
 use Rattle.olap_base.proofs.AboveLemmas.{reached_once, members_above_is, is_above}
 use Rattle.olap_ast.specs.Frozen.{categories_in_order, id_of}
+use Rattle.std.proofs.lemmas.Bool.{and_from, eqb-true, eq-eqb}
 
 -- ---- tests over a list of any type
-
--- the test of a list is true exactly if one in it passes
-pub list_any_is : {A : Type 0} (p : A → Bool) (xs : List A) →
-    IsTrue (list_any p xs) ↔ ((x : A) × Contains xs x × (p x ≡ true))
-list_any_is p [] = (λ e. absurd (cc), λ t. absurd (Contains-nil t.0 t.1))
-list_any_is {A} p (x ∷ xs) = let r = list_any_is p xs in (to r.0 (p x) refl, λ t. from r.1 (p x) refl t.0 t.1 t.2)
-  where
-    to : (IsTrue (list_any p xs) → (y : A) × Contains xs y × (p y ≡ true)) → (b : Bool) → p x ≡ b →
-        b || list_any p xs ≡ true → (y : A) × Contains (x ∷ xs) y × (p y ≡ true)
-    to rest true e h = (x, contains_head x xs, e)
-    to rest false e h = let t = rest h in (t.0, contains_cons t.0 xs x t.1, t.2)
-
-    from : ((y : A) × Contains xs y × (p y ≡ true) → IsTrue (list_any p xs)) → (b : Bool) → p x ≡ b → (y : A) →
-        Contains (x ∷ xs) y → p y ≡ true → b || list_any p xs ≡ true
-    from rest true e y c h = refl
-    from rest false e y c h = elim (contains_cases y x xs c) [
-      | inl q ↦ absurd (let z : false ≡ true = sym e ∙ ap p q
-          ∙ h in cc)
-      | inr d ↦ rest (y, d, h)
-    ]
-
--- numbers that pass the test are equal
-pub same_is : (a b : ℕ) → a == b ≡ true → a ≡ b
-same_is a b e = grind (arith, nat_tests)
-
--- equal ones pass it
-pub is_same : (a b : ℕ) → a ≡ b → a == b ≡ true
-is_same a b e = grind (arith, nat_tests)
-
--- where one of two tests is true, the first is or the second
-pub either_true : (a b : Bool) → a || b ≡ true → (a ≡ true) ⊎ (b ≡ true)
-either_true true b e = inl refl
-either_true false b e = inr e
 
 -- where the first is, one is
 pub left_true : (a b : Bool) → a ≡ true → a || b ≡ true
@@ -88,11 +55,11 @@ seen_from i x e h =
       child = t.0;
       parent = u.0;
       reached = (members_above_is i x t.0 t.1).1;
-      child_is = same_is (category_of i t.0) e.child
+      child_is = eqb-true (category_of i t.0) e.child
           (first_true (category_of i t.0 == e.child)
           (list_any (λ z. category_of i z == e.parent) (parents_of i t.0)) t.2);
       below = u.1;
-      parent_is = same_is (category_of i u.0) e.parent u.2;
+      parent_is = eqb-true (category_of i u.0) e.parent u.2;
     }
 
 -- such a pair is found
@@ -103,13 +70,13 @@ is_seen i x e s =
     (members_above i x)).1 (
       s.child,
       is_above i x s.child (below_is_member i s.child s.parent s.below) s.reached,
-      both_true (category_of i s.child == e.child)
+      and_from (category_of i s.child == e.child)
           (list_any (λ z. category_of i z == e.parent) (parents_of i s.child))
-          (is_same (category_of i s.child) e.child s.child_is)
+          (eq-eqb (category_of i s.child) e.child s.child_is)
           ((list_any_is (λ z. category_of i z == e.parent) (parents_of i s.child)).1 (
             s.parent,
             s.below,
-            is_same (category_of i s.parent) e.parent s.parent_is,
+            eq-eqb (category_of i s.parent) e.parent s.parent_is,
           )),
     )
 
@@ -133,9 +100,9 @@ first_in_is i c (z ∷ zs) y d e = go (category_of i z == c) refl (λ h. first_i
         (Contains zs y → Contains zs (first_in i c zs) × (category_of i (first_in i c zs) ≡ c)) →
         (z ≡ y) ⊎ Contains zs y
         → Contains (z ∷ zs) (cond b z (first_in i c zs)) × (category_of i (cond b z (first_in i c zs)) ≡ c)
-    go true t rest s = (contains_head z zs, same_is (category_of i z) c t)
+    go true t rest s = (contains_head z zs, eqb-true (category_of i z) c t)
     go false t rest (inl q) = absurd (let a : true
-        ≡ false = sym (is_same (category_of i z) c (ap (category_of i) q ∙ e)) ∙ t in cc)
+        ≡ false = sym (eq-eqb (category_of i z) c (ap (category_of i) q ∙ e)) ∙ t in cc)
     go false t rest (inr h) = let r = rest h in (contains_cons (first_in i c zs) zs z r.0, r.1)
 
 -- the member of the category above x
@@ -212,13 +179,13 @@ same_id g hier (suc c) (suc d) a b q = ap suc
 
 -- the last place of a filtered list whose last element passes, and stands nowhere else
 place_at_end : (xs : List ℕ) (y : ℕ) → (Contains xs y → ⊥) → suc (place_in (xs ++ y ∷ []) y) ≡ length (xs ++ y ∷ [])
-place_at_end [] y n = ap suc (here' (y == y) (is_same y y refl))
+place_at_end [] y n = ap suc (here' (y == y) (eq-eqb y y refl))
   where
     here' : (b : Bool) → b ≡ true → cond b 0 (suc 0) ≡ 0
     here' true e = refl
     here' false e = absurd (cc)
 place_at_end (x ∷ xs) y n = go (x == y) (λ e. n
-    (subst (λ u. Contains (x ∷ xs) u) (same_is x y e) (contains_head x xs)))
+    (subst (λ u. Contains (x ∷ xs) u) (eqb-true x y e) (contains_head x xs)))
     (place_at_end xs y (λ c. n (contains_cons y xs x c)))
   where
     go : (b : Bool) → (b ≡ true → ⊥) → suc (place_in (xs ++ y ∷ []) y) ≡ length (xs ++ y ∷ []) →

@@ -11,11 +11,12 @@ use Rattle.olap_base.specs.Graph.{Graph, Edge, IsHierarchy}
 use Rattle.olap_base.specs.Instance.{Instance, nobody, IsInstance, IsLawful, IsBelow, Reaches, member_at, category_of, name_of, parents_of}
 use Rattle.olap_base.specs.Deciding.{below_is_member}
 use Rattle.olap_base.specs.Above.{place_in, HasOneMemberEach}
-use Rattle.olap_base.proofs.ListLemmas.{contains_head, Contains-map, Contains-from_map, Contains-filter, Contains-from_filter, Contains-from_range_at, Contains-range_at, place_in_is, Distinct, Distinct-range, Distinct-filter, Distinct-map, Distinct-places, AllPairs-from_Distinct, Distinct-from_AllPairs}
+use Rattle.olap_base.proofs.ListLemmas.{contains_head, Contains-map, Contains-from_map, Contains-filter, Contains-from_filter, Contains-from_range_at, Contains-range_at, place_in_is, Distinct, Distinct-range, Distinct-filter, Distinct-map, Distinct-places, AllPairs-from_Distinct, Distinct-from_AllPairs, list_any_is}
 use Rattle.olap_base.proofs.Part.{IsPart, part_lawful, part_instance, part_lift, part_inside}
 use Rattle.olap_base.proofs.AboveLemmas.{reaches_all, place_in_injective}
 use Rattle.olap_ast.specs.Frozen.{is_present, categories_in_order, present_categories, id_of, member_of, instance_of}
-use Rattle.olap_ast.proofs.Shape.{list_any_is, same_is, is_same, either_true, left_true, right_true, seen, Seen, seen_from, is_seen, seen_edges, member_above, member_above_is, last_step, Distinct-push, same_edge, same_id, last_in}
+use Rattle.olap_ast.proofs.Shape.{left_true, right_true, seen, Seen, seen_from, is_seen, seen_edges, member_above, member_above_is, last_step, Distinct-push, same_edge, same_id, last_in}
+use Rattle.std.proofs.lemmas.Bool.{or_cases, eqb-true, eq-eqb}
 
 module _ (g : Graph) (i : Instance) (hier : IsHierarchy g) (v : IsInstance i) (w : IsLawful g i) (x : ℕ)
     (hx : x < length i) where
@@ -55,7 +56,7 @@ module _ (g : Graph) (i : Instance) (hier : IsHierarchy g) (v : IsInstance i) (w
           is_present (category_of i x) (seen_edges g i x) (category_of i y) ≡ true
       go (inl q) = left_true (category_of i y == category_of i x)
           (list_any (λ e. (e.child == category_of i y) || (e.parent == category_of i y)) (seen_edges g i x))
-          (is_same (category_of i y) (category_of i x) (ap (category_of i) (sym q)))
+          (eq-eqb (category_of i y) (category_of i x) (ap (category_of i) (sym q)))
       go (inr t) = right_true (category_of i y == category_of i x)
           (list_any (λ e. (e.child == category_of i y) || (e.parent == category_of i y)) (seen_edges g i x))
           ((list_any_is (λ (e : Edge). (e.child == category_of i y) || (e.parent == category_of i y))
@@ -63,13 +64,13 @@ module _ (g : Graph) (i : Instance) (hier : IsHierarchy g) (v : IsInstance i) (w
             record { child = category_of i t.0; parent = category_of i y },
             edge_seen t.0 y t.1 t.2,
             right_true (category_of i t.0 == category_of i y) (category_of i y == category_of i y)
-                (is_same (category_of i y) (category_of i y) refl),
+                (eq-eqb (category_of i y) (category_of i y) refl),
           ))
 
   -- each category in the shape is that of a member above x
   from_present : (c : ℕ) → Contains shape_categories c →
       (y : ℕ) × (y < length i) × Steps (IsBelow i) x y × (category_of i y ≡ c)
-  from_present c h = go (either_true (c == category_of i x)
+  from_present c h = go (or_cases (c == category_of i x)
       (list_any (λ e. (e.child == c) || (e.parent == c)) (seen_edges g i x))
       (Contains-from_filter (is_present (category_of i x) (seen_edges g i x)) (categories_in_order g) c h).1)
     where
@@ -80,22 +81,22 @@ module _ (g : Graph) (i : Instance) (hier : IsHierarchy g) (v : IsInstance i) (w
         below_is_member i s.child s.parent s.below,
         s.reached,
         s.child_is
-            ∙ same_is e.child c a,
+            ∙ eqb-true e.child c a,
       )
       edge e s (inr a) = (
         s.parent,
         v.parents_are_members s.child s.parent s.below,
         Steps-append s.reached (step s.below here),
-        s.parent_is ∙ same_is e.parent c a,
+        s.parent_is ∙ eqb-true e.parent c a,
       )
 
       go : (c == category_of i x ≡ true)
           ⊎ (list_any (λ e. (e.child == c) || (e.parent == c)) (seen_edges g i x) ≡ true) →
           (y : ℕ) × (y < length i) × Steps (IsBelow i) x y × (category_of i y ≡ c)
-      go (inl a) = (x, hx, here, sym (same_is c (category_of i x) a))
+      go (inl a) = (x, hx, here, sym (eqb-true c (category_of i x) a))
       go (inr a) = let t = (list_any_is (λ (e : Edge). (e.child == c) || (e.parent == c)) (seen_edges g i x)).0 a in
           edge t.0 (seen_from i x t.0 (Contains-from_filter (seen i x) g.edges t.0 t.1).1)
-          (either_true (t.0.child == c) (t.0.parent == c) t.2)
+          (or_cases (t.0.child == c) (t.0.parent == c) t.2)
 
   -- the member of a present category
   pub member_of_present : (c : ℕ) → Contains shape_categories c →
@@ -159,7 +160,7 @@ module _ (g : Graph) (i : Instance) (hier : IsHierarchy g) (v : IsInstance i) (w
     edge_of c e h =
         let t = Contains-from_filter (λ (e : Edge). e.child == c) (seen_edges g i x) e h in
         let u = Contains-from_filter (seen i x) g.edges e t.0 in
-        (same_is e.child c t.1, seen_from i x e u.1, u.0)
+        (eqb-true e.child c t.1, seen_from i x e u.1, u.0)
 
     -- an edge that is used leads to a category of the shape
     parent_present : (e : Edge) → Seen i x e → Contains shape_categories e.parent
@@ -197,7 +198,7 @@ module _ (g : Graph) (i : Instance) (hier : IsHierarchy g) (v : IsInstance i) (w
         let a : Contains (edges_of c) (record { child = category_of i (whole k); parent = category_of i y }) =
         Contains-filter (λ (e : Edge). e.child == c) (seen_edges g i x)
         (record { child = category_of i (whole k); parent = category_of i y })
-        (is_same (category_of i (whole k)) c m.2) (edge_seen (whole k) y m.1 b) in
+        (eq-eqb (category_of i (whole k)) c m.2) (edge_seen (whole k) y m.1 b) in
         let s : Steps (IsBelow i) x y = Steps-append m.1 (step b here) in
         let in' = v.parents_are_members (whole k) y b in
         let p = place_in_is shape_categories (category_of i y) (present_of y in' s) in (

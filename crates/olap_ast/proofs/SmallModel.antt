@@ -10,12 +10,13 @@ use Rattle.olap_base.specs.Graph.{Edge, IsHierarchy, is_number}
 use Rattle.olap_base.specs.Instance.{Instance, IsMemberOf, category_of, name_of}
 use Rattle.olap_base.specs.Deciding.{decide_contains, contains_cons}
 use Rattle.olap_base.proofs.ListLemmas.{Contains-from_filter, Contains-nil, contains_head}
-use Rattle.olap_ast.specs.Formula.{Formula, Holds, equalities, IsNumbered, comparisons}
+use Rattle.olap_ast.specs.Atoms.{comparisons, equalities}
+use Rattle.olap_ast.specs.Formula.{Constant.ANumber, Constant.AText, Formula, Holds, IsNumbered}
 use Rattle.olap_base.proofs.Part.{IsPart}
 use Rattle.olap_numerals.specs.Numerals.{number_of}
 use Rattle.olap_numerals.proofs.NameLemmas.{has_name}
 use Rattle.olap_ast.specs.Schema.{Schema, IsLegal}
-use Rattle.olap_ast.specs.Constants.{IsConstant, IsFreshName, IsNameOf, IsNumberConstant, new_name, numbers}
+use Rattle.olap_ast.specs.Constants.{IsConstant, IsFreshName, IsNameOf, new_name, numbers}
 use Rattle.olap_ast.specs.Frozen.{Frozen, Candidates, AreCandidates, AreNamesOf, is_present, categories_in_order, instance_of, chosen, text_of_index, name_in, thawed, IsFrozen, IsFrozenInstance, FrozenExactlyIfSomeInstance}
 use Rattle.olap_ast.proofs.Truth.{AsksOnly, same, NamesAgree, NumbersAgree}
 use Rattle.olap_ast.proofs.ConstantLemmas.{constant_in_constraint, constant_in_question, number_in_constraint, number_in_question}
@@ -166,13 +167,13 @@ module _ (s : Schema) (q : Formula) (k : Candidates) (hier : IsHierarchy s.graph
       (subst (λ c. IsTrue (is_number s.graph c)) (the_part.category m h) b)
 
   -- the names answer alike where texts are asked for
-  names_agree : NamesAgree i small of_small (IsConstant s q)
+  names_agree : NamesAgree i small of_small (λ d text. IsConstant s q d (AText text))
   names_agree m text h t =
       let u = new_text s q fresh ok.kinds is_fresh.free (category_of small m) (name_of i (of_small m)) text t in
       (λ z. u.0 (sym (the_name m h) ∙ z), λ z. the_name m h ∙ u.1 z)
 
   -- and where numbers are
-  numbers_agree : NumbersAgree i small of_small (IsNumberConstant s q)
+  numbers_agree : NumbersAgree i small of_small (λ d n. IsConstant s q d (ANumber n))
   numbers_agree m op n h t =
       let u = new_numbered s q fresh ok.kinds is_fresh.free (category_of small m) (name_of i (of_small m)) op n t
       (small_numeral m h) in (
@@ -182,10 +183,11 @@ module _ (s : Schema) (q : Formula) (k : Candidates) (hier : IsHierarchy s.graph
 
   -- so formulas that ask only for these have the same truths
   same_truth : (m : ℕ) → m < length small → (f : Formula) →
-      AsksOnly (IsConstant s q) (IsNumberConstant s q) (equalities f) (comparisons f)
+      AsksOnly (λ d text. IsConstant s q d (AText text)) (λ d n. IsConstant s q d (ANumber n)) (equalities f)
+      (comparisons f)
       → Holds small m f ↔ Holds i (of_small m) f
   same_truth = same i small of_small (shape_is_part s.graph i hier legal.is_instance legal.lawful x hx name)
-      (IsConstant s q) (IsNumberConstant s q) names_agree numbers_agree
+      (λ d text. IsConstant s q d (AText text)) (λ d n. IsConstant s q d (ANumber n)) names_agree numbers_agree
 
   -- where x meets the question, the shape is frozen for it
   small_is_frozen : Holds i x q → IsFrozenInstance s q (category_of i x) small

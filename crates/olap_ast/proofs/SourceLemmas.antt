@@ -15,15 +15,18 @@ use Rattle.std.proofs.lemmas.List.{get_or-map, length-map}
 use Rattle.olap_base.specs.declared.ids.CatId.{CatId}
 use Rattle.olap_base.specs.Graph.{Graph, IsCategory}
 use Rattle.olap_base.specs.Limits.{most_constants}
-use Rattle.olap_ast.specs.Constants.{HasKinds, all_comparisons, all_equalities}
+use Rattle.olap_ast.specs.Atoms.{all_comparisons, all_equalities, comparisons, comparisons_of_terms, equalities, equalities_of_terms}
+use Rattle.olap_ast.specs.Pairs.{pair_count}
+use Rattle.olap_ast.specs.Constants.{HasKinds}
 use Rattle.olap_ast.specs.Schema.{Constraint, Schema}
-use Rattle.olap_ast.specs.Valid.{AreFormulasAt, IsFormulaAt, IsValidSchema, pair_count}
-use Rattle.olap_ast.specs.Formula.{Formula, Formula.Truth, Formula.Via, Terms.More, comparisons, comparisons_of_terms, equalities, equalities_of_terms}
+use Rattle.olap_ast.specs.Valid.{AreFormulasAt, IsFormulaAt, IsValidSchema}
+use Rattle.olap_ast.specs.Formula.{Formula, Formula.Truth, Formula.Via, Terms.More}
 use Rattle.olap_ast.specs.Questions.{ValidSchemasHaveCandidates, SourcesHaveCandidates}
 use Rattle.olap_ast.specs.Summarizable.{not_by_one, vias}
 use Rattle.olap_ast.specs.Trees.{numbers_of}
 use Rattle.olap_ast.proofs.AtomLemmas.{has_kinds}
 use Rattle.olap_ast.proofs.CandidatesExist.{candidates_exist}
+use Rattle.olap_ast.proofs.ComparedLemmas.{constraints_counted}
 use Rattle.olap_ast.proofs.SameAtoms.{kinds_too}
 
 -- one source more
@@ -49,7 +52,7 @@ until P n f p d h = elim (which d n h) [ inl l ↦ f d l | inr e ↦ subst P (sy
     which d n h = grind arith
 
 -- the terms of the sources have no atom on names
-vias_free : (c : ℕ) (sources : List ℕ) → equalities_of_terms (vias c sources) ≡ []
+pub vias_free : (c : ℕ) (sources : List ℕ) → equalities_of_terms (vias c sources) ≡ []
 vias_free c [] = refl
 vias_free c (s ∷ ss) = vias_free c ss
 
@@ -91,7 +94,7 @@ no_more_constants s q v e f =
     ∙ append-nil (flat_map (λ (c : Constraint). comparisons c.formula) s.constraints) in
     subst (λ xs. pair_count xs (all_comparisons s q) ≤ most_constants) (sym texts)
     (subst (λ ys. pair_count (flat_map (λ (c : Constraint). equalities c.formula) s.constraints) ys ≤ most_constants)
-    (sym ns) v.constants_fit)
+    (sym ns) (subst (λ n. n ≤ most_constants) (constraints_counted s.constraints) v.constants_fit))
 
 -- so the question of summarizability keeps it
 pub question_few : (s : Schema) (q : Formula) (c : ℕ) (sources : List ℕ) → q ≡ not_by_one c sources → IsValidSchema s

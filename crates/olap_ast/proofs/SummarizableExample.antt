@@ -3,10 +3,10 @@ use Rattle.std.proofs.Common.{◌≡◌, ℕ, ◌<◌, ◌≤◌, List, [], ◌�
 use Rattle.std.specs.Prelude.{◌≢◌, Contains, slice_index}
 use Rattle.olap_base.specs.Graph.{Edge, IsBottom}
 use Rattle.olap_base.specs.Instance.{ReachesCategory, ReachesVia, category_of}
-use Rattle.olap_base.proofs.ListLemmas.{contains_head, Contains-nil}
+use Rattle.olap_base.proofs.ListLemmas.{contains_head, Contains-nil, Contains-only}
 use Rattle.olap_base.proofs.ViewLemmas.{agree_exactly}
-use Rattle.olap_ast.specs.Constants.{constants}
-use Rattle.olap_ast.specs.Formula.{Formula}
+use Rattle.olap_ast.specs.Constants.{IsConstant}
+use Rattle.olap_ast.specs.Formula.{Constant.AText, Formula}
 use Rattle.olap_ast.specs.Schema.{IsLegal}
 use Rattle.olap_base.specs.Ranks.{IsNotAfter}
 use Rattle.olap_ast.specs.Frozen.{AreCandidates, Candidates, Frozen, IsFrozen, code, thawed}
@@ -14,14 +14,13 @@ use Rattle.olap_ast.specs.Summarizable.{IsSummarizable, not_by_one}
 use Rattle.olap_ast.specs.Example.{OneStoreIsCounterexample, StoresAreSummarizable, stores, one_store, store_below_all}
 use Rattle.olap_ast.proofs.SmallModel.{frozen_exactly}
 use Rattle.olap_ast.proofs.Examples.{one_store_is_legal}
-use Rattle.olap_ast.proofs.OneMember.{alone}
 
 -- the stores' category is a bottom one
 bottom : IsBottom stores.graph 1
 bottom = (
   ((λ e. absurd (omega arith)), omega arith),
   λ d h.
-      let e = alone (record { child = 1; parent = 0 }) (record { child = d; parent = 1 }) h in
+      let e = Contains-only (record { child = 1; parent = 0 }) (record { child = d; parent = 1 }) h in
       absurd (let q : ◌≡◌ {A = ℕ} 0 1 = ap (λ (k : Edge). k.parent) e in omega arith),
 )
 
@@ -82,10 +81,11 @@ edge_present k false n l = let t = l.lawful.up_connectivity 0 (omega arith) (λ 
 no_texts : (k : Candidates) → AreCandidates stores asked k → length (k.texts 1) ≡ 0
 no_texts k ok = go (k.texts 1) (ok.names 0).1.sound
   where
-    go : (ts : List (List ℕ)) → ((text : List ℕ) → Contains ts text → Contains (constants stores asked 1) text)
+    go : (ts : List (List ℕ)) → ((text : List ℕ) → Contains ts text → IsConstant stores asked 1 (AText text))
         → length ts ≡ 0
     go [] sound = refl
-    go (t ∷ ts) sound = absurd (Contains-nil t (sound t (contains_head t ts)))
+    go (t ∷ ts) sound = absurd (Contains-nil (record { category = 1; constant = AText t })
+        (sound t (contains_head t ts)))
 
 -- it is the only frozen dimension
 only : (k : Candidates) → AreCandidates stores asked k → (f : Frozen) → IsFrozen stores asked 1 k f

@@ -3,7 +3,8 @@ use Rattle.std.proofs.Common.{◌≡◌, List, ◌++◌, ℕ, Bool, map, refl, a
 use Rattle.std.specs.Prelude.{◌==◌, filter}
 use Rattle.std.proofs.lemmas.List.{map-append}
 use Rattle.std.proofs.lemmas.List.Elements.{filter-append}
-use Rattle.olap_ast.specs.Constants.{IsBefore, numbers_on, texts_on}
+use Rattle.olap_ast.specs.Atoms.{Comparison, Equality, numbers_on, texts_on}
+use Rattle.olap_ast.specs.Constants.{IsBefore}
 use Rattle.std.specs.Prelude.{AllPairs, nat_eq, true}
 use Rattle.std.specs.List.{All, AllByRecursion}
 use Rattle.std.proofs.lemmas.List.Elements.{All-cons}
@@ -14,7 +15,6 @@ use Rattle.std.specs.Ordering.{nat_cmp}
 use Rattle.std.specs.Cmp.Lexicographic.{pointwise, slice_cmp}
 use Rattle.std.proofs.lemmas.List.Kept.{AllPairs-cons}
 use Rattle.std.proofs.Common.{[], ◌∷◌, arith}
-use Rattle.olap_ast.specs.Formula.{Comparison, Equality}
 
 -- the texts on a category, of two lists of atoms
 pub texts_on-append : (d : ℕ) (xs ys : List Equality) → texts_on d (xs ++ ys) ≡ texts_on d xs ++ texts_on d ys

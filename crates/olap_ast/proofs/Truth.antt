@@ -10,7 +10,8 @@ use Rattle.olap_base.proofs.ListLemmas.{contains_head}
 use Rattle.std.specs.Prelude.{Contains, IsSome, IsTrue}
 use Rattle.olap_base.specs.Graph.{is_number}
 use Rattle.std.proofs.lemmas.List.Elements.{Contains-append_left, Contains-append_right}
-use Rattle.olap_ast.specs.Formula.{Formula, Terms, Formula.Truth, Formula.Falsity, Formula.Path, Formula.Reach, Formula.Via, Formula.Equals, Formula.Compare, Formula.Not, Formula.And, Formula.Or, Formula.Implies, Formula.Iff, Formula.Xor, Formula.One, Terms.End, Terms.More, Holds, ExactlyOneHolds, NoneHolds, Equality, equalities, equalities_of_terms, Comparison, comparisons, comparisons_of_terms, HasPath, IsNumbered, ReachesNamed, ReachesNumbered}
+use Rattle.olap_ast.specs.Atoms.{Comparison, Equality, comparisons, comparisons_of_terms, equalities, equalities_of_terms}
+use Rattle.olap_ast.specs.Formula.{Formula, Terms, Formula.Truth, Formula.Falsity, Formula.Path, Formula.Reach, Formula.Via, Formula.Equals, Formula.Compare, Formula.Not, Formula.And, Formula.Or, Formula.Implies, Formula.Iff, Formula.Xor, Formula.One, Terms.End, Terms.More, Holds, ExactlyOneHolds, NoneHolds, HasPath, IsNumbered, ReachesNamed, ReachesNumbered}
 use Rattle.olap_numerals.specs.Comparing.{Op}
 use Rattle.olap_numerals.specs.Numerals.{number_of}
 use Rattle.olap_ast.specs.Schema.{AboveIsLegal}

@@ -5,25 +5,17 @@ use Rattle.olap_ast.specs.Formula.{Formula}
 use Rattle.olap_ast.specs.Schema.{Schema}
 use Rattle.olap_ast.specs.Frozen.{Candidates, Frozen, IsLeastFrozen, code}
 use Rattle.olap_ast.specs.Summarizable.{IsCounterexample, not_by_one}
+use Rattle.olap_base.proofs.RankLemmas.{not_after_both}
+use Rattle.std.proofs.lemmas.Bool.{cases_order}
 
 -- ---- the least is one
-
--- of two lists neither comes after the other only if they are equal
-pub not_after_both : (xs ys : List ℕ) → IsNotAfter xs ys → IsNotAfter ys xs → xs ≡ ys
-not_after_both [] [] a b = refl
-not_after_both [] (y ∷ ys) a b = absurd b
-not_after_both (x ∷ xs) [] a b = absurd a
-not_after_both (x ∷ xs) (y ∷ ys) (inl l) (inl m) = absurd (omega arith)
-not_after_both (x ∷ xs) (y ∷ ys) (inl l) (inr m) = let e = m.0 in absurd (omega arith)
-not_after_both (x ∷ xs) (y ∷ ys) (inr l) (inl m) = let e = l.0 in absurd (omega arith)
-not_after_both (x ∷ xs) (y ∷ ys) (inr l) (inr m) = let e = l.0 in let q = not_after_both xs ys l.1 m.1 in cc
 
 -- 0 for absent and 1 for present
 abbrev bits : List Bool → List ℕ
 bits bs = map (λ b. cond b 1 0) bs
 
 -- a bit is told by its number
-same_bit : (a b : Bool) → ◌≡◌ {A = ℕ} (cond a 1 0) (cond b 1 0) → a ≡ b
+pub same_bit : (a b : Bool) → ◌≡◌ {A = ℕ} (cond a 1 0) (cond b 1 0) → a ≡ b
 same_bit true true e = refl
 same_bit true false e = absurd (omega arith)
 same_bit false true e = absurd (omega arith)
@@ -55,15 +47,11 @@ pub least_is_one : (s : Schema) (q : Formula) (r : ℕ) (k : Candidates) (f h : 
 least_is_one s q r k f h a b =
     code_is_one f h (a.is_one.edge_count ∙ sym b.is_one.edge_count) (a.least h b.is_one) (b.least f a.is_one)
 
--- equal, or one below the other
-order : (m n : ℕ) → (m ≡ n) ⊎ ((m < n) ⊎ (n < m))
-order m n = grind arith
-
 -- a counterexample is one
 pub counterexample_is_one : (s : Schema) (c : ℕ) (sources : List ℕ) (k : Candidates) (b d : ℕ) (f h : Frozen) →
     IsCounterexample s c sources k b f → IsCounterexample s c sources k d h → (b ≡ d) × (f ≡ h)
 counterexample_is_one s c sources k b d f h x y =
-    let e = go (order b d) in (
+    let e = go (cases_order b d) in (
       e,
       least_is_one s (not_by_one c sources) d k f h
           (subst (λ r. IsLeastFrozen s (not_by_one c sources) r k f) e x.least) y.least,

@@ -1,4 +1,4 @@
--- An instance is legal exactly where nothing is violated.
+-- An instance is legal exactly if nothing is violated.
 use Rattle.std.proofs.Common.{◌≡◌, ℕ, zero, suc, ◌<◌, List, [], ◌∷◌, length, refl, ap, sym, subst, ◌∙◌, Some, arith}
 use Rattle.std.specs.Prelude.{Contains, slice_get, slice_index, slice_index_or}
 use Rattle.std.proofs.lemmas.List.{get_or_default}
@@ -10,11 +10,7 @@ use Rattle.olap_base.proofs.ListLemmas.{contains_head, Contains-nil}
 use Rattle.olap_ast.specs.Schema.{Constraint, IsLegal}
 use Rattle.olap_ast.specs.Violation.{Violation, Violation.NoEdge, Violation.NoParent, Violation.SameCategory, Violation.TwoAncestors, Violation.Shortcut, Violation.Unmet, IsViolation, LegalExactlyIfNoViolation}
 use Rattle.olap_ast.proofs.Decided.{decide_holds}
-
--- what can be decided and can't fail holds
-stable : {P : Type 0} → Dec P → ((P → ⊥) → ⊥) → P
-stable (yes p) f = p
-stable (no n) f = absurd (f n)
+use Rattle.olap_base.proofs.DecisionLemmas.{stable}
 
 -- whether two edges are the same
 pub edge_discrete : Discrete Edge

@@ -9,9 +9,10 @@ use Rattle.olap_base.specs.Deciding.{dec_and, dec_iff, decide_reaches, decide_co
 use Rattle.olap_ast.specs.Formula.{Holds}
 use Rattle.olap_ast.specs.Schema.{Schema, Constraint}
 use Rattle.olap_ast.specs.Violation.{Violation, Violation.NoEdge, Violation.NoParent, Violation.SameCategory, Violation.TwoAncestors, Violation.Shortcut, Violation.Unmet, IsViolation, rank}
-use Rattle.olap_ast.proofs.Decided.{dec_not, dec_some, decide_holds}
+use Rattle.olap_ast.proofs.Decided.{dec_some, decide_holds}
 use Rattle.olap_ast.proofs.Unviolated.{edge_discrete}
 use Rattle.olap_ast.proofs.Least.{dec_number, Fits}
+use Rattle.olap_base.proofs.DecisionLemmas.{dec_not}
 
 -- ---- a bound on what an instance speaks of
 
@@ -92,7 +93,7 @@ far_below_end i x y f = go (Climb-from_leads f)
     go (climb {z} r s) = steps_end i s (parent_below i x z r)
 
 -- only a member is far below
-far_below_start : (i : Instance) (x y : ℕ) → IsFarBelow i x y → x < length i
+pub far_below_start : (i : Instance) (x y : ℕ) → IsFarBelow i x y → x < length i
 far_below_start i x y f = go (Climb-from_leads f)
   where
     go : Climb (IsBelow i) x y → x < length i

@@ -33,7 +33,7 @@ IsUnused s e =
     (i : Instance) → IsLegal s i → (x y : ℕ) → IsBelow i x y → category_of i x ≡ e.child →
     category_of i y ≡ e.parent → ⊥
 
--- the finding is so of the schema
+-- the finding is true of the schema
 abbrev pub IsFinding : Schema → Finding → Type 0
 IsFinding s (Unsatisfiable c) = IsDeclared s.graph c × IsUnsatisfiable s c
 IsFinding s (Redundant zero) = ⊥

@@ -14,5 +14,7 @@ pub mod Parts
 pub mod Example
 pub mod ThreeValues
 -- The inside: what the program's formulas stand for.
+pub mod Atoms
+pub mod Pairs
 pub mod Trees
 pub mod Listing

@@ -1,4 +1,4 @@
--- Instances in parts, each of which is checked by itself.
+-- Instances in parts, each checked separately.
 --     IsPartOf                  an instance is a part of another
 --     AreParts                  parts that have all members between them
 --     LegalExactlyIfPartsAre    an instance is legal exactly if its parts are

@@ -62,7 +62,7 @@ MayAllBe [] (b ∷ bs) = ⊥
 MayAllBe (x ∷ xs) [] = ⊥
 MayAllBe (x ∷ xs) (b ∷ bs) = MayBe x b × MayAllBe xs bs
 
--- that exactly one is true comes to b, whatever the values turn out to be
+-- whether exactly one is true is b, however the unknowns turn out
 abbrev pub AlwaysOne : List Truth3 → Bool → Type 0
 AlwaysOne xs b = (bs : List Bool) → MayAllBe xs bs → exactly_one bs ≡ b
 
@@ -111,7 +111,7 @@ yes_count xs = length (filter is_yes xs)
 abbrev pub unknown_count : List Truth3 → ℕ
 unknown_count xs = length (filter is_unknown xs)
 
--- whether exactly one is true, if so many are true and so many unknown
+-- whether exactly one is true, if this many are true and this many unknown
 abbrev pub value_of_counts : ℕ → ℕ → Truth3
 value_of_counts zero zero = No
 value_of_counts (suc zero) zero = Yes

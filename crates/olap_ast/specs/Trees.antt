@@ -1,4 +1,4 @@
--- The definitions' formulas behind the program's.
+-- The definitions' formulas that the program's stand for.
 --     formula_of       the formula of a tree
 --     terms_of         the parts of a list of trees
 --     constraint_of    the constraint of a stored one

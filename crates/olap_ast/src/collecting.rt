@@ -1,8 +1,8 @@
 // The constants of a formula: texts, and numbers.
-ghost use Rattle.olap_ast.specs.Constants.{AreAscending, AreInByteOrder, numbers_on, texts_on};
-ghost use Rattle.olap_ast.specs.Formula.{Comparison, Equality, comparisons, comparisons_of_terms, equalities, equalities_of_terms};
+ghost use Rattle.olap_ast.specs.Atoms.{AreAscending, Comparison, Equality, comparisons, comparisons_of_terms, equalities, equalities_of_terms, numbers_on, texts_on};
+ghost use Rattle.olap_ast.specs.Constants.{AreInByteOrder};
 ghost use Rattle.olap_ast.specs.Trees.{formula_of, terms_of};
-ghost use Rattle.std.specs.Prelude.{◌≡◌, [], ◌∷◌, ◌++◌, IfOk, OnOk};
+ghost use Rattle.std.specs.Prelude.{◌≡◌, [], ◌∷◌, ◌++◌, Contains, IfOk, OnOk};
 
 use crate::{Formula, Terms};
 use olap_base::{CatId, List, Memory, Text};
@@ -12,7 +12,7 @@ use std::alloc::Global;
 ///
 /// It calls itself as deep as the formula is, and sorts the texts.
 pub fn constants(alloc: Global, f: &Formula, c: CatId) -> Result<List<Text>, Memory>
-    ensures { IfOk result (λ texts. AreInByteOrder (texts_on c.0 (equalities (formula_of f.now))) texts) }
+    ensures { IfOk result (λ texts. AreInByteOrder (Contains (texts_on c.0 (equalities (formula_of f.now)))) texts) }
 {
     let mut texts = Vec::new(alloc);
     gather(alloc, f, c, &mut texts)?;
@@ -21,7 +21,7 @@ pub fn constants(alloc: Global, f: &Formula, c: CatId) -> Result<List<Text>, Mem
     Ok(List::from_vec(texts))
 }
 
-/// Puts the texts of the formula's atoms on the category behind those that are there, in order.
+/// Appends the texts of the formula's atoms on the category, in order, with repeats.
 ///
 /// Where it is refused, some of them may stand there.
 #[cycle(gather)]
@@ -100,7 +100,7 @@ pub fn numbers(alloc: Global, f: &Formula, c: CatId) -> Result<List<i64>, Memory
     Ok(List::from_vec(numbers))
 }
 
-/// Puts the numbers of the formula's comparisons with the category behind those that are there, in order.
+/// Appends the numbers of the formula's comparisons with the category, in order, with repeats.
 ///
 /// Where it is refused, some of them may stand there.
 #[cycle(gather_numbers)]

@@ -15,7 +15,7 @@ pub fn above_is_legal()
     ensures { AboveIsLegal }
 {}
 
-/// New names keep an instance legal, and the truth of the question, where atoms are of the kinds of their categories:
+/// New names keep an instance legal, and the truth of the question, if atoms are of the kinds of their categories:
 /// of texts the fresh name in place of each name that is no constant of its category, and of numbers the numeral of the
 /// number that stands for the name's.
 pub fn renaming_is_harmless()

@@ -2,7 +2,8 @@
 //!
 //! `specs/` says what a formula's truth, a legal instance, a frozen dimension and a counterexample are, over plain
 //! values; `laws` are theorems over these definitions. Beside them stand the program's own formulas: `Formula` is a
-//! tree, and contracts see it as the definitions' formula `formula_of` (`specs/Trees`).
+//! tree, and contracts see it as the definitions' formula `formula_of` (`specs/Trees`). No text of a schema is known
+//! here, and no search.
 #![tactic(auto)]
 
 mod collecting;

@@ -15,7 +15,8 @@ use Rattle.olap_base.specs.Deciding.{below_is_member, contains_cases}
 use Rattle.olap_base.specs.Reaching.{reaches, reaches_is}
 use Rattle.olap_base.specs.Above.{members_above, place_in, above, self_above, HasOneMemberEach}
 use Rattle.olap_base.proofs.ListLemmas.{Contains-map, Contains-from_map, Contains-filter, Contains-from_filter, Contains-range, Contains-from_range, place_in_is}
-use Rattle.olap_base.proofs.Part.{IsPart, increasing_injective, order, part_lawful, part_instance, part_lift}
+use Rattle.olap_base.proofs.Part.{IsPart, increasing_injective, part_lawful, part_instance, part_lift}
+use Rattle.std.proofs.lemmas.Bool.{false_from_ne_true, cases_order}
 
 -- ---- what a member of a lawful instance reaches
 
@@ -46,7 +47,7 @@ tally p [] = 0
 tally p (x ∷ xs) = cond (p x) (suc (tally p xs)) (tally p xs)
 
 -- a test that passes wherever another does counts no less
-tally-le : (p q : ℕ → Bool) (xs : List ℕ) → ((y : ℕ) → p y ≡ true → q y ≡ true) → tally p xs ≤ tally q xs
+pub tally-le : (p q : ℕ → Bool) (xs : List ℕ) → ((y : ℕ) → p y ≡ true → q y ≡ true) → tally p xs ≤ tally q xs
 tally-le p q [] h = omega arith
 tally-le p q (x ∷ xs) h = go (p x) (q x) (h x) (tally-le p q xs h)
   where
@@ -58,7 +59,7 @@ tally-le p q (x ∷ xs) h = go (p x) (q x) (h x) (tally-le p q xs h)
     go false false h l = omega arith
 
 -- and more, where a number in the list passes only the second
-tally-lt : (p q : ℕ → Bool) (xs : List ℕ) → ((y : ℕ) → p y ≡ true → q y ≡ true) → (z : ℕ) → Contains xs z
+pub tally-lt : (p q : ℕ → Bool) (xs : List ℕ) → ((y : ℕ) → p y ≡ true → q y ≡ true) → (z : ℕ) → Contains xs z
     → p z ≡ false → q z ≡ true → tally p xs < tally q xs
 tally-lt p q [] h z c a b = absurd (omega (arith, c.1))
 tally-lt p q (x ∷ xs) h z c a b = elim (contains_cases z x xs c) [
@@ -83,11 +84,6 @@ tally-lt p q (x ∷ xs) h z c a b = elim (contains_cases z x xs c) [
 reached_count : Instance → ℕ → ℕ
 reached_count i x = tally (reaches i x) (range_with_len 0 (length i))
 
--- what isn't true is false
-false_of : (b : Bool) → (b ≡ true → ⊥) → b ≡ false
-false_of true h = absurd (h refl)
-false_of false h = refl
-
 -- what the test finds is some steps away
 pub steps_of : (i : Instance) (x y : ℕ) → reaches i x y ≡ true → Steps (IsBelow i) x y
 steps_of i x y e = Steps-from_reaches ((reaches_is i x y).0 e)
@@ -103,7 +99,7 @@ unfolding reached_count
 parent_reaches_fewer g i w x y b = tally-lt (reaches i y) (reaches i x) (range_with_len 0 (length i))
     (λ z e. reaches_of i x z (step b (steps_of i y z e)))
     x (Contains-range (length i) x (below_is_member i x y b))
-    (false_of (reaches i y x) (λ e. no_cycle g i w x (climb b (steps_of i y x e))))
+    (false_from_ne_true (reaches i y x) (λ e. no_cycle g i w x (climb b (steps_of i y x e))))
     (reaches_of i x x here)
 
 -- by induction on how many it reaches, a member has steps to the last one
@@ -213,7 +209,7 @@ module _ (i : Instance) (x : ℕ) (v : IsInstance i) where
         u.1,
       )
 
-  -- the members of the part stand in the order of the whole
+  -- the members of the part stand in the cases_order of the whole
   increasing_above : (k l : ℕ) → k < l → l < length (above i x)
       → get_or (members_above i x) k 0 < get_or (members_above i x) l 0
   increasing_above k l a h =
@@ -302,7 +298,7 @@ module _ (i : Instance) (x : ℕ) (v : IsInstance i) where
       -- `all` is the last of the part, since the places rise
       last : (a : ℕ) → a < length (above i x) → suc (get_or (members_above i x) a 0) ≡ length i
           → suc a ≡ length (above i x)
-      last a ha q = elim (order (suc a) (length (above i x))) [
+      last a ha q = elim (cases_order (suc a) (length (above i x))) [
         | inl s ↦ s
         | inr s ↦ elim s [
           | inl l ↦ let f : get_or (members_above i x) a 0 < get_or (members_above i x) (suc a) 0 =

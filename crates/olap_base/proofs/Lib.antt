@@ -1,4 +1,8 @@
 -- Lemmas.
+pub mod StepLemmas
+pub mod DecisionLemmas
+pub mod GeneralLemmas
+pub mod RankLemmas
 pub mod ListLemmas
 pub mod Part
 pub mod AboveLemmas

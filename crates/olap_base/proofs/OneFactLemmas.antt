@@ -1,18 +1,17 @@
 -- The views of one fact of value 1.
-use Rattle.std.proofs.Common.{◌∙◌}
 use Rattle.olap_base.specs.Instance.{ReachesVia}
 use Rattle.olap_base.specs.Reaching.{reaches_is}
-use Rattle.olap_base.specs.OneFact.{OneFactsViews, one_fact}
+use Rattle.olap_base.specs.OneFact.{OneFactsViews}
+use Rattle.olap_base.specs.Views.{members}
 use Rattle.olap_base.proofs.RollingTotals.{By}
 use Rattle.olap_base.proofs.RollingLemmas.{direct_of_one, merged_of_one, times_same}
-use Rattle.olap_base.proofs.ViewLemmas.{is_member_of, members, members_roll, merged_is, via_is_by}
+use Rattle.olap_base.proofs.ViewLemmas.{is_member_of, members_roll, via_is_by}
 
 -- the direct view has 1 at the member, the view from the sources has the number of sources
 pub one_facts_views : OneFactsViews
 one_facts_views g i w c x y m r sources n h =
     let e = (reaches_is i x y).1 r in let k = is_member_of i c y m in let roll = members_roll g i w in (
       direct_of_one (members i) roll c x y k e,
-      merged_is i c (one_fact x) sources
-          ∙ merged_of_one (members i) roll c x y k e sources n
+      merged_of_one (members i) roll c x y k e sources n
           (times_same (λ s. ReachesVia i x s c) (λ s. By (members i) x s y) (via_is_by g i w c x y m e) sources n h),
     )

@@ -5,33 +5,26 @@ use Rattle.std.specs.Prelude.{Contains, filter_map, IsTrue}
 use Rattle.std.specs.List.{cons_option}
 use Rattle.olap_base.specs.Deciding.{contains_cons, contains_cases, is_yes, is_yes_is}
 use Rattle.olap_base.specs.Summaries.{Summary, ◌⊕◌}
-use Rattle.olap_base.specs.Views.{NoneOf, ExactlyOne}
+use Rattle.olap_base.specs.Views.{Fact, Row, Points, NoneOf, ExactlyOne, ViewsAgree, direct_rows, direct_views, one_fact, row_at, rows_from_views, total_of_facts, total_of_views}
 use Rattle.olap_base.specs.OneFact.{HoldsTimes, ones}
-use Rattle.olap_base.proofs.ListLemmas.{contains_head, Contains-nil, Distinct}
+use Rattle.olap_base.proofs.ListLemmas.{contains_head, Contains-nil, Distinct, filter_map_same}
 use Rattle.olap_base.proofs.TotalLemmas.{⊕_none, total_by, total_same, total_nothing}
-use Rattle.olap_base.proofs.RollingTotals.{Rolling, IsRolling, facts_total, row_of, direct, rows_total, from_rows, below, By, Agree, ReachedOnce, single, value_if, facts_totals, value_by, rows_totals, nothing_if, fails, by_source, by_source_is, one_by_source, by_sources}
+use Rattle.olap_base.proofs.RollingTotals.{IsRolling, By, ReachedOnce, single, value_if, facts_totals, value_by, rows_totals, nothing_if, by_source, by_source_is, one_by_source, by_sources, At}
+use Rattle.std.proofs.lemmas.Bool.{false_from_ne_true}
 
 -- ---- the two views agree where each fact's point is reached by one source
 
--- equal results for all elements give equal lists
-filter_map_same : {A B : Type 0} (h k : A → Option B) (xs : List A) → ((x : A) → Contains xs x → h x ≡ k x)
-    → filter_map h xs ≡ filter_map k xs
-filter_map_same h k [] f = refl
-filter_map_same h k (x ∷ xs) f =
-    ap (λ o. cons_option o (filter_map h xs)) (f x (contains_head x xs))
-    ∙ ap (cons_option (k x)) (filter_map_same h k xs (λ y c. f y (contains_cons y xs x c)))
-
 -- where each point is reached by one source, the two views agree
-pub agree : {P C F R : Type 0} (r : Rolling P C F R) → IsRolling r → (Q : P → Type 0) (c : C) (sources : List C)
-    → ReachedOnce r Q c sources → Agree r Q c sources
+pub agree : {C P : Type 0} (r : Points C P) → IsRolling r → (Q : P → Type 0) (c : C) (sources : List C)
+    → ReachedOnce r Q c sources → ViewsAgree (At Q) r c sources
 agree r w Q c sources one facts t =
-    filter_map_same (λ y. row_of r y (facts_total r facts y))
-    (λ y. row_of r y (rows_total r (below r sources facts) y)) (r.points c)
-    (λ y k. ap (row_of r y) (facts_totals r w facts y
+    filter_map_same (λ y. row_at y (total_of_facts r facts y))
+    (λ y. row_at y (total_of_views r (direct_views r facts sources) y)) (r.of c)
+    (λ y k. ap (row_at y) (facts_totals r w facts y
     ∙ sym (rows_totals r w facts sources y
-    ∙ total_same (λ f. total_by (λ s. total_by (λ z. value_by r w y z f) (r.points s)) sources)
+    ∙ total_same (λ f. total_by (λ s. total_by (λ z. value_by r w y z f) (r.of s)) sources)
     (value_if r w y) facts
-    (λ f n. by_sources r w c y k sources f (λ e. one (r.at f) (t f n) y k e)))))
+    (λ f n. by_sources r w c y k sources f (λ e. one f.at (t f n) y k e)))))
 
 -- ---- and only there
 
@@ -81,107 +74,103 @@ module _ {A : Type 0} (Q : A → Type 0) (p : A → Bool) (d : (x : A) → IsTru
       go false i c none ih = inr (λ q. let z = i.1 q in cc, ih (omega arith))
 
 -- where the rows of two lists are made from the same points, and the lists are equal, each point has the same in both
-module _ {P C F R : Type 0} (r : Rolling P C F R) (w : IsRolling r) (y : P) where
+module _ {C P : Type 0} (r : Points C P) (w : IsRolling r) (y : P) where
   -- what stands at y
-  find_row : List R → Option Summary
+  find_row : List (Row P) → Option Summary
   find_row [] = None
-  find_row (q ∷ rows) = cond (is_yes (w.equal (r.place q) y)) (Some (r.sums q)) (find_row rows)
+  find_row (q ∷ rows) = cond (is_yes (w.equal q.at y)) (Some q.summary) (find_row rows)
 
   -- the row of another point is passed over
-  skip : (h : P → Option Summary) (x : P) → (x ≡ y → ⊥) → (rows : List R)
-      → find_row (cons_option (row_of r x (h x)) rows) ≡ find_row rows
+  skip : (h : P → Option Summary) (x : P) → (x ≡ y → ⊥) → (rows : List (Row P))
+      → find_row (cons_option (row_at x (h x)) rows) ≡ find_row rows
   unfolding find_row
   skip h x n rows = go (h x)
     where
-      go : (o : Option Summary) → find_row (cons_option (row_of r x o) rows) ≡ find_row rows
+      go : (o : Option Summary) → find_row (cons_option (row_at x o) rows) ≡ find_row rows
       go None = refl
-      go (Some s) = at (is_yes (w.equal (r.place (r.row x s)) y))
-          (fails (is_yes (w.equal (r.place (r.row x s)) y))
-          (λ e. n (sym (w.place_is x s) ∙ (is_yes_is (w.equal (r.place (r.row x s)) y)).0 e)))
+      go (Some s) = at (is_yes (w.equal x y))
+          (false_from_ne_true (is_yes (w.equal x y))
+          (λ e. n ((is_yes_is (w.equal x y)).0 e)))
         where
-          at : (b : Bool) → b ≡ false → cond b (Some (r.sums (r.row x s))) (find_row rows) ≡ find_row rows
+          at : (b : Bool) → b ≡ false → cond b (Some s) (find_row rows) ≡ find_row rows
           at true e = absurd (cc)
           at false e = refl
 
   -- where y isn't among the points, nothing stands at it
   find_none : (h : P → Option Summary) (xs : List P) → (Contains xs y → ⊥)
-      → find_row (filter_map (λ x. row_of r x (h x)) xs) ≡ None
+      → find_row (filter_map (λ x. row_at x (h x)) xs) ≡ None
   unfolding find_row
   find_none h [] n = refl
   find_none h (x ∷ xs) n =
       skip h x (λ e. n (subst (λ z. Contains (x ∷ xs) z) e (contains_head x xs)))
-      (filter_map (λ z. row_of r z (h z)) xs)
+      (filter_map (λ z. row_at z (h z)) xs)
       ∙ find_none h xs (λ c. n (contains_cons y xs x c))
 
   -- where y is among the points, at it stands what it was given
   find_it : (h : P → Option Summary) (xs : List P) → Distinct xs → Contains xs y
-      → find_row (filter_map (λ x. row_of r x (h x)) xs) ≡ h y
+      → find_row (filter_map (λ x. row_at x (h x)) xs) ≡ h y
   unfolding find_row
   find_it h [] d c = absurd (Contains-nil y c)
   find_it h (x ∷ xs) d c = elim (contains_cases y x xs c) [
     | inl e ↦ here (h x) refl e
-    | inr k ↦ skip h x (λ e. d.0 (subst (λ z. Contains xs z) (sym e) k)) (filter_map (λ z. row_of r z (h z)) xs)
+    | inr k ↦ skip h x (λ e. d.0 (subst (λ z. Contains xs z) (sym e) k)) (filter_map (λ z. row_at z (h z)) xs)
         ∙ find_it h xs d.1 k
   ]
     where
       here : (o : Option Summary) → h x ≡ o → x ≡ y
-          → find_row (cons_option (row_of r x o) (filter_map (λ z. row_of r z (h z)) xs)) ≡ h y
+          → find_row (cons_option (row_at x o) (filter_map (λ z. row_at z (h z)) xs)) ≡ h y
       here None e q =
           find_none h xs (λ k. d.0 (subst (λ z. Contains xs z) (sym q) k)) ∙ sym e ∙ ap h q
-      here (Some s) e q = at (is_yes (w.equal (r.place (r.row x s)) y))
-          ((is_yes_is (w.equal (r.place (r.row x s)) y)).1 (w.place_is x s ∙ q))
+      here (Some s) e q = at (is_yes (w.equal x y))
+          ((is_yes_is (w.equal x y)).1 q)
         where
           at : (b : Bool) → b ≡ true
-              → cond b (Some (r.sums (r.row x s))) (find_row (filter_map (λ z. row_of r z (h z)) xs)) ≡ h y
-          at true t = ap Some (w.sums_is x s) ∙ sym e ∙ ap h q
+              → cond b (Some s) (find_row (filter_map (λ z. row_at z (h z)) xs)) ≡ h y
+          at true t = sym e ∙ ap h q
           at false t = absurd (cc)
 
+-- the fact of value 1
+abbrev fact : {P : Type 0} → P → Fact P
+fact x = record { at = x; value = pos 1 }
+
 -- where the two views agree, each point is reached by one source: one fact of value 1 shows it
-pub only : {P C F R : Type 0} (r : Rolling P C F R) → IsRolling r → (Q : P → Type 0) (c : C) (sources : List C)
-    → Agree r Q c sources → ReachedOnce r Q c sources
+pub only : {C P : Type 0} (r : Points C P) → IsRolling r → (Q : P → Type 0) (c : C) (sources : List C)
+    → ViewsAgree (At Q) r c sources → ReachedOnce r Q c sources
 unfolding value_by value_if count
-only {P} {C} {F} {R} r w Q c sources agrees x h y m e =
+only {P = P} r w Q c sources agrees x h y m e =
     one_from_count (λ s. By r x s y) (by_source r w c y m x) (by_source_is r w c y m x) (pos 1) sources counted
   where
-    facts : List F
-    facts = r.one x ∷ []
+    facts : List (Fact P)
+    facts = one_fact x
 
-    alone : (f : F) → Contains facts f → Q (r.at f)
-    alone f k = elim (contains_cases f (r.one x) [] k) [
-      | inl q ↦ subst (λ g. Q (r.at g)) q (subst Q (sym (w.at_one x)) h)
+    alone : (f : Fact P) → Contains facts f → Q f.at
+    alone f k = elim (contains_cases f (fact x) [] k) [
+      | inl q ↦ subst (λ (g : Fact P). Q g.at) q h
       | inr n ↦ absurd (Contains-nil f n)
     ]
 
-    same : facts_total r facts y ≡ rows_total r (below r sources facts) y
-    same = sym (find_it r w y (facts_total r facts) (r.points c) (w.distinct c) m)
+    same : total_of_facts r facts y ≡ total_of_views r (direct_views r facts sources) y
+    same = sym (find_it r w y (total_of_facts r facts) (r.of c) (w.distinct c) m)
         ∙ ap (find_row r w y) (agrees facts alone)
-        ∙ find_it r w y (rows_total r (below r sources facts)) (r.points c) (w.distinct c) m
+        ∙ find_it r w y (total_of_views r (direct_views r facts sources)) (r.of c) (w.distinct c) m
 
-    direct_count : count (facts_total r facts y) ≡ 1
-    direct_count = ap count (facts_totals r w facts y) ∙ seen (r.reach (r.at (r.one x)) y)
-        (ap (λ p. r.reach p y) (w.at_one x) ∙ e)
+    direct_count : count (total_of_facts r facts y) ≡ 1
+    direct_count = ap count (facts_totals r w facts y) ∙ seen (r.reaches x y) e
       where
-        seen : (t : Bool) → t ≡ true → count (cond t (single (r.value (r.one x))) None ⊕ None) ≡ 1
+        seen : (t : Bool) → t ≡ true → count (cond t (single (pos 1)) None ⊕ None) ≡ 1
         seen true e = refl
         seen false e = absurd (cc)
 
-    merged : rows_total r (below r sources facts) y
+    merged : total_of_views r (direct_views r facts sources) y
         ≡ total_by (λ s. cond (by_source r w c y m x s) (single (pos 1)) None) sources
     merged = rows_totals r w facts sources y
-        ∙ ⊕_none (total_by (λ s. total_by (λ z. value_by r w y z (r.one x)) (r.points s)) sources)
-        ∙ total_same (λ s. total_by (λ z. value_by r w y z (r.one x)) (r.points s))
+        ∙ ⊕_none (total_by (λ s. total_by (λ z. value_by r w y z (fact x)) (r.of s)) sources)
+        ∙ total_same (λ s. total_by (λ z. value_by r w y z (fact x)) (r.of s))
         (λ s. cond (by_source r w c y m x s) (single (pos 1)) None) sources
-        (λ s k. one_by_source r w c y m (r.at (r.one x)) s (single (r.value (r.one x)))
-        ∙ ap (λ p. cond (by_source r w c y m p s) (single (r.value (r.one x))) None) (w.at_one x)
-        ∙ ap (λ v. cond (by_source r w c y m x s) (single v) None) (w.value_one x))
+        (λ s k. one_by_source r w c y m x s (single (pos 1)))
 
     counted : count (total_by (λ s. cond (by_source r w c y m x s) (single (pos 1)) None) sources) ≡ 1
     counted = sym (ap count merged) ∙ sym (ap count same) ∙ direct_count
-
--- the two views agree exactly if each point is reached by one source
-pub rolling_agree : {P C F R : Type 0} (r : Rolling P C F R) → IsRolling r → (Q : P → Type 0) (c : C)
-    (sources : List C) → Agree r Q c sources ↔ ReachedOnce r Q c sources
-rolling_agree r w Q c sources = (only r w Q c sources, agree r w Q c sources)
 
 -- what holds of none doesn't depend on how it is said
 pub none_same : {A : Type 0} (P Q : A → Type 0) → ((x : A) → P x ↔ Q x) → (xs : List A) → NoneOf P xs → NoneOf Q xs
@@ -195,7 +184,19 @@ one_same P Q h [] o = o
 one_same P Q h (x ∷ xs) (inl o) = inl ((h x).0 o.0, none_same P Q h xs o.1)
 one_same P Q h (x ∷ xs) (inr o) = inr (λ q. o.0 ((h x).1 q), one_same P Q h xs o.1)
 
--- nor does what holds so many times
+-- however it is said of sources that x reaches y by them, the two views agree exactly if each point is reached by one
+pub rolling_agree : {C P : Type 0} (r : Points C P) → IsRolling r → (Q : P → Type 0) (Via : P → C → Type 0) (c : C)
+    → ((x y : P) → Contains (r.of c) y → r.reaches x y ≡ true → (s : C) → Via x s ↔ By r x s y) → (sources : List C)
+    → ViewsAgree (At Q) r c sources
+    ↔ ((x : P) → Q x → (y : P) → Contains (r.of c) y → r.reaches x y ≡ true → ExactlyOne (Via x) sources)
+rolling_agree r w Q Via c by sources = (
+  λ h x q y k e. one_same (λ s. By r x s y) (Via x) (λ s. let t = by x y k e s in (t.1, t.0)) sources
+      (only r w Q c sources h x q y k e),
+  λ h. agree r w Q c sources
+      (λ x q y k e. one_same (Via x) (λ s. By r x s y) (by x y k e) sources (h x q y k e)),
+)
+
+-- nor does what holds this many times
 pub times_same : {A : Type 0} (P Q : A → Type 0) → ((x : A) → P x ↔ Q x) → (xs : List A) (n : ℕ)
     → HoldsTimes P xs n → HoldsTimes Q xs n
 times_same P Q h [] n t = t
@@ -249,11 +250,11 @@ filter_map_only h y (x ∷ xs) d c f = elim (contains_cases y x xs c) [
       ∙ filter_map_only h y xs d.1 k (λ z l n. f z (contains_cons z xs x l) n)
 ]
 
-module _ {P C F R : Type 0} (r : Rolling P C F R) (w : IsRolling r) (c : C) (x y : P) (m : Contains (r.points c) y)
-    (e : r.reach x y ≡ true) where
+module _ {C P : Type 0} (r : Points C P) (w : IsRolling r) (c : C) (x y : P) (m : Contains (r.of c) y)
+    (e : r.reaches x y ≡ true) where
   -- of the points of c, x reaches y alone
-  unreached : (z : P) → Contains (r.points c) z → (z ≡ y → ⊥) → r.reach x z ≡ false
-  unreached z k n = fails (r.reach x z) (λ f. n (w.once c x z y k m f e))
+  unreached : (z : P) → Contains (r.of c) z → (z ≡ y → ⊥) → r.reaches x z ≡ false
+  unreached z k n = false_from_ne_true (r.reaches x z) (λ f. n (w.once c x z y k m f e))
 
   -- where the test is true, what stands there
   if_true : (b : Bool) (o : Option Summary) → b ≡ true → cond b o None ≡ o
@@ -261,45 +262,41 @@ module _ {P C F R : Type 0} (r : Rolling P C F R) (w : IsRolling r) (c : C) (x y
   if_true false o e = absurd (cc)
 
   -- what a fact at x of value 1 adds to z
-  value_at : (z : P) → facts_total r (r.one x ∷ []) z ≡ cond (r.reach x z) (single (pos 1)) None
+  value_at : (z : P) → total_of_facts r (one_fact x) z ≡ cond (r.reaches x z) (single (pos 1)) None
   unfolding value_if
-  value_at z = facts_totals r w (r.one x ∷ []) z
-      ∙ ⊕_none (cond (r.reach (r.at (r.one x)) z) (single (r.value (r.one x))) None)
-      ∙ ap (λ p. cond (r.reach p z) (single (r.value (r.one x))) None) (w.at_one x)
-      ∙ ap (λ v. cond (r.reach x z) (single v) None) (w.value_one x)
+  value_at z = facts_totals r w (one_fact x) z
+      ∙ ⊕_none (cond (r.reaches x z) (single (pos 1)) None)
 
   -- the direct view of one fact of value 1 has 1 at y, and nothing else
-  pub direct_of_one : direct r c (r.one x ∷ []) ≡ cons_option (row_of r y (ones 1)) []
+  pub direct_of_one : direct_rows r c (one_fact x) ≡ cons_option (row_at y (ones 1)) []
   direct_of_one =
-      filter_map_only (λ z. row_of r z (facts_total r (r.one x ∷ []) z)) y (r.points c) (w.distinct c) m
-      (λ z k n. ap (row_of r z) (value_at z ∙ nothing_if (r.reach x z) (single (pos 1)) (unreached z k n)))
-      ∙ ap (λ o. cons_option (row_of r y o) []) (value_at y ∙ if_true (r.reach x y) (single (pos 1)) e)
+      filter_map_only (λ z. row_at z (total_of_facts r (one_fact x) z)) y (r.of c) (w.distinct c) m
+      (λ z k n. ap (row_at z) (value_at z ∙ nothing_if (r.reaches x z) (single (pos 1)) (unreached z k n)))
+      ∙ ap (λ o. cons_option (row_at y o) []) (value_at y ∙ if_true (r.reaches x y) (single (pos 1)) e)
 
   -- what the sources' views add to z
-  merged_at : (sources : List C) (z : P) (k : Contains (r.points c) z)
-      → rows_total r (below r sources (r.one x ∷ [])) z
+  merged_at : (sources : List C) (z : P) (k : Contains (r.of c) z)
+      → total_of_views r (direct_views r (one_fact x) sources) z
       ≡ total_by (λ s. cond (by_source r w c z k x s) (single (pos 1)) None) sources
   unfolding value_by value_if
-  merged_at sources z k = rows_totals r w (r.one x ∷ []) sources z
-      ∙ ⊕_none (total_by (λ s. total_by (λ u. value_by r w z u (r.one x)) (r.points s)) sources)
-      ∙ total_same (λ s. total_by (λ u. value_by r w z u (r.one x)) (r.points s))
+  merged_at sources z k = rows_totals r w (one_fact x) sources z
+      ∙ ⊕_none (total_by (λ s. total_by (λ u. value_by r w z u (fact x)) (r.of s)) sources)
+      ∙ total_same (λ s. total_by (λ u. value_by r w z u (fact x)) (r.of s))
       (λ s. cond (by_source r w c z k x s) (single (pos 1)) None) sources
-      (λ s l. one_by_source r w c z k (r.at (r.one x)) s (single (r.value (r.one x)))
-      ∙ ap (λ p. cond (by_source r w c z k p s) (single (r.value (r.one x))) None) (w.at_one x)
-      ∙ ap (λ v. cond (by_source r w c z k x s) (single v) None) (w.value_one x))
+      (λ s l. one_by_source r w c z k x s (single (pos 1)))
 
   -- the view from the sources has at y as many as there are sources by which x reaches it
   pub merged_of_one : (sources : List C) (n : ℕ) → HoldsTimes (λ s. By r x s y) sources n
-      → from_rows r c (below r sources (r.one x ∷ [])) ≡ cons_option (row_of r y (ones n)) []
+      → rows_from_views r c (direct_views r (one_fact x) sources) ≡ cons_option (row_at y (ones n)) []
   merged_of_one sources n h =
-      filter_map_only (λ z. row_of r z (rows_total r (below r sources (r.one x ∷ [])) z)) y (r.points c)
+      filter_map_only (λ z. row_at z (total_of_views r (direct_views r (one_fact x) sources) z)) y (r.of c)
       (w.distinct c) m
-      (λ z k q. ap (row_of r z) (merged_at sources z k
+      (λ z k q. ap (row_at z) (merged_at sources z k
       ∙ total_same (λ s. cond (by_source r w c z k x s) (single (pos 1)) None) (λ s. None) sources
       (λ s l. nothing_if (by_source r w c z k x s) (single (pos 1))
-      (fails (by_source r w c z k x s)
+      (false_from_ne_true (by_source r w c z k x s)
       (λ f. let t = (by_source_is r w c z k x s).0 f in
       q (w.once c x z y k m (w.onward x t.0 z t.2 t.3) e))))
       ∙ total_nothing sources))
-      ∙ ap (λ o. cons_option (row_of r y o) []) (merged_at sources y m
+      ∙ ap (λ o. cons_option (row_at y o) []) (merged_at sources y m
       ∙ ones_total (λ s. By r x s y) (by_source r w c y m x) (by_source_is r w c y m x) sources n h)

@@ -200,3 +200,7 @@ totals_of_summaries s (t ∷ ts) = ap (λ u. Some s ⊕ u) (totals_of_summaries 
   where
     counts : s.count + sum_by (λ (u : Summary). u.count) (t ∷ ts) ≡ sum_by (λ (u : Summary). u.count) (s ∷ t ∷ ts)
     counts = sym (sum_by-cons (λ (u : Summary). u.count) s (t ∷ ts))
+
+-- the order of summaries does not matter
+pub totals_exchanged : (a b c : Option Summary) → a ⊕ (b ⊕ c) ≡ b ⊕ (a ⊕ c)
+totals_exchanged a b c = sym (⊕_assoc a b c) ∙ ap (λ t. t ⊕ c) (⊕_comm a b) ∙ ⊕_assoc b a c

@@ -1,58 +1,36 @@
 -- Members of an instance as points: the two views of a category agree for every fact table exactly if each fact's
 -- member is reached by one source.
-use Rattle.std.proofs.Common.{◌≡◌, ℕ, ◌↔◌, List, length, pos, true, refl, sym, ap, subst, ◌∙◌, arith}
+use Rattle.std.proofs.Common.{◌≡◌, ℕ, ◌↔◌, length, true, refl, sym, subst, ◌∙◌}
 use Rattle.std.specs.Prelude.{Contains, ◌==◌}
 use Rattle.std.specs.List.{range_with_len}
 use Rattle.std.proofs.Math.Decide.{ℕ_discrete}
-use Rattle.std.proofs.lemmas.List.Folds.{flat_map-map}
-use Rattle.std.proofs.lemmas.Bool.Decides.{nat_tests}
 use Rattle.olap_base.specs.Steps.{Steps-append}
 use Rattle.olap_base.specs.Graph.{Graph, IsBottom}
 use Rattle.olap_base.specs.Instance.{Instance, IsLawful, IsMember, IsMemberOf, ReachesVia, category_of}
 use Rattle.olap_base.specs.Reaching.{reaches, reaches_is}
-use Rattle.olap_base.specs.Views.{Fact, Row, View, members_of, direct_view, direct_views, rows_from_views, ViewsAgree, ReachedByOne, AgreeExactlyIfReachedByOne}
+use Rattle.olap_base.specs.Views.{members, members_of, AgreeExactlyIfReachedByOne}
 use Rattle.olap_base.proofs.ListLemmas.{Contains-filter, Contains-from_filter, Contains-range, Contains-from_range, Distinct, Distinct-range, Distinct-filter}
 use Rattle.olap_base.proofs.AboveLemmas.{reached_once, steps_of, reaches_of}
-use Rattle.olap_base.proofs.RollingTotals.{Rolling, IsRolling, By, below, from_rows}
-use Rattle.olap_base.proofs.RollingLemmas.{rolling_agree, one_same}
-
--- numbers that pass the test are equal
-pub eqb_is : (a b : ℕ) → a == b ≡ true → a ≡ b
-eqb_is a b e = grind (arith, nat_tests)
-
--- equal ones pass it
-is_eqb : (a b : ℕ) → a ≡ b → a == b ≡ true
-is_eqb a b e = grind (arith, nat_tests)
+use Rattle.olap_base.proofs.RollingTotals.{IsRolling, By}
+use Rattle.olap_base.proofs.RollingLemmas.{rolling_agree}
+use Rattle.std.proofs.lemmas.Bool.{eqb-true, eq-eqb}
 
 -- what is listed for a category is a member of it
 pub members_of_is : (i : Instance) (c y : ℕ) → Contains (members_of i c) y → IsMemberOf i c y
 members_of_is i c y h =
     let t = Contains-from_filter (λ z. category_of i z == c) (range_with_len 0 (length i)) y h in
-    (Contains-from_range (length i) y t.0, eqb_is (category_of i y) c t.1)
+    (Contains-from_range (length i) y t.0, eqb-true (category_of i y) c t.1)
 
 -- a member of a category is listed for it
 pub is_member_of : (i : Instance) (c y : ℕ) → IsMemberOf i c y → Contains (members_of i c) y
 is_member_of i c y m =
-    Contains-filter (λ z. category_of i z == c) (range_with_len 0 (length i)) y (is_eqb (category_of i y) c m.1)
+    Contains-filter (λ z. category_of i z == c) (range_with_len 0 (length i)) y (eq-eqb (category_of i y) c m.1)
     (Contains-range (length i) y m.0)
 
 -- no member is listed twice
 pub Distinct-members_of : (i : Instance) (c : ℕ) → Distinct (members_of i c)
 Distinct-members_of i c =
     Distinct-filter (λ z. category_of i z == c) (range_with_len 0 (length i)) (Distinct-range 0 (length i))
-
--- members as points
-abbrev pub members : Instance → Rolling ℕ ℕ Fact Row
-members i = record {
-  at = λ f. f.member;
-  value = λ f. f.value;
-  row = λ y s. record { member = y; summary = s };
-  place = λ q. q.member;
-  sums = λ q. q.summary;
-  reach = reaches i;
-  points = members_of i;
-  one = λ x. record { member = x; value = pos 1 };
-}
 
 -- of a category, x reaches one member at most
 pub members_once : (g : Graph) (i : Instance) → IsLawful g i → (c x y z : ℕ) → Contains (members_of i c) y
@@ -68,10 +46,6 @@ members_onward i x y z e f = reaches_of i x z (Steps-append (steps_of i x y e) (
 -- members are points that roll up
 pub members_roll : (g : Graph) (i : Instance) → IsLawful g i → IsRolling (members i)
 members_roll g i w = record {
-  place_is = λ p s. refl;
-  sums_is = λ p s. refl;
-  at_one = λ p. refl;
-  value_one = λ p. refl;
   equal = ℕ_discrete;
   distinct = Distinct-members_of i;
   once = members_once g i w;
@@ -97,30 +71,11 @@ via_is_by g i w c x y m r s = (to, from)
     from : By (members i) x s y → ReachesVia i x s c
     from (z, n, a, b) = (z, members_of_is i s z n, (reaches_is i x z).0 a, (y, m, (reaches_is i z y).0 b))
 
--- the rows of the direct views are those below
-pub merged_is : (i : Instance) (c : ℕ) (facts : List Fact) (sources : List ℕ)
-    → rows_from_views i c (direct_views i facts sources) ≡ from_rows (members i) c (below (members i) sources facts)
-merged_is i c facts sources =
-    ap (from_rows (members i) c) (flat_map-map (λ (v : View). v.rows) (direct_view i facts) sources)
-
 -- the two views agree exactly if each member is reached by one source
 pub agree_exactly : AgreeExactlyIfReachedByOne
-agree_exactly g i c sources v w = (to, from)
-  where
-    P : ℕ → Type 0
-    P x = IsMember i x × IsBottom g (category_of i x)
-
-    to : ViewsAgree g i c sources → ReachedByOne g i c sources
-    to h x a b (y, m, q) = let e : reaches i x y ≡ true = (reaches_is i x y).1 q in
-        one_same (λ s. By (members i) x s y) (λ s. ReachesVia i x s c)
-        (λ s. let t = via_is_by g i w c x y m e s in (t.1, t.0)) sources
-        ((rolling_agree (members i) (members_roll g i w) P c sources).0
-        (λ facts t. h facts t ∙ merged_is i c facts sources) x (a, b) y (is_member_of i c y m) e)
-
-    from : ReachedByOne g i c sources → ViewsAgree g i c sources
-    from h facts t = (rolling_agree (members i) (members_roll g i w) P c sources).1
-        (λ x a y k e. let m = members_of_is i c y k in
-        one_same (λ s. ReachesVia i x s c) (λ s. By (members i) x s y) (via_is_by g i w c x y m e) sources
-        (h x a.0 a.1 (y, m, (reaches_is i x y).0 e)))
-        facts t
-        ∙ sym (merged_is i c facts sources)
+agree_exactly g i c sources v w =
+    let r = rolling_agree (members i) (members_roll g i w) (λ x. IsMember i x × IsBottom g (category_of i x))
+    (λ x s. ReachesVia i x s c) c (λ x y k e. via_is_by g i w c x y (members_of_is i c y k) e) sources in (
+      λ h x a b (y, m, q). r.0 h x (a, b) y (is_member_of i c y m) ((reaches_is i x y).1 q),
+      λ h. r.1 (λ x a y k e. h x a.0 a.1 (y, members_of_is i c y k, (reaches_is i x y).0 e)),
+    )

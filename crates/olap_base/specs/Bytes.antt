@@ -9,7 +9,7 @@ tab = 9
 abbrev pub line_feed : ℕ
 line_feed = 10
 
--- what may stand in front of it
+-- what may stand before it
 abbrev pub carriage_return : ℕ
 carriage_return = 13
 

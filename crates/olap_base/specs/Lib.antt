@@ -12,6 +12,7 @@ pub mod Above
 pub mod OneFact
 pub mod Limits
 pub mod Naming
+pub mod Following
 pub mod Bytes
 pub mod Ranks
 pub mod Refusing

@@ -1,6 +1,6 @@
 -- Things in the order of their ranks, which are lists of numbers.
 --     IsNotAfter    a list of numbers comes before another, or is equal
---     AreExactly    all the things of which a fact holds, in order
+--     AreExactly    exactly the things that have a property, in order
 --     IsFirst       the first of them
 use Rattle.std.specs.Prelude.{◌≡◌, ◌≢◌, ℕ, ◌<◌, ◌⊎◌, List, [], ◌∷◌, AllPairs, Contains}
 
@@ -10,7 +10,7 @@ IsNotAfter [] ys = Unit {0}
 IsNotAfter (x ∷ xs) [] = ⊥
 IsNotAfter (x ∷ xs) (y ∷ ys) = (x < y) ⊎ ((x ≡ y) × IsNotAfter xs ys)
 
--- exactly the things of which P holds, each once, in the order of their ranks
+-- exactly the things with the property P, each once, in the order of their ranks
 pub record AreExactly {A : Type 0} (rank : A → List ℕ) (P : A → Type 0) (xs : List A) : Type 0 where
   pub ordered : AllPairs (λ x y. IsNotAfter (rank x) (rank y) × (x ≢ y)) xs
   pub sound : (x : A) → Contains xs x → P x

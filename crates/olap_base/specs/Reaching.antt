@@ -8,7 +8,7 @@ use Rattle.olap_base.specs.Graph.{Graph, CategoryReaches, IsCategoryName}
 use Rattle.olap_base.specs.Instance.{Instance, Reaches}
 use Rattle.olap_base.specs.Deciding.{is_yes, is_yes_is, decide_reaches, decide_category_reaches, decide_category_name}
 
--- the answer as a test
+-- whether x reaches y, as a test; how it decides is hidden, and `reaches_is` says what it gives
 pub reaches : Instance → ℕ → ℕ → Bool
 reaches i x y = is_yes (decide_reaches i x y)
 
@@ -17,7 +17,7 @@ pub reaches_is : (i : Instance) (x y : ℕ) → IsTrue (reaches i x y) ↔ Reach
 unfolding reaches
 reaches_is i x y = is_yes_is (decide_reaches i x y)
 
--- the answer as a test
+-- whether c reaches d, as a test; how it decides is hidden, and `category_reaches_is` says what it gives
 pub category_reaches : Graph → ℕ → ℕ → Bool
 category_reaches g c d = is_yes (decide_category_reaches g c d)
 
@@ -26,7 +26,7 @@ pub category_reaches_is : (g : Graph) (c d : ℕ) → IsTrue (category_reaches g
 unfolding category_reaches
 category_reaches_is g c d = is_yes_is (decide_category_reaches g c d)
 
--- the answer as a test
+-- whether the text is a category name, as a test; `is_category_name_is` says what it gives
 pub is_category_name : List ℕ → Bool
 is_category_name name = is_yes (decide_category_name name)
 

@@ -34,7 +34,7 @@ None ⊕ t = t
 Some s ⊕ None = Some s
 Some s ⊕ Some t = Some (joined s t)
 
--- nothing, where there are none
+-- the total of some summaries; none if there are none
 abbrev pub total : List Summary → Option Summary
 total [] = None
 total (s ∷ ss) = Some s ⊕ total ss

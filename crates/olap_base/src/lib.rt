@@ -1,8 +1,8 @@
 //! The definitions of the subject.
 //!
-//! `specs/` says what a hierarchy schema, a dimension instance, its five laws, a fact table and a view
-//! are, over plain lists and numbers of any size; `laws` are theorems over these definitions. Beside
-//! them stand the ids, texts and lists that all crates share.
+//! `specs/` says what a hierarchy schema, a dimension instance, its five laws, a fact table and a view are, over plain
+//! lists and numbers of any size; `laws` are theorems over these definitions. Beside them stand the ids, texts and
+//! lists that all crates share. The definitions know nothing of the program.
 #![tactic(auto)]
 
 mod ids;

@@ -1,4 +1,4 @@
--- A number is in a set exactly where its bit is 1.
+-- A number is in a set exactly if its bit is 1.
 use Rattle.std.proofs.Common.{◌≡◌, ◌≢◌, ℕ, zero, suc, ◌+◌, ◌*◌, ◌/◌, ◌%◌, ◌^◌, ◌<◌, ◌≤◌, false, not, ◌&&◌, ◌||◌, inl, inr, eqb, List, length, get_or, replicate, refl, ap, sym, ◌∙◌, subst, arith}
 use Rattle.std.specs.Cmp.{nat_cmp_total, unsigned_tied}
 use Rattle.std.specs.FinSet.{FinSet, empty, contains, insert, remove, contains-empty, contains-insert, contains-remove, same_set, nat_cmp-IsAntisymmetric}
@@ -46,7 +46,7 @@ module _ (words : List ℕ) where
       (λ _. in_insert _ k q ∙ ap (λ b. b || contains (numbers_below words k) q) (ne_eqb q k n))
       (λ _. refl)
 
-  -- a number below k is among those below k exactly where its bit is 1
+  -- a number below k is among those below k exactly if its bit is 1
   seen : (k q : ℕ) → q < k → contains (numbers_below words k) q ≡ is_bit_one words q
   seen zero q h = absurd (omega arith)
   seen (suc k) q h = elim (cases_eq q k) [
@@ -58,14 +58,14 @@ module _ (words : List ℕ) where
   pub past : (q : ℕ) → 64 * length words ≤ q → is_bit_one words q ≡ false
   past q h = ap (λ w. is_one w (q % 64)) (get_or_past words (q / 64) 0 (omega arith)) ∙ is_one-zero (q % 64)
 
-  -- a number is in the set exactly where its bit is 1
+  -- a number is in the set exactly if its bit is 1
   pub contains-numbers_of : (q : ℕ) → contains (numbers_of words) q ≡ is_bit_one words q
   contains-numbers_of q = elim (cases_lt q (64 * length words)) [
     | inl h ↦ seen _ q h
     | inr h ↦ not_yet _ q h ∙ sym (past q h)
   ]
 
-  -- a set with a number exactly where the bit is 1 is the words' set
+  -- a set with a number exactly if the bit is 1 is the words' set
   pub same_numbers : (s : FinSet nat_cmp) → ((q : ℕ) → is_bit_one words q ≡ contains s q) → numbers_of words ≡ s
   same_numbers s f = same_set nat_cmp_total nat_cmp-IsAntisymmetric _ _ (λ q. contains-numbers_of q ∙ f q)
 

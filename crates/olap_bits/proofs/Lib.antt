@@ -1,8 +1,8 @@
 -- Lemmas.
-pub mod BitLemmas
+mod BitLemmas
 pub mod CatSetLemmas
-pub mod ChangingLemmas
-pub mod JoiningLemmas
-pub mod SubsetLemmas
-pub mod FirstLemmas
-pub mod CountingLemmas
+mod ChangingLemmas
+mod JoiningLemmas
+mod SubsetLemmas
+mod FirstLemmas
+mod CountingLemmas

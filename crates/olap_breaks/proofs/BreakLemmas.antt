@@ -8,15 +8,17 @@ use Rattle.olap_base.specs.Graph.{Graph, IsBottom}
 use Rattle.olap_base.specs.Instance.{Instance, IsLawful, IsMember, ReachesCategory, ReachesVia, category_of}
 use Rattle.olap_base.specs.OneFact.{HoldsTimes, ones}
 use Rattle.olap_base.specs.Reaching.{reaches, reaches_is}
-use Rattle.olap_base.specs.Views.{ExactlyOne, Row, ViewsAgree, members_of, row_at}
-use Rattle.olap_base.proofs.ListLemmas.{Contains-from_range, Contains-nil, Contains-range, both_true, contains_head, first_true, list_any_is, second_true}
+use Rattle.olap_base.specs.Views.{ExactlyOne, Row, ViewsAgree, members_of, row_at, IsFactTable, members}
+use Rattle.olap_base.proofs.ListLemmas.{Contains-from_range, Contains-nil, Contains-range, contains_head, first_true, list_any_is, second_true}
 use Rattle.olap_base.proofs.OneFactLemmas.{one_facts_views}
 use Rattle.olap_base.proofs.ViewLemmas.{agree_exactly, is_member_of, members_of_is, members_once}
 use Rattle.olap_breaks.specs.Breaks.{Break, break_of, break_to, breaks, is_via, reached_in, unless_one, ways}
 use Rattle.olap_breaks.specs.Laws.{BreaksAreAll, BreaksDiffer, IsBreak, NoBreakExactlyIfAgree}
 use Rattle.olap_facts.specs.FactText.{is_bottom}
 use Rattle.olap_facts.proofs.BottomLemmas.{bottom-is}
-use Rattle.olap_breaks.proofs.FindLemmas.{any_find, find_found, find_is, kept_from, kept_in, once_is_one, one_is_once, times_of, times_one}
+use Rattle.olap_breaks.proofs.FindLemmas.{any_find, find_found, find_is, kept_from, kept_in, one_is_once, times_of, times_one}
+use Rattle.std.proofs.lemmas.Bool.{and_from}
+use Rattle.olap_base.proofs.GeneralLemmas.{one_time}
 
 -- ---- ways
 
@@ -54,10 +56,10 @@ via_is i c x s = (to, from)
     from (z, m, r, u) = (list_any_is (λ z. reaches i x z && is_some (reached_in i c z)) (members_of i s)).1 (
       z,
       is_member_of i s z m,
-      both_true (reaches i x z) (is_some (reached_in i c z)) ((reaches_is i x z).1 r) ((reached_is i c z).1 u),
+      and_from (reaches i x z) (is_some (reached_in i c z)) ((reaches_is i x z).1 r) ((reached_is i c z).1 u),
     )
 
--- so many sources are ways
+-- this many sources are ways
 pub ways_are : (i : Instance) (c : ℕ) (sources : List ℕ) (x : ℕ)
     → HoldsTimes (λ s. ReachesVia i x s c) sources (ways i c sources x)
 ways_are i c sources x = times_of (λ s. ReachesVia i x s c) (is_via i c x) (via_is i c x) sources
@@ -135,7 +137,7 @@ no_break_exactly_if_agree g i c sources v w = (to, from)
   where
     once : breaks g i c sources ≡ [] → (x : ℕ) → IsMember i x → IsBottom g (category_of i x) → ReachesCategory i x c
         → Dec (ways i c sources x ≡ 1) → ExactlyOne (λ s. ReachesVia i x s c) sources
-    once e x h b r (yes n) = once_is_one (λ s. ReachesVia i x s c) sources
+    once e x h b r (yes n) = one_time (λ s. ReachesVia i x s c) sources
         (subst (λ m. HoldsTimes (λ s. ReachesVia i x s c) sources m) n (ways_are i c sources x))
     once e x h b (y, m, q) (no n) =
         let d : Break = record { member = x; target = y; ways = ways i c sources x } in
@@ -149,11 +151,11 @@ no_break_exactly_if_agree g i c sources v w = (to, from)
         } in
         absurd (Contains-nil d (subst (λ ds. Contains ds d) e ((breaks_are_all g i c sources w d).1 z)))
 
-    to : breaks g i c sources ≡ [] → ViewsAgree g i c sources
+    to : breaks g i c sources ≡ [] → ViewsAgree (IsFactTable g i) (members i) c sources
     to e = (agree_exactly g i c sources v w).1
         (λ x h b r. once e x h b r (ℕ_discrete (ways i c sources x) 1))
 
-    from : ViewsAgree g i c sources → breaks g i c sources ≡ []
+    from : ViewsAgree (IsFactTable g i) (members i) c sources → breaks g i c sources ≡ []
     from a = nothing (breaks g i c sources) (λ b k.
         let z = (breaks_are_all g i c sources w b).0 k in
         let one = (agree_exactly g i c sources v w).0 a b.member z.member z.bottom (b.target, z.target, z.reached) in
@@ -163,7 +165,7 @@ no_break_exactly_if_agree g i c sources v w = (to, from)
 -- ---- two views that differ
 
 -- the count of the first row
-count_in : List Row → ℕ
+count_in : List (Row ℕ) → ℕ
 count_in [] = 0
 count_in (r ∷ rows) = r.summary.count
 

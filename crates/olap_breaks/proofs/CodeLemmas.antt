@@ -1,5 +1,5 @@
 -- What the code finds is what is told.
-use Rattle.std.proofs.Common.{◌≡◌, ◌∙◌, ℕ, zero, suc, ◌<◌, ◌+◌, List, [], ◌∷◌, ◌++◌, Bool, true, false, cond, Option, Some, None, IfSome, IsNone, append_assoc, get_or, map, take, refl, ap, sym, subst, inl, inr, arith}
+use Rattle.std.proofs.Common.{◌≡◌, ◌∙◌, ℕ, suc, ◌<◌, ◌+◌, List, [], ◌∷◌, ◌++◌, Bool, true, false, cond, Option, Some, None, IfSome, IsNone, append_assoc, get_or, map, take, refl, ap, sym, subst, inl, inr, arith}
 use Rattle.std.specs.Prelude.{◌↔◌, ◌==◌, IsTrue, filter_map, is_some, length}
 use Rattle.std.specs.List.{cons_option, range_with_len}
 use Rattle.std.proofs.lemmas.Bool.Decides.{nat_tests}
@@ -22,6 +22,7 @@ use Rattle.olap_facts.specs.FactText.{is_bottom}
 use Rattle.olap_facts.proofs.BottomLemmas.{bottom-is}
 use Rattle.olap_breaks.proofs.BreakLemmas.{reached_is, ways_are}
 use Rattle.olap_breaks.proofs.FindLemmas.{find_found, times_one}
+use Rattle.olap_base.proofs.ListLemmas.{range_more}
 
 -- ---- ways
 
@@ -32,7 +33,7 @@ by_ancestor i x s c z a = (
   λ t. subst (λ v. ReachesCategory i v c) (a.only t.0 t.1 t.2) t.3,
 )
 
--- where there is none
+-- if there is none
 pub by_none : (i : Instance) (x s c : ℕ) → (ReachesCategory i x s → ⊥) → ReachesVia i x s c → ⊥
 by_none i x s c n t = n (t.0, t.1, t.2)
 
@@ -129,12 +130,6 @@ told_by g i c sources x b y e t a =
 
 -- ---- one member more
 
--- the numbers below one more
-range_more : (a n : ℕ) → range_with_len a (suc n) ≡ range_with_len a n ++ (a + n) ∷ []
-range_more a zero = let e : a ≡ a + 0 = omega arith in ap (λ k. k ∷ []) e
-range_more a (suc n) = let e : (a + 1) + n ≡ a + suc n = omega arith in
-    ap (λ t. a ∷ t) (range_more (a + 1) n ∙ ap (λ k. range_with_len (a + 1) n ++ k ∷ []) e)
-
 -- what is told of them
 pub one_more : {B : Type 0} (h : ℕ → Option B) (k : ℕ) (o : Option B) (old : List B) → h k ≡ o
     → old ≡ filter_map h (range_with_len 0 k) → old ++ cons_option o [] ≡ filter_map h (range_with_len 0 (k + 1))
@@ -146,11 +141,6 @@ one_more h k o old e q =
     ap (λ xs. xs ++ cons_option o []) q
     ∙ ap (λ p. filter_map h (range_with_len 0 k) ++ cons_option p []) (sym e)
     ∙ sym (filter_map-append h (range_with_len 0 k) (k ∷ [])) ∙ ap (filter_map h) (sym range)
-
--- what is nothing that there could be
-pub none_of : {A : Type 0} (o : Option A) → ((x : A) → o ≡ Some x → ⊥) → o ≡ None
-none_of None f = refl
-none_of (Some x) f = absurd (f x refl)
 
 -- ---- records
 

@@ -2,7 +2,7 @@
 --     ways      by how many of the sources a member reaches the target
 --     Break     a member, the target's member that it reaches, and by how many sources
 --     breaks    each member of a bottom category that reaches the target, and not by exactly one source
---     breaks_text    what is told of them
+--     breaks_text    what is printed about them
 use Rattle.std.specs.Prelude.{◌==◌, ◌&&◌, ℕ, List, [], ◌∷◌, ◌++◌, Bool, Option, Some, None, codes, decimal, filter, filter_map, find, is_some, length, map, if◌then◌else◌}
 use Rattle.std.specs.List.{list_any, range_with_len}
 use Rattle.olap_base.specs.Graph.{Graph}
@@ -20,7 +20,7 @@ reached_in i c x = find (reaches i x) (members_of i c)
 abbrev pub is_via : Instance → ℕ → ℕ → ℕ → Bool
 is_via i c x s = list_any (λ z. reaches i x z && is_some (reached_in i c z)) (members_of i s)
 
--- so many of the sources are such
+-- by how many of the sources x reaches the target c
 abbrev pub ways : Instance → ℕ → List ℕ → ℕ → ℕ
 ways i c sources x = length (filter (is_via i c x) sources)
 
@@ -30,21 +30,21 @@ pub record Break : Type 0 where
   pub target : ℕ
   pub ways : ℕ
 
--- nothing, where it is one of them
+-- the break at x, which reaches y in n ways; none if n is 1
 abbrev pub unless_one : ℕ → ℕ → ℕ → Option Break
 unless_one x y n = if n == 1 then None else Some (record { member = x; target = y; ways = n })
 
--- nothing, where x reaches no member of the target
+-- the break at x, given the member of the target that it reaches; none if it reaches none
 abbrev pub break_to : Instance → ℕ → List ℕ → ℕ → Option ℕ → Option Break
 break_to i c sources x None = None
 break_to i c sources x (Some y) = unless_one x y (ways i c sources x)
 
--- nothing, where no fact can stand at x
+-- the break at x, if x is of a bottom category, so that a fact can stand there
 abbrev pub break_of : Graph → Instance → ℕ → List ℕ → ℕ → Option Break
 break_of g i c sources x =
     if is_bottom g (category_of i x) then break_to i c sources x (reached_in i c x) else None
 
--- of all members, in file order
+-- the breaks at all members, in file order
 abbrev pub breaks : Graph → Instance → ℕ → List ℕ → List Break
 breaks g i c sources = filter_map (break_of g i c sources) (range_with_len 0 (length i))
 
@@ -58,7 +58,7 @@ break_fields i b = (member_at i b.member).id ∷ (member_at i b.target).id ∷ d
 abbrev pub break_records : Instance → List Break → List (List (List ℕ))
 break_records i bs = (codes "member" ∷ codes "target" ∷ codes "ways" ∷ []) ∷ map (break_fields i) bs
 
--- the line `no` and these records, or the line `yes` where there are none
+-- the line `no` and these records, or the line `yes` if there are none
 abbrev pub breaks_text : Instance → List Break → List ℕ
 breaks_text i [] = codes "yes\n"
 breaks_text i (b ∷ bs) = codes "no\n" ++ text_of_rows (break_records i (b ∷ bs))

@@ -3,11 +3,10 @@ use Rattle.std.proofs.Common.{◌≡◌, ◌≢◌, ℕ, zero, suc, List, [], �
 use Rattle.std.specs.List.{cons_option}
 use Rattle.std.specs.Option.{option_map}
 use Rattle.olap_ast.specs.Schema.{Constraint}
-use Rattle.olap_ast.specs.Summarizable.{only_sum}
 use Rattle.olap_base.specs.Graph.{Graph, IsHierarchy}
 use Rattle.olap_base.specs.Instance.{Instance, ReachesCategory, ReachesVia, category_of}
 use Rattle.olap_base.specs.OneFact.{HoldsTimes, ones}
-use Rattle.olap_base.specs.Views.{row_at}
+use Rattle.olap_base.specs.Views.{only_sum, row_at}
 use Rattle.olap_base.proofs.OneFactLemmas.{one_facts_views}
 use Rattle.olap_frozen.specs.LeastFound.{frozen_of}
 use Rattle.olap_frozen.specs.declared.founding.Found.{Found}

@@ -19,15 +19,15 @@ use Rattle.olap_base.specs.Instance.{Member, category_of, name_of, nobody}
 use Rattle.olap_base.specs.Limits.{most_members}
 use Rattle.olap_base.specs.Naming.{place_of}
 use Rattle.olap_base.specs.Deciding.{contains_cons}
-use Rattle.olap_base.proofs.ListLemmas.{Contains-filter, Contains-from_filter, Contains-from_map, Contains-from_range_at, Contains-range_at, Distinct, Distinct-filter, Distinct-from_AllPairs, Distinct-places, Distinct-range, contains_head, place_in_is}
+use Rattle.olap_base.proofs.ListLemmas.{Contains-filter, Contains-from_filter, Contains-from_map, Contains-from_range_at, Contains-range_at, Distinct, Distinct-filter, Distinct-from_AllPairs, Distinct-places, Distinct-range, contains_head, place_in_is, length-filter}
 use Rattle.olap_base.proofs.AboveLemmas.{place_in_injective}
 use Rattle.olap_ast.specs.Constants.{IsConstant, IsNameOf, fresh_candidate}
-use Rattle.olap_ast.specs.Formula.{Formula}
+use Rattle.olap_ast.specs.Formula.{Formula, Constant.AText}
 use Rattle.std.proofs.lemmas.Fmt.{IsAscii-signed}
 use Rattle.olap_numerals.specs.Numerals.{IsSmall, canonical, most_number, number_of}
 use Rattle.olap_ast.specs.Frozen.{IsFrozenInstance, categories_in_order, chosen, id_of, instance_of, is_present, member_of, present_categories}
 use Rattle.olap_ast.specs.Schema.{Schema}
-use Rattle.olap_ast.proofs.Shape.{same_id, same_is, is_same}
+use Rattle.olap_ast.proofs.Shape.{same_id}
 use Rattle.std.proofs.lemmas.List.Elements.{Contains-append_left}
 use Rattle.olap_graph.specs.Building.{IsWithinLimits}
 use Rattle.olap_graph.specs.Lookups.{edge_at, name_of_category}
@@ -44,12 +44,13 @@ use Rattle.olap_instance.proofs.Checks.{kind-at, number-good}
 use Rattle.olap_instance.proofs.CategoryNames.{category-utf8}
 use Rattle.olap_cex.specs.FoundFor.{IsFoundFor, found_draft, found_edges, found_instance, found_name, found_place}
 use Rattle.olap_cex.specs.Present.{first_present, place_or_all}
-use Rattle.olap_cex.proofs.ListLemmas.{chosen_more, filter_none, length_filter, map_twice, place_behind, place_in_front, set_at_place}
+use Rattle.olap_cex.proofs.ListLemmas.{chosen_more, filter_none, map_twice, place_behind, place_in_front, set_at_place}
 use Rattle.olap_cex.proofs.PresentLemmas.{nowhere, place_counts, present_more}
+use Rattle.std.proofs.lemmas.Bool.{eqb-true, eq-eqb}
 
 -- ---- names
 
--- so many underscores
+-- this many underscores
 abbrev underscores : ℕ → List ℕ
 underscores n = replicate n 95
 
@@ -114,7 +115,7 @@ numeral_utf8 z small =
 
 -- so are the names of a category whose constants are
 pub name_is_utf8 : (number : Bool) (s : Schema) (q : Formula) (d : ℕ) (name : List ℕ)
-    → ((text : List ℕ) → IsConstant s q d text → IsTrue (is_utf8 text)) → IsNameOf number s q d name
+    → ((text : List ℕ) → IsConstant s q d (AText text) → IsTrue (is_utf8 text)) → IsNameOf number s q d name
     → IsTrue (is_utf8 name)
 name_is_utf8 false s q d name utf8 n = elim n [
   | inl c ↦ utf8 name c
@@ -302,7 +303,7 @@ module _ (g : Graph) (found : Found) (ok : IsFoundFor g found) (hier : IsHierarc
         let few = limits.few in
         let n : length (map head before) + 1 < most_members =
         let a = length-map before head in
-        let b = length_filter (is_present r es) (range_with_len 1 (c - 1)) in
+        let b = length-filter (is_present r es) (range_with_len 1 (c - 1)) in
         let e = length-range_with_len 1 (c - 1) in
         omega arith in
         none_refused (is_bad_id id) (is_too_long id) (c == 0)
@@ -349,7 +350,7 @@ module _ (g : Graph) (found : Found) (ok : IsFoundFor g found) (hier : IsHierarc
         sym (place_is c p declared ∙ ap (λ m. Some m)
         (place_counts (is_present r es) 1 (length g.names) c (omega arith) (omega arith) p))
 
-  -- the root's member stands where so many present categories stand before it
+  -- the root's member stands where this many present categories stand before it
   pub root_at : r ≢ 0 → length (first_present r es (r - 1)) ≡ found_place g found
   root_at n =
       let p = made.root_present g r es choice in
@@ -417,7 +418,7 @@ module _ (g : Graph) (found : Found) (ok : IsFoundFor g found) (hier : IsHierarc
         let there = place_chosen g.edges bits t.0 nowhere v.0 (omega arith) v.2 here in
         let same : t.0.parent ≡ d = same_parent t.0.parent d
         (made.parent_present g r es choice t.0.child t.0.parent there) parent_there t.2 in
-        let child : t.0.child ≡ c = same_is t.0.child c u.1 in
+        let child : t.0.child ≡ c = eqb-true t.0.child c u.1 in
         let e : t.0 ≡ edge = λ z. record { child = child z; parent = same z } in
         let w : v.0 ≡ k = Distinct-places g.edges (Distinct-from_AllPairs g.edges hier.edges_differ) v.0 k nowhere
         (omega arith) inside (here ∙ e ∙ sym at) in
@@ -437,7 +438,7 @@ module _ (g : Graph) (found : Found) (ok : IsFoundFor g found) (hier : IsHierarc
         (unequal c y (λ e. n (sym e)))
         ∙ ap (map to_place) (append-nil (filter (leaves y) linked)) in
         let own = told_push c
-        ∙ ap (λ b. map to_place (filter (leaves c) linked ++ cond b (edge ∷ []) [])) (is_same c c refl)
+        ∙ ap (λ b. map to_place (filter (leaves c) linked ++ cond b (edge ∷ []) [])) (eq-eqb c c refl)
         ∙ map-append to_place (filter (leaves c) linked) (edge ∷ []) in
         let ps = set_at_place (told linked) (told (chosen (take (suc k) g.edges) bits)) all_listed c
         (place_or_all r es d) distinct (listed c child_there child_declared) others own in

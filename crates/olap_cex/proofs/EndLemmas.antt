@@ -1,17 +1,17 @@
 -- The set of the ends of chosen edges, edge by edge.
-use Rattle.std.proofs.Common.{◌≡◌, ℕ, ◌+◌, ◌<◌, List, length, get_or, Bool, true, false, refl, ap, sym, subst, ◌∙◌, ◌↔◌, ◌⊎◌, inl, inr, arith}
+use Rattle.std.proofs.Common.{◌≡◌, ℕ, ◌+◌, ◌<◌, List, length, get_or, Bool, true, false, refl, ap, sym, subst, ◌∙◌, ◌↔◌, inl, inr, arith}
 use Rattle.std.specs.Prelude.{◌==◌, ◌||◌}
 use Rattle.std.specs.List.{list_any}
 use Rattle.std.specs.FinSet.{FinSet, contains, empty, insert, contains-empty}
 use Rattle.std.specs.Ordering.{nat_cmp}
-use Rattle.std.proofs.lemmas.Bool.{or_left, or_right}
-use Rattle.olap_ast.proofs.Shape.{either_true, is_same, list_any_is, same_is}
+use Rattle.std.proofs.lemmas.Bool.{or_left, or_right, or_cases, eqb-true, eq-eqb}
 use Rattle.olap_ast.specs.Frozen.{chosen}
 use Rattle.olap_base.specs.Graph.{Edge}
 use Rattle.olap_frozen.proofs.ChosenLemmas.{chosen_place, place_chosen}
 use Rattle.olap_graph.proofs.RowLemmas.{has_insert, newest}
 use Rattle.olap_cex.specs.Present.{has_end}
 use Rattle.olap_cex.proofs.PresentLemmas.{nowhere}
+use Rattle.olap_base.proofs.ListLemmas.{same_truth, list_any_is}
 
 -- the category is an end of a chosen one of the first k edges
 abbrev pub IsEndBefore : List Edge → List Bool → ℕ → ℕ → Type 0
@@ -52,17 +52,17 @@ ends_more es bits k d p s t bit edge e are c = (to, from)
   where
     to : contains t c ≡ true → IsEndBefore es bits (k + 1) c
     to m = elim ((has_insert (insert s d) p c).0 (ap (λ x. contains x c) (sym e) ∙ m)) [
-      | inl q ↦ (k, omega arith, bit, ap (has_end c) edge ∙ or_right (d == c) (p == c) (is_same p c q))
+      | inl q ↦ (k, omega arith, bit, ap (has_end c) edge ∙ or_right (d == c) (p == c) (eq-eqb p c q))
       | inr m ↦ elim ((has_insert s d c).0 m) [
-        | inl q ↦ (k, omega arith, bit, ap (has_end c) edge ∙ or_left (d == c) (p == c) (is_same d c q))
+        | inl q ↦ (k, omega arith, bit, ap (has_end c) edge ∙ or_left (d == c) (p == c) (eq-eqb d c q))
         | inr m ↦ lift es bits k c ((are c).0 m)
       ]
     ]
 
     here : (d == c) || (p == c) ≡ true → contains (insert (insert s d) p) c ≡ true
-    here h = (has_insert (insert s d) p c).1 (elim (either_true (d == c) (p == c) h) [
-      | inl q ↦ inr ((has_insert s d c).1 (inl (same_is d c q)))
-      | inr q ↦ inl (same_is p c q)
+    here h = (has_insert (insert s d) p c).1 (elim (or_cases (d == c) (p == c) h) [
+      | inl q ↦ inr ((has_insert s d c).1 (inl (eqb-true d c q)))
+      | inr q ↦ inl (eqb-true p c q)
     ])
 
     from : IsEndBefore es bits (k + 1) c → contains t c ≡ true
@@ -71,16 +71,10 @@ ends_more es bits k d p s t bit edge e are c = (to, from)
       | inr q ↦ here (sym (ap (has_end c) (ap (λ i. get_or es i nowhere) q ∙ edge)) ∙ b.3)
     ]
 
--- two tests are equal if each follows from the other
-same_tests : (a b : Bool) → (a ≡ true → b ≡ true) → (b ≡ true → a ≡ true) → a ≡ b
-same_tests true b f g = sym (f refl)
-same_tests false true f g = g refl
-same_tests false false f g = refl
-
 -- of all edges: an end of one that is chosen
 pub ends_all : (es : List Edge) (bits : List Bool) (k : ℕ) (s : FinSet nat_cmp) → length es ≡ k
     → AreEnds es bits k s → (c : ℕ) → contains s c ≡ list_any (has_end c) (chosen es bits)
-ends_all es bits k s n are c = same_tests (contains s c) (list_any (has_end c) (chosen es bits)) to from
+ends_all es bits k s n are c = same_truth (contains s c) (list_any (has_end c) (chosen es bits)) to from
   where
     to : contains s c ≡ true → list_any (has_end c) (chosen es bits) ≡ true
     to m =

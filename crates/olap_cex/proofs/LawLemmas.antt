@@ -5,14 +5,14 @@ use native.Mathlib.Decide.{ℕ_discrete}
 use Rattle.olap_base.specs.Deciding.{contains_cases}
 use Rattle.olap_base.specs.Graph.{IsBottom, IsHierarchy}
 use Rattle.olap_base.specs.Instance.{Instance, IsMember, IsMemberOf, ReachesVia, category_of}
-use Rattle.olap_base.specs.OneFact.{HoldsTimes, one_fact, ones}
-use Rattle.olap_base.specs.Views.{Fact, IsFactTable, row_at}
+use Rattle.olap_base.specs.OneFact.{HoldsTimes, ones}
+use Rattle.olap_base.specs.Views.{Fact, IsFactTable, one_fact, only_sum, row_at}
 use Rattle.olap_base.proofs.ListLemmas.{Contains-nil}
 use Rattle.olap_base.proofs.OneFactLemmas.{one_facts_views}
 use Rattle.olap_ast.specs.Formula.{Formula.Via, Holds, ExactlyOneHolds, NoneHolds}
 use Rattle.olap_ast.specs.Frozen.{Candidates, Frozen, chosen, name_in, root_place, thawed}
 use Rattle.olap_ast.specs.Schema.{Schema}
-use Rattle.olap_ast.specs.Summarizable.{IsCounterexample, not_by_one, only_sum, vias}
+use Rattle.olap_ast.specs.Summarizable.{IsCounterexample, not_by_one, vias}
 use Rattle.olap_ast.proofs.Decided.{decide_holds}
 use Rattle.olap_frozen.proofs.ChosenInstance as made
 use Rattle.olap_frozen.proofs.ChosenLemmas.{choice_of}
@@ -41,7 +41,7 @@ question_is_true s q r k f hier root t =
 
 -- ---- counting
 
--- what can be decided of each item holds of so many
+-- what can be decided of each item holds of this many
 counted : (P : ℕ → Type 0) → ((x : ℕ) → Dec (P x)) → (xs : List ℕ) → (n : ℕ) × HoldsTimes P xs n
 counted P d [] = (0, refl)
 counted P d (x ∷ xs) = let t = counted P d xs in elim (d x) [
@@ -80,8 +80,8 @@ module _ (s : Schema) (c : ℕ) (sources : List ℕ) (k : Candidates) (b : ℕ) 
   asked = question_is_true s (not_by_one c sources) b k f hier t.bottom.0.1 t.least.is_one
 
   facts : IsFactTable s.graph i (one_fact x)
-  facts fact h = elim (contains_cases fact (record { member = x; value = pos 1 }) [] h) [
-    | inl e ↦ subst (λ (y : Fact). IsMember i y.member × IsBottom s.graph (category_of i y.member)) e
+  facts fact h = elim (contains_cases fact (record { at = x; value = pos 1 }) [] h) [
+    | inl e ↦ subst (λ (y : Fact ℕ). IsMember i y.at × IsBottom s.graph (category_of i y.at)) e
         (root.0, subst (λ d. IsBottom s.graph d) (sym root.1) t.bottom)
     | inr n ↦ absurd (Contains-nil fact n)
   ]

@@ -1,4 +1,5 @@
 -- Lemmas.
+pub mod OneLine
 mod PresentLemmas
 mod EndLemmas
 mod LineLemmas

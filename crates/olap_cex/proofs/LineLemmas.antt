@@ -12,7 +12,7 @@ use Rattle.olap_cex.proofs.PresentLemmas.{absent_more, present_more}
 abbrev pub digit : Bool → ℕ
 digit b = cond b 49 48
 
--- where there are edges, each has a digit
+-- if there are edges, each has a digit
 pub bits_of_some : (bits : List Bool) → length bits ≢ 0 → edge_bits bits ≡ map digit bits
 bits_of_some [] n = absurd (n refl)
 bits_of_some (b ∷ bits) n = refl

@@ -1,11 +1,11 @@
 -- Lemmas on lists that lower crates lack.
-use Rattle.std.proofs.Common.{◌≡◌, ℕ, zero, suc, ◌<◌, ◌≤◌, List, [], ◌∷◌, ◌++◌, length, get_or, map, set, take, Bool, true, false, cond, refl, sym, ◌∙◌, ap, subst, inl, inr, arith}
+use Rattle.std.proofs.Common.{◌≡◌, ℕ, zero, suc, ◌<◌, List, [], ◌∷◌, ◌++◌, length, get_or, map, set, take, Bool, true, false, cond, refl, sym, ◌∙◌, ap, subst, inl, inr, arith}
 use Rattle.std.specs.Prelude.{◌≢◌, Contains, filter}
 use Rattle.std.proofs.lemmas.Bool.Decides.{eqb_tells}
 use Rattle.olap_base.specs.Above.{place_in}
 use Rattle.olap_base.specs.Deciding.{contains_cons, contains_cases}
 use Rattle.olap_base.specs.Graph.{Edge}
-use Rattle.olap_base.proofs.ListLemmas.{Contains-nil, contains_head, Distinct}
+use Rattle.olap_base.proofs.ListLemmas.{Contains-nil, contains_head, Distinct, map_same}
 use Rattle.olap_ast.specs.Frozen.{chosen}
 
 -- nothing is left of a list where each item fails the test
@@ -15,16 +15,6 @@ filter_none p [] n = refl
 filter_none p (x ∷ xs) n =
     rw (n x (contains_head x xs)) (filter_none p xs (λ y c. n y (contains_cons y xs x c)))
 
--- a test leaves no more items than there are
-pub length_filter : {A : Type 0} (p : A → Bool) (xs : List A) → length (filter p xs) ≤ length xs
-length_filter p [] = omega arith
-length_filter {A} p (x ∷ xs) = go (p x) (length_filter p xs)
-  where
-    go : (b : Bool) → length (filter p xs) ≤ length xs
-        → length (cond b (x ∷ filter p xs) (filter p xs)) ≤ length (x ∷ xs)
-    go true h = omega arith
-    go false h = omega arith
-
 -- one map after another is a third, where it is so at each element
 pub map_twice : {A B C : Type 0} (f : B → C) (g : A → B) (h : A → C) (xs : List A)
     → ((x : A) → Contains xs x → f (g x) ≡ h x) → map f (map g xs) ≡ map h xs
@@ -32,13 +22,6 @@ map_twice f g h [] s = refl
 map_twice f g h (x ∷ xs) s =
     ap (λ y. y ∷ map f (map g xs)) (s x (contains_head x xs))
     ∙ ap (λ t. h x ∷ t) (map_twice f g h xs (λ y c. s y (contains_cons y xs x c)))
-
--- two maps agree on the elements
-pub map_same : {A B : Type 0} (f g : A → B) (xs : List A) → ((x : A) → Contains xs x → f x ≡ g x) → map f xs ≡ map g xs
-map_same f g [] s = refl
-map_same f g (x ∷ xs) s =
-    ap (λ y. y ∷ map f xs) (s x (contains_head x xs))
-    ∙ ap (λ t. g x ∷ t) (map_same f g xs (λ y c. s y (contains_cons y xs x c)))
 
 -- an item of the first of two lists has its place there
 pub place_in_front : (xs ys : List ℕ) (y : ℕ) → Contains xs y → place_in (xs ++ ys) y ≡ place_in xs y

@@ -6,14 +6,13 @@ use Rattle.std.proofs.lemmas.List.{append-nil, length-append, map-id}
 use Rattle.std.proofs.lemmas.List.Elements.{filter-append}
 use Rattle.std.proofs.lemmas.List.FromFn.{length-range_with_len, map-range_with_len_more}
 use Rattle.std.proofs.lemmas.Bool.Decides.{eqb_tells}
-use Rattle.std.proofs.lemmas.Bool.{or_left, or_right}
-use Rattle.olap_ast.proofs.Shape.{either_true, list_any_is, same_is, is_same}
+use Rattle.std.proofs.lemmas.Bool.{or_left, or_right, or_cases, eqb-true, eq-eqb}
 use Rattle.olap_ast.specs.Frozen.{chosen, is_present}
 use Rattle.olap_base.specs.Above.{place_in}
 use Rattle.olap_base.specs.Graph.{Edge}
 use Rattle.olap_frozen.proofs.ChosenLemmas.{chosen_place, place_chosen}
 use Rattle.olap_cex.specs.Present.{first_present, has_end}
-use Rattle.olap_cex.proofs.ListLemmas.{length_filter}
+use Rattle.olap_base.proofs.ListLemmas.{list_any_is, length-filter}
 
 -- the edge past the end
 abbrev pub nowhere : Edge
@@ -21,7 +20,7 @@ nowhere = record { child = 0; parent = 0 }
 
 -- the root is present
 pub root_present : (r : ℕ) (es : List Edge) (c : ℕ) → c ≡ r → is_present r es c ≡ true
-root_present r es c e = or_left (c == r) (list_any (has_end c) es) (is_same c r e)
+root_present r es c e = or_left (c == r) (list_any (has_end c) es) (eq-eqb c r e)
 
 -- an end of a chosen edge is present
 pub end_present : (r : ℕ) (es : List Edge) (bits : List Bool) (c i : ℕ) → i < length es → get_or bits i false ≡ true
@@ -38,8 +37,8 @@ no_end_absent r es bits c n none = go (is_present r (chosen es bits) c) refl
   where
     go : (b : Bool) → is_present r (chosen es bits) c ≡ b → is_present r (chosen es bits) c ≡ false
     go false p = p
-    go true p = elim (either_true (c == r) (list_any (has_end c) (chosen es bits)) p) [
-      | inl e ↦ absurd (n (same_is c r e))
+    go true p = elim (or_cases (c == r) (list_any (has_end c) (chosen es bits)) p) [
+      | inl e ↦ absurd (n (eqb-true c r e))
       | inr e ↦
           let t = (list_any_is (has_end c) (chosen es bits)).0 e in
           let u = chosen_place es bits t.0 nowhere t.1 in
@@ -105,9 +104,9 @@ seen_present r es bits c i d p h b e t =
 -- one more edge that hasn't
 pub none_more : (es : List Edge) (bits : List Bool) (c i d p : ℕ) → d ≢ c → p ≢ c
     → get_or es i nowhere ≡ record { child = d; parent = p } → has_end c (get_or es i nowhere) ≡ true → ⊥
-none_more es bits c i d p n m e t = elim (either_true (d == c) (p == c) (sym (ap (has_end c) e) ∙ t)) [
-  | inl q ↦ n (same_is d c q)
-  | inr q ↦ m (same_is p c q)
+none_more es bits c i d p n m e t = elim (or_cases (d == c) (p == c) (sym (ap (has_end c) e) ∙ t)) [
+  | inl q ↦ n (eqb-true d c q)
+  | inr q ↦ m (eqb-true p c q)
 ]
 
 -- ---- how many there are
@@ -133,6 +132,6 @@ count_same r es c old new l p e n =
 -- no more are present than there are
 pub count_few : (r : ℕ) (es : List Edge) (n : ℕ) → length (first_present r es n) ≤ n
 count_few r es n =
-    let a = length_filter (is_present r es) (range_with_len 1 n) in
+    let a = length-filter (is_present r es) (range_with_len 1 n) in
     let b = length-range_with_len 1 n in
     omega arith

@@ -13,7 +13,7 @@ use Rattle.olap_base.specs.Deciding.{contains_cases}
 use Rattle.olap_base.specs.Graph.{Edge, Graph, HasEdge, IsCategory, IsHierarchy, is_number}
 use Rattle.olap_base.specs.Instance.{Instance, IsMember, category_of, member_at, name_of, nobody, parents_of}
 use Rattle.olap_base.specs.Limits.{most_members, most_text_bytes}
-use Rattle.olap_base.proofs.ListLemmas.{Contains-from_filter, Contains-from_range_at, Contains-nil, contains_head}
+use Rattle.olap_base.proofs.ListLemmas.{Contains-from_filter, Contains-from_range_at, Contains-nil, contains_head, length-filter}
 use Rattle.olap_ast.specs.Formula.{Formula}
 use Rattle.olap_ast.specs.Frozen.{Candidates, Frozen, IsFrozen, categories_in_order, chosen, id_of, is_present, member_of, name_in, present_categories, thawed}
 use Rattle.olap_ast.specs.Schema.{Schema}
@@ -24,7 +24,6 @@ use Rattle.olap_instance.proofs.CategoryNames.{category-utf8}
 use Rattle.olap_instance.proofs.ReadBack.{reads-back}
 use Rattle.olap_cex.specs.PrintingLaws.{ConstantsAreUtf8, IsReadBack, PrintedFrozenDimensionsAreRead, PrintedInstancesAreRead}
 use Rattle.olap_cex.proofs.DraftLemmas.{name_is_good, name_is_utf8}
-use Rattle.olap_cex.proofs.ListLemmas.{length_filter}
 
 -- an instance that a text may stand for is read back
 pub printed_instances : PrintedInstancesAreRead
@@ -141,7 +140,7 @@ module _ (s : Schema) (q : Formula) (r : ℕ) (k : Candidates) (f : Frozen) (val
   few : length i ≤ most_members
   few =
       let a = size in
-      let b = length_filter (is_present r es) (categories_in_order s.graph) in
+      let b = length-filter (is_present r es) (categories_in_order s.graph) in
       let c = length-append (range_with_len 1 (length s.graph.names)) (0 ∷ []) in
       let d = length-range_with_len 1 (length s.graph.names) in
       let e = valid.categories_fit in

@@ -19,7 +19,7 @@ use Rattle.olap_cex.specs.declared.counterexamples.Cex.{Cex}
 abbrev pub IsWay : {W : ℕ} → List (CatSet W) → ℕ → ℕ → ℕ → Type 0
 IsWay rows root target source = Has rows root source × Has rows source target
 
--- the instance, the fact at its root, and what that comes to at c directly and from the sources
+-- the instance, the fact at its root, and its total at c, directly and from the sources
 pub record IsCexFor (g : Graph) (found : Found) (c : ℕ) (sources : List ℕ) (cex : Cex) : Type 0 where
   pub instance : cex.instance ≡ found_instance g found
   pub made : IsMadeFor g cex.instance

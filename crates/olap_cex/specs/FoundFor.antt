@@ -3,7 +3,7 @@
 use Rattle.std.specs.Prelude.{ℕ, List, IsTrue}
 use Rattle.std.specs.Str.{is_utf8}
 use Rattle.olap_ast.specs.Constants.{IsConstant}
-use Rattle.olap_ast.specs.Formula.{Formula}
+use Rattle.olap_ast.specs.Formula.{Formula, Constant.AText}
 use Rattle.olap_ast.specs.Frozen.{AreCandidates, IsFrozen, chosen, instance_of, name_in}
 use Rattle.olap_ast.specs.Schema.{Constraint}
 use Rattle.olap_base.specs.Graph.{Edge, Graph, IsCategory}
@@ -26,7 +26,8 @@ pub record IsFoundFor (g : Graph) (found : Found) : Type 0 where
   pub candidates : AreCandidates (with_graph g constraints) question (candidates_of found.candidates)
   pub is_one : IsFrozen (with_graph g constraints) question found.frozen.root.0 (candidates_of found.candidates)
       (frozen_of found.frozen)
-  pub utf8 : (c : ℕ) (text : List ℕ) → IsConstant (with_graph g constraints) question c text → IsTrue (is_utf8 text)
+  pub utf8 : (c : ℕ) (text : List ℕ) → IsConstant (with_graph g constraints) question c (AText text)
+      → IsTrue (is_utf8 text)
 
 -- its edges
 abbrev pub found_edges : Graph → Found → List Edge

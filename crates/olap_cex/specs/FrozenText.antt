@@ -1,15 +1,15 @@
 -- The line of a frozen dimension.
 --     edge_bits      its edges, one digit an edge
 --     frozen_text    the line
-use Rattle.std.specs.Prelude.{ℕ, List, [], ◌∷◌, ◌++◌, Bool, codes, flat_map, length, map, if◌then◌else◌}
-use Rattle.olap_ast.specs.Frozen.{Candidates, Frozen, chosen, name_in}
+use Rattle.std.specs.Prelude.{ℕ, List, [], ◌∷◌, ◌++◌, Bool, codes, filter, flat_map, length, map, if◌then◌else◌}
+use Rattle.std.specs.List.{range_with_len}
+use Rattle.olap_ast.specs.Frozen.{Candidates, Frozen, chosen, is_present, name_in}
 use Rattle.olap_base.specs.Bytes.{digit_one, digit_zero, equals_sign, line_feed, space}
 use Rattle.olap_base.specs.Graph.{Graph}
 use Rattle.olap_grammar.specs.Quoting.{quoted}
 use Rattle.olap_graph.specs.Lookups.{name_of_category}
-use Rattle.olap_cex.specs.Present.{first_present}
 
--- `1` for a present edge and `0` for an absent one, or `-` where there are no edges
+-- `1` for a present edge and `0` for an absent one, or `-` if there are no edges
 abbrev pub edge_bits : List Bool → List ℕ
 edge_bits [] = codes "-"
 edge_bits (b ∷ bits) = map (λ bit. if bit then digit_one else digit_zero) (b ∷ bits)
@@ -21,5 +21,5 @@ member_text g k f c = space ∷ (name_of_category g c ++ equals_sign ∷ quoted 
 -- `frozen`, the edges, and the members of the present categories
 abbrev pub frozen_text : Graph → Candidates → ℕ → Frozen → List ℕ
 frozen_text g k root f =
-    let present = first_present root (chosen g.edges f.edges) (length g.names) in
+    let present = filter (is_present root (chosen g.edges f.edges)) (range_with_len 1 (length g.names)) in
     codes "frozen " ++ (edge_bits f.edges ++ (flat_map (member_text g k f) present ++ line_feed ∷ []))

@@ -10,8 +10,7 @@ use Rattle.olap_ast.specs.Schema.{Schema, IsLegal}
 use Rattle.olap_ast.specs.Summarizable.{IsCounterexample}
 use Rattle.olap_base.specs.Graph.{IsCategory, IsHierarchy}
 use Rattle.olap_base.specs.Instance.{IsMemberOf}
-use Rattle.olap_base.specs.OneFact.{one_fact}
-use Rattle.olap_base.specs.Views.{IsFactTable}
+use Rattle.olap_base.specs.Views.{IsFactTable, one_fact}
 use Rattle.olap_cex.specs.CexText.{direct_sum, views_sum}
 
 -- the instance of a frozen dimension is legal

@@ -5,7 +5,7 @@
 use Rattle.std.specs.Prelude.{◌≡◌, ◌≤◌, ℕ, List, Ok, IsTrue, length}
 use Rattle.std.specs.Str.{is_utf8}
 use Rattle.olap_ast.specs.Constants.{IsConstant}
-use Rattle.olap_ast.specs.Formula.{Formula}
+use Rattle.olap_ast.specs.Formula.{Formula, Constant.AText}
 use Rattle.olap_ast.specs.Frozen.{Candidates, Frozen, IsFrozen, thawed}
 use Rattle.olap_ast.specs.Schema.{Schema}
 use Rattle.olap_ast.specs.Valid.{IsValidSchema}
@@ -29,7 +29,7 @@ PrintedInstancesAreRead = (g : Graph) (i : Instance) → IsHierarchy g → IsRea
 
 -- each text that names are compared with is UTF-8
 abbrev pub ConstantsAreUtf8 : Schema → Formula → Type 0
-ConstantsAreUtf8 s q = (c : ℕ) (text : List ℕ) → IsConstant s q c text → IsTrue (is_utf8 text)
+ConstantsAreUtf8 s q = (c : ℕ) (text : List ℕ) → IsConstant s q c (AText text) → IsTrue (is_utf8 text)
 
 -- the instance of a frozen dimension of a valid schema is read back, if its names are short
 abbrev pub PrintedFrozenDimensionsAreRead : Type 0

@@ -22,7 +22,7 @@ use olap_graph::Graph;
 use olap_instance::{Instance, print_instance};
 use std::alloc::Global;
 
-/// A legal instance, one fact of value 1, and what it comes to at a category in two views.
+/// A legal instance, one fact of value 1, and its total at a category in two views.
 #[derive(Drop)]
 pub struct Cex {
     /// The instance.
@@ -33,7 +33,7 @@ pub struct Cex {
     pub target: CatId,
     /// The SUM of the direct view.
     pub direct: u64,
-    /// The SUM of the view from the sources' views, where it has a row.
+    /// The SUM of the view from the sources' views, if it has a row.
     pub views: Option<u64>,
 }
 

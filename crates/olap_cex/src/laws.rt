@@ -23,7 +23,7 @@ pub fn counterexample_sums_differ()
     ensures { CounterexampleSums }
 {}
 
-/// What is printed of an instance that a text may stand for, with no more members than there may be, is read as that
+/// What is printed of an instance that a text may stand for, within the limit on members, is read back as that
 /// instance, by the definition of reading.
 pub fn printed_instances_are_read()
     ensures { PrintedInstancesAreRead }

@@ -1,4 +1,4 @@
-//! What is told of a frozen dimension: its line, the instance that it stands for, and the counterexample that it is.
+//! What is printed about a frozen dimension: its line, its instance, and the counterexample that it is.
 //!
 //! A contract sees a frozen dimension as the definitions do. `print_frozen` gives its line, `thaw` its instance, and
 //! `counterexample` the sums of one fact at its root in two views of a category. How it was found isn't known here.

@@ -16,7 +16,7 @@ use olap_graph::Graph;
 use olap_names::Candidates;
 use std::alloc::Global;
 
-/// Appends a digit for each edge, or `-` where there are none.
+/// Appends a digit for each edge, or `-` if there are none.
 fn push_bits(out: &mut Vec<u8>, edges: &[bool]) -> Result<(), Memory>
     ensures { OnOk result (out.new.items ≡ out.old.items ++ edge_bits edges.now) }
 {

@@ -157,11 +157,11 @@ module _ (i : Instance) (n x : ℕ) (table : Table) (a : IsAbove i n x table) wh
 
 -- ---- a parent among the ids
 
--- two ids are equal exactly where their numbers are
+-- two ids are equal exactly if their numbers are
 same_member : (a b : MemberId) → Decides (eqb a.0 b.0) (a ≡ b)
 same_member a b = (λ e. ap member (eqb-true a.0 b.0 e), λ e. eq-eqb a.0 b.0 (ap (λ (m : MemberId). m.0) e))
 
--- the list of ids has a member exactly where the child is below it
+-- the list of ids has a member exactly if the child is below it
 below_is : (i : Instance) (y z : ℕ) (ms : List MemberId) (r : Bool) → places ms ≡ parents_of i y
     → IsAnyAnswer (λ (m : MemberId) (b : Bool). eqb m.0 z ≡ b) ms r → IsTrue r ↔ IsBelow i y z
 below_is i y z ms r e a = (

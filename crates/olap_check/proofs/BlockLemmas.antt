@@ -137,6 +137,7 @@ TrueAt i part f k = Holds i (get_or part k 0) (formula_of f)
 abbrev pub OneTrueAt : Instance → List ℕ → Terms → ℕ → Type 0
 OneTrueAt i part parts k = ExactlyOneHolds i (get_or part k 0) parts
 
+-- at a place none of the formulas is true
 abbrev pub NoneTrueAt : Instance → List ℕ → Terms → ℕ → Type 0
 NoneTrueAt i part parts k = NoneHolds i (get_or part k 0) parts
 

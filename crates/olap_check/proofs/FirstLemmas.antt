@@ -10,7 +10,6 @@ use Rattle.olap_base.proofs.ListLemmas.{Contains-nil}
 use Rattle.olap_ast.specs.Formula.{Holds}
 use Rattle.olap_check.specs.Meeting.{IsFirstViolated, constraint_at, no_constraint}
 use Rattle.olap_base.specs.Instance.{Instance, IsMemberOf, IsLawful, IsBelow, IsFarBelow, category_of, parents_of}
-use Rattle.olap_base.specs.Steps.{Climb, Climb.climb, Climb-from_leads}
 use Rattle.olap_base.specs.Deciding.{below_is_member}
 use Rattle.olap_ast.specs.Schema.{Schema}
 use Rattle.olap_ast.specs.Violation.{Violation, Violation.NoEdge, Violation.NoParent, Violation.SameCategory, Violation.TwoAncestors, Violation.Shortcut, Violation.Unmet, IsViolation, rank, IsFirstViolation}
@@ -27,6 +26,7 @@ use Rattle.olap_check.specs.Reports.{IsFirstBreach, category, member}
 use Rattle.olap_check.specs.declared.violations.Violation.TheVariants.{Connectivity, NoParent as Orphan, Partitioning, Shortcut as Bypass, Stratification}
 use Rattle.olap_check.proofs.SplitLemmas.{splits_of}
 use Rattle.olap_legal.specs.declared.tables.Table.{Table}
+use Rattle.olap_ast.proofs.Violated.{far_below_start}
 
 -- less or equal, where not greater
 not_less : (a b : ℕ) → (b < a → ⊥) → (a < b) ⊎ (a ≡ b)
@@ -52,15 +52,8 @@ same_law n a b x y f g =
       ],
     )
 
--- only a member is far below another
-far_is_member : (i : Instance) (x y : ℕ) → IsFarBelow i x y → x < length i
-far_is_member i x y l = go (Climb-from_leads l)
-  where
-    go : Climb (IsBelow i) x y → x < length i
-    go (climb {z = z} r s) = below_is_member i x z r
-
 -- the parent at a place is a parent
-parent_at : (i : Instance) (x k : ℕ) → k < length (parents_of i x) → IsBelow i x (slice_index (parents_of i x) k)
+pub parent_at : (i : Instance) (x k : ℕ) → k < length (parents_of i x) → IsBelow i x (slice_index (parents_of i x) k)
 parent_at i x k h = (k, h, get_or_default (parents_of i x) k (slice_index (parents_of i x) k) 0 h)
 
 -- ---- what holds after each law
@@ -110,7 +103,7 @@ module _ (i : Instance) (n : ℕ) (edges : List Bool) (bounded : IsBounded i n) 
   -- where the table is whole, nothing violates the fourth law
   no4 : (table : Table) → IsTable i n (length i) table → (s : Schema) (x c : ℕ) → IsViolation s i (TwoAncestors x c)
       → ⊥
-  no4 table t s x c v = let h = far_is_member i x v.0 v.2 in
+  no4 table t s x c v = let h = far_below_start i x v.0 v.2 in
       row_is_whole i n (length i) table bounded t x h h (splits_of i x c v)
 
   -- the third law in the words of the fifth
@@ -216,7 +209,7 @@ module _ (i : Instance) (n : ℕ) (edges : List Bool) (bounded : IsBounded i n) 
     stratification = strata_of l3;
     partitioning = λ x y z f h e. elim (ℕ_discrete y z) [
       | yes q ↦ q
-      | no d ↦ let m = far_is_member i x y f in
+      | no d ↦ let m = far_below_start i x y f in
           absurd (row_is_whole i n (length i) table bounded r x m m
           (record { one = y; other = z; reaches_one = inr f; reaches_other = inr h; same_category = e; apart = d }))
     ];

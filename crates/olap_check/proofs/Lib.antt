@@ -3,7 +3,7 @@ mod SearchLemmas
 mod PassingLemmas
 mod LinkingLemmas
 mod SplitLemmas
-mod FirstLemmas
+pub mod FirstLemmas
 mod AboveLemmas
 mod GroupLemmas
 mod SeenLemmas

@@ -50,7 +50,7 @@ module _ (i : Instance) (root : ℕ) (f : Formula) (step : ℕ)
     ];
   }
 
-  -- all of them are behind
+  -- all members of the root have been tested
   pub true_at_all : (group : List ℕ) → IsGroup i root group → length group ≤ step * width → (w : ℕ)
       → IsMemberOf i root w → Holds i w f
   true_at_all group g h w m =

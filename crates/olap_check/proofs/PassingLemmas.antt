@@ -1,5 +1,5 @@
 -- What the table says of a member that is far below another.
-use Rattle.std.proofs.Common.{◌≡◌, ◌≢◌, ℕ, ◌+◌, ◌<◌, ◌≤◌, length, get_or, Bool, true, false, refl, ap, sym, subst, ◌∙◌, ◌↔◌, inl, inr, arith, eqb-true, eq-eqb, below_more}
+use Rattle.std.proofs.Common.{◌≡◌, ◌≢◌, ℕ, ◌+◌, ◌<◌, ◌≤◌, length, get_or, false, refl, ap, sym, subst, ◌∙◌, ◌↔◌, inl, inr, arith, eqb-true, eq-eqb, below_more}
 use Rattle.std.specs.Prelude.{Contains, IsTrue, nat_eq}
 use Rattle.std.proofs.lemmas.List.{get_or_default}
 use native.Mathlib.Decide.{ℕ_discrete}
@@ -101,7 +101,3 @@ none_at i x n h b k l = b k (omega (arith, l))
 pub none_more : (i : Instance) (x : ℕ) → ((w : ℕ) → w < x → HasNoneAt i w) → HasNoneAt i x → (w : ℕ) → w < x + 1
     → HasNoneAt i w
 none_more i x below at = let P : ℕ → Type 0 = λ w. HasNoneAt i w in below_more P x below at
-
--- what a false test refutes
-pub refuted : {P : Type 0} (r : Bool) → r ≡ false → IsTrue r ↔ P → P → ⊥
-refuted r e d p = let z : false ≡ true = sym e ∙ d.1 p in cc

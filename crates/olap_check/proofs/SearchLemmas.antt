@@ -1,5 +1,5 @@
 -- The search upwards for a member of one category, and the first member that finds one.
-use Rattle.std.proofs.Common.{◌≡◌, ◌≢◌, ℕ, zero, suc, ◌+◌, ◌<◌, ◌≤◌, List, [], ◌∷◌, ◌++◌, length, get_or, Bool, true, false, refl, ap, sym, subst, ◌∙◌, inl, inr, arith}
+use Rattle.std.proofs.Common.{◌≡◌, ◌≢◌, ℕ, ◌+◌, ◌<◌, ◌≤◌, List, [], ◌∷◌, ◌++◌, length, get_or, Bool, true, false, ap, sym, subst, ◌∙◌, inl, inr, arith}
 use Rattle.std.specs.Prelude.{Contains, replicate}
 use Rattle.std.proofs.lemmas.List.{length-replicate}
 use Rattle.std.proofs.lemmas.List.Elements.{Contains-append_left, Contains-push, Contains-push_cases}
@@ -9,7 +9,7 @@ use Rattle.olap_base.specs.Instance.{Instance, IsBelow, IsFarBelow, category_of,
 use Rattle.olap_graph.specs.Tables.{IsMarked}
 use Rattle.olap_legal.proofs.ParentLemmas.{edges_along, taken}
 use Rattle.olap_base.specs.Steps.{Steps, Steps.here, Steps.step, Climb, Climb.climb, Steps-append, Climb-from_leads, leads_from_Climb, Steps-climb, reaches_from_Steps}
-use Rattle.olap_base.proofs.ListLemmas.{Contains-nil}
+use Rattle.olap_base.proofs.ListLemmas.{Contains-nil, none_marked}
 use Rattle.olap_legal.specs.Rows.{IsBounded, AreLinked}
 use Rattle.olap_base.specs.Deciding.{below_is_member}
 use Rattle.olap_check.specs.Strata.{IsOnCycle, Repeats, HasNoneAbove, IsFirstIn, IsFirstOf, IsFirstRepeat, IsClosed, IsSearch, RepeatGives}
@@ -101,16 +101,14 @@ pub found_far : {i : Instance} {c x : ℕ} {after : List Bool} → (y : ℕ) × 
     → RepeatGives true i c x after
 found_far f = record { far = λ _. f; closed = λ q. absurd (cc) }
 
+-- and if nothing was found, the marks are closed and there is none
 pub found_none : {i : Instance} {c x : ℕ} {after : List Bool} → IsClosed i c after × HasNoneAbove i c x
     → RepeatGives false i c x after
 found_none d = record { far = λ q. absurd (cc); closed = λ _. d }
 
 -- ---- before any search
-pub none_marked : (n y : ℕ) → get_or (replicate n false) y false ≡ false
-none_marked zero y = refl
-none_marked (suc n) zero = refl
-none_marked (suc n) (suc y) = none_marked n y
 
+-- so no member is marked
 pub unmarked_start : (n : ℕ) (marks : List Bool) → marks ≡ replicate n false → (y : ℕ) → IsMarked marks y → ⊥
 unmarked_start n marks e y m =
     let t : false ≡ true = sym (none_marked n y) ∙ ap (λ l. get_or l y false) (sym e) ∙ m in cc

@@ -75,7 +75,7 @@ module _ (i : Instance) (atoms : List Asked) (entries : List (Option Entry)) whe
       let right = subst (λ r. IsRight i (IsSo i a) r) e (seen.right k a at.inside is) in
       kept_like i entry.root.0 entry.start (members entry.places) a atom (at.same a is) right
 
--- where there is no entry each is right
+-- if there is no entry each is right
 right_none : (i : Instance) (P : ℕ → Type 0) (n k : ℕ) → IsRight i P (get_or (replicate n None) k None)
 right_none i P zero k = tt
 right_none i P (suc n) zero = tt

@@ -1,5 +1,5 @@
 -- All that a member is far below, and two of one category among it.
-use Rattle.std.proofs.Common.{◌≡◌, ℕ, zero, suc, ◌+◌, ◌<◌, ◌≤◌, ◌⊎◌, List, [], ◌∷◌, ◌++◌, length, Bool, true, false, refl, ap, sym, subst, ◌∙◌, ◌↔◌, inl, inr, arith, below_more}
+use Rattle.std.proofs.Common.{◌≡◌, ℕ, zero, suc, ◌+◌, ◌<◌, ◌≤◌, List, [], ◌∷◌, ◌++◌, length, Bool, true, false, refl, ap, sym, subst, ◌∙◌, ◌↔◌, inl, inr, arith, below_more}
 use Rattle.std.specs.Prelude.{IsTrue, Option, Some, None, is_some}
 use Rattle.olap_base.specs.Instance.{Instance, IsBelow, Reaches, category_of, parents_of}
 use Rattle.olap_base.specs.Steps.{Steps, Steps.here, Steps.step, Climb, Climb.climb, Climb-from_leads, leads_from_Climb, Steps-climb, Steps-from_reaches}
@@ -13,6 +13,7 @@ use Rattle.olap_check.specs.Passing.{IsStratified}
 use Rattle.olap_legal.proofs.TableLemmas.{reached_inside}
 use Rattle.olap_legal.proofs.ParentLemmas.{taken}
 use Rattle.olap_check.proofs.SearchLemmas.{search_start, search_next}
+use Rattle.olap_base.proofs.GeneralLemmas.{same_or_below}
 
 -- the parents of x are marked
 pub climbing_start : {i : Instance} {n : ℕ} {marks after : List Bool} {old new : List ℕ} (x : ℕ) → IsBounded i n
@@ -60,21 +61,17 @@ marked_inside [] y m = absurd (cc)
 marked_inside (b ∷ bs) zero m = omega arith
 marked_inside (b ∷ bs) (suc y) m = let h : y < length bs = marked_inside bs y m in omega arith
 
--- below one more
-below_cases : (w k : ℕ) → w < k + 1 → (w ≡ k) ⊎ (w < k)
-below_cases w k h = grind arith
-
 -- one more member that is not a marked one of the category
 pub found_more : (i : Instance) (marks : List Bool) (c k : ℕ) (o : Option ℕ)
     → (IsMarked marks k → category_of i k ≡ c → ⊥) → IsFoundAmong i marks c k o → IsFoundAmong i marks c (k + 1) o
-found_more i marks c k None n f = λ w h m e. elim (below_cases w k h) [
+found_more i marks c k None n f = λ w h m e. elim (same_or_below w k h) [
   | inl q ↦ n (subst (IsMarked marks) q m) (ap (category_of i) (sym q) ∙ e)
   | inr l ↦ f w l m e
 ]
 found_more i marks c k (Some y) n f = record {
   inside = let h = f.inside in omega arith;
   is_one = f.is_one;
-  alone = λ w h m e. elim (below_cases w k h) [
+  alone = λ w h m e. elim (same_or_below w k h) [
     | inl q ↦ absurd (n (subst (IsMarked marks) q m) (ap (category_of i) (sym q) ∙ e))
     | inr l ↦ f.alone w l m e
   ];
@@ -86,7 +83,7 @@ pub found_first : (i : Instance) (marks : List Bool) (c k : ℕ) (o : Option ℕ
 found_first i marks c k None t m e f = record {
   inside = omega arith;
   is_one = (m, e);
-  alone = λ w h n d. elim (below_cases w k h) [ inl q ↦ q | inr l ↦ absurd (f w l n d) ];
+  alone = λ w h n d. elim (same_or_below w k h) [ inl q ↦ q | inr l ↦ absurd (f w l n d) ];
 }
 found_first i marks c k (Some y) t m e f = absurd (cc)
 

@@ -18,7 +18,7 @@ use Rattle.olap_legal.specs.declared.tables.Table.{Table}
 abbrev pub width : ℕ
 width = 1024
 
--- of the places before n the set has exactly those at which P is so; nothing is said of others
+-- among the places before n the set has exactly those at which P holds; others are left open
 abbrev pub Selects : ℕ → (ℕ → Type 0) → FinSet nat_cmp → Type 0
 Selects n P chosen = (k : ℕ) → k < n → (contains chosen k ≡ true) ↔ P k
 

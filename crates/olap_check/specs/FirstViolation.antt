@@ -1,8 +1,8 @@
 -- The first violation of a law or a constraint, as a function. How it is found is hidden: it is what its laws say.
 --     first_violation        the first violation, if there is one
---     first_violation_is     none exactly where the instance is legal, and else the first
+--     first_violation_is     none exactly if the instance is legal, and else the first
 --     first_violation_none   none, of a legal instance
---     first_violation_some   the first one, where there is a first one
+--     first_violation_some   the first one, if there is a first one
 use Rattle.std.proofs.Common.{◌≡◌, ℕ, zero, suc, List, [], ◌∷◌, refl, ap, sym, subst, ◌∙◌, inl, inr, arith}
 use Rattle.std.specs.Prelude.{Option, Some, None, MatchOption}
 use native.Mathlib.Decide.{ℕ_discrete}
@@ -97,7 +97,7 @@ first_of s i xs t = record {
   least = λ w h. subst (λ r. IsNotAfter r (rank w)) (sym t.has.1) (t.least (rank w) (w, refl, h));
 }
 
--- of an instance with numerals there is none exactly where it is legal, and else it is the first
+-- an instance with numerals has none exactly if it is legal; else this is the first one
 pub first_violation_is : (s : Schema) (i : Instance) → IsInstance i → HasNumerals s.graph i →
     MatchOption (first_violation s i) (IsLegal s i) (IsFirstViolation s i)
 unfolding first_violation answer
@@ -116,7 +116,7 @@ first_violation_none s i l = go (find s i)
     go (inl t) = absurd ((legal_exactly s i l.is_instance l.numerals).0 l t.1.has.0 t.1.has.2)
     go (inr f) = refl
 
--- where there is a first one, it is that
+-- if there is a first one, it is that
 pub first_violation_some : (s : Schema) (i : Instance) → IsInstance i → (v : Violation) → IsFirstViolation s i v →
     first_violation s i ≡ Some v
 unfolding first_violation answer
@@ -126,7 +126,7 @@ first_violation_some s i n v h = go (find s i)
     go (inl t) = ap Some (only_one s i t.1.has.0 v (first_of s i t.0 t.1) h)
     go (inr f) = absurd (f (rank v) (v, refl, h.is_one))
 
--- of an instance with numerals the first violation is none exactly where it is legal, and else the first
+-- an instance with numerals has no first violation exactly if it is legal; else this is the first one
 abbrev pub FirstViolationIsFirst : Type 0
 FirstViolationIsFirst = (s : Schema) (i : Instance) → IsInstance i → HasNumerals s.graph i →
     MatchOption (first_violation s i) (IsLegal s i) (IsFirstViolation s i)

@@ -1,5 +1,5 @@
--- How a violation is told by ids, and what a refused check says.
---     told            a violation of the definitions, as the program tells it
+-- How a violation is reported by ids, and what a refused check says.
+--     told            a violation of the definitions, as the program reports it
 --     IsFirstReport   it tells the first violation
 --     IsFirstBreach   the same, whatever the constraints are
 --     IsRefused       the instance is handed back, with the first violation, or memory ran out
@@ -34,7 +34,7 @@ category c = record { 0 = c }
 abbrev pub parent : Instance → ℕ → ℕ → MemberId
 parent i x k = member (slice_index (parents_of i x) k)
 
--- a parent is told by its id, and a constraint is counted from 1
+-- a parent is named by its id, and a constraint is counted from 1
 abbrev pub told : Instance → Meaning.Violation → Violation
 told i (Meaning.Violation.NoEdge x k) = here.Connectivity (member x) (parent i x k)
 told i (Meaning.Violation.NoParent x) = here.NoParent (member x)

@@ -1,7 +1,7 @@
--- Of which category a member is far below two members.
+-- The category with two members that a member is far below.
 --     MarksAbove     exactly what a member is far below is marked
 --     HasTwo         two members of a category are marked
---     IsLeastSplit   the least category of which a member is far below two members
+--     IsLeastSplit   the least category with two members that a member is far below
 use Rattle.std.specs.Prelude.{◌≡◌, ◌≢◌, ℕ, ◌<◌, ◌↔◌, Bool, List, Option, Some, None, length}
 use Rattle.olap_base.specs.Instance.{Instance, IsFarBelow, category_of}
 use Rattle.olap_graph.specs.Tables.{IsMarked}
@@ -25,7 +25,7 @@ abbrev pub SplitsAt : Instance → ℕ → ℕ → Type 0
 SplitsAt i x c = (y z : ℕ) × IsFarBelow i x y × IsFarBelow i x z × (category_of i y ≡ c) × (category_of i z ≡ c)
     × (y ≢ z)
 
--- c is the least category of which x is far below two members
+-- c is the least category with two members that x is far below
 pub record IsLeastSplit (i : Instance) (x c : ℕ) : Type 0 where
   pub splits : SplitsAt i x c
   pub before : (d : ℕ) → d < c → SplitsAt i x d → ⊥

@@ -7,7 +7,7 @@ use olap_ast::{Constraint, Formula, Terms};
 use olap_base::{CatId, Memory};
 use std::alloc::Global;
 
-/// Where the atom stands; or, where it isn't found, where it would stand.
+/// Where the atom stands; or, if it isn't found, where it would stand.
 pub(crate) fn find(atoms: &[Asked], asked: Asked) -> Result<usize, usize>
     ensures ok { IfOk result (λ k. IsAtomAt atoms.now k asked.entry) }
     ensures err { IfErr result (λ k. k ≤ length atoms.now) }

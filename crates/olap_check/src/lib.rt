@@ -1,8 +1,8 @@
 //! The check of a dimension instance against its schema: five laws and the constraints.
 //!
 //! `check` answers a `Legal` of `olap_legal`, which keeps the instance and the table of its ancestors, or the first
-//! violation. `specs/Reports.antt` says how a violation of the definitions is told by ids. Nothing here knows how an
-//! instance or a schema is read, or how the table is made.
+//! violation. `specs/Reports.antt` says how a violation of the definitions is reported by ids. Nothing here knows how
+//! an instance or a schema is read, or how the table is made.
 #![tactic(auto)]
 
 mod above;

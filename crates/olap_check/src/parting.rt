@@ -43,7 +43,7 @@ fn has_two(instance: &Instance, seen: &[bool], category: u16) -> bool
     false
 }
 
-/// The least category of which x is far below two members.
+/// The least category with two members that x is far below.
 pub(crate) fn split_category(
     alloc: Global,
     instance: &Instance,

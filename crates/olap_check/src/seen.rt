@@ -11,7 +11,7 @@ use olap_ast::Constraint;
 use olap_base::{CatId, Memory};
 use std::alloc::Global;
 
-/// The places of one block, of which the root and the start among its members are told.
+/// The places of one block, which is known by its root and its start among the root's members.
 #[derive(Clone, Copy)]
 pub(crate) struct Entry {
     pub root: CatId,
@@ -19,7 +19,7 @@ pub(crate) struct Entry {
     pub places: Places,
 }
 
-/// The atoms of some constraints, each once, and for each the places of the block of which it was asked last.
+/// The atoms of some constraints, each once, and for each the places of the block about which it was asked last.
 ///
 /// An entry tells its block, so nothing needs to be forgotten where the next block begins. A name is searched for,
 /// since the atoms are in order; `rows` tells where a pair of categories stands. No clause rests on either: what is
@@ -31,7 +31,7 @@ pub(crate) struct Seen<'a> {
     pub entries: Vec<Option<Entry>>,
 }
 
-/// The number in a row's cell, if it has so many.
+/// The number in a row's cell, if it has this many.
 fn cell(rows: &Vec<Vec<usize>>, row: usize, cell: usize) -> Option<usize> {
     if row < rows.len() && cell < rows[row].len() {
         return Some(rows[row][cell]);
@@ -40,7 +40,7 @@ fn cell(rows: &Vec<Vec<usize>>, row: usize, cell: usize) -> Option<usize> {
 }
 
 impl<'a> Seen<'a> {
-    /// The atoms of the constraints, of which nothing is remembered.
+    /// The atoms of the constraints, with nothing remembered about them.
     pub(crate) fn new(alloc: Global, constraints: &'a [Constraint]) -> Result<Seen<'a>, Memory>
         ensures { IfOk result (λ seen. (i : TheInstance) → IsSeen i seen) }
     {

@@ -79,7 +79,7 @@ fn is_on_cycle(graph: &Graph, category: u16) -> bool
     false
 }
 
-/// The first member that is far below a member of its category, where an edge leads to each parent. Only members of a
+/// The first member that is far below a member of its category, if an edge leads to each parent. Only members of a
 /// category on a cycle of edges can be, so no others are looked at.
 ///
 /// Cost: for each category on a cycle at most all parents once, and mostly those of the members above that category.

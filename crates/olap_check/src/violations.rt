@@ -29,7 +29,7 @@ pub struct Illegal {
 }
 
 /// Of a list of members that is an instance, and in which the names of number categories are numerals, the function
-/// `first_violation` of the definitions gives nothing exactly where it is legal, and else the first violation.
+/// `first_violation` of the definitions gives nothing exactly if it is legal, and else the first violation.
 pub fn first_violation_is_first()
     ensures { FirstViolationIsFirst }
 {}

@@ -1,8 +1,8 @@
 -- Clauses without literals that are known false, and literals that stand as clauses.
---     agrees_at, one_true     a literal that stands is true, and so is a clause of it
+--     agrees_at, one_literal     a literal that stands is true, and so is a clause of it
 --     AreKept                 what is true of the first literals is written
 --     kept_more, kept_all     one literal more, and all of them
-use Rattle.std.proofs.Common.{◌≡◌, ℕ, suc, zero, ◌+◌, ◌<◌, ◌≤◌, Bool, List, [], ◌∷◌, length, slice_index_or, refl, sym, ◌∙◌, subst, arith, below_more}
+use Rattle.std.proofs.Common.{◌≡◌, ℕ, suc, zero, ◌+◌, ◌<◌, ◌≤◌, Bool, List, [], ◌∷◌, length, slice_index_or, sym, ◌∙◌, subst, arith, below_more}
 use Rattle.std.specs.Prelude.{Contains}
 use Rattle.std.proofs.lemmas.List.{get_or_default}
 use Rattle.olap_pool.specs.declared.literals.Lit.{Lit}
@@ -10,6 +10,7 @@ use Rattle.olap_clauses.specs.declared.trails.Step.{Step}
 use Rattle.olap_pool.specs.Literals.{Holds, Satisfies}
 use Rattle.olap_clauses.specs.Standing.{Agrees}
 use Rattle.olap_clauses.proofs.StandsLemmas.{lit_at, no_lit}
+use Rattle.olap_parities.proofs.ParityLemmas.{one_literal}
 
 -- who agrees with the trail makes the literal at each place true
 pub agrees_at : (v : ℕ → Bool) (ss : List Step) (p : ℕ) (s : Step) → p < length ss
@@ -17,10 +18,6 @@ pub agrees_at : (v : ℕ → Bool) (ss : List Step) (p : ℕ) (s : Step) → p <
 agrees_at v [] p s inside e a = absurd (omega arith)
 agrees_at v (t ∷ ss) zero s inside e a = subst (λ (t : Step). Holds v t.lit) (sym e) a.0
 agrees_at v (t ∷ ss) (suc p) s inside e a = agrees_at v ss p s (omega arith) e a.1
-
--- a clause of one true literal is true
-pub one_true : (v : ℕ → Bool) (l : Lit) → Holds v l → Satisfies v (l ∷ [])
-one_true v l h = (l, (0, omega arith, refl), h)
 
 -- of the first literals of a clause, who agrees with the trail makes only those true that are written
 abbrev pub AreKept : List Step → List Lit → ℕ → List Lit → Type 0

@@ -30,7 +30,3 @@ stop_is_not_nothing e = cc
 -- yes isn't no
 pub true_is_not_false : true ≡ false → ⊥
 true_is_not_false e = cc
-
--- no isn't yes
-pub false_is_not_true : false ≡ true → ⊥
-false_is_not_true e = cc

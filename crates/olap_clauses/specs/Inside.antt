@@ -1,5 +1,5 @@
 -- The table of values that a `Trail` keeps. No public clause speaks of it.
---     IsInside        the literal is of one of so many variables
+--     IsInside        the literal is of one of this many variables
 --     shows           the trail has this variable with this sign
 --     unknown_count   how many variables are unknown
 use Rattle.std.specs.Prelude.{ℕ, suc, ◌<◌, Bool, true, false, ◌&&◌, ◌||◌, ◌==◌, not, List, [], ◌∷◌}
@@ -7,7 +7,7 @@ use Rattle.olap_clauses.specs.declared.values.Value.{Value}
 use Rattle.olap_clauses.specs.declared.values.Value.TheVariants.{Unknown, Yes, No}
 use Rattle.olap_clauses.specs.declared.trails.Step.{Step}
 
--- the literal is of one of so many variables
+-- the literal is of one of this many variables
 abbrev pub IsInside : ℕ → Step → Type 0
 IsInside n s = s.lit.variable < n
 

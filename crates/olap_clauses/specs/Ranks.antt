@@ -1,6 +1,6 @@
 -- How much of a search is left: each turn makes it less, so a search ends.
---     left   how much is left over the first trail's variables, behind the second
---     rank   how much is left over so many variables, behind this trail
+--     left   how much is left to decide over the first trail's variables after the second
+--     rank   how much is left to decide over n variables after this trail
 --     tree   how much is left where nothing stands
 use Rattle.std.specs.Prelude.{ℕ, zero, suc, ◌+◌, cond, List, [], ◌∷◌, length}
 use Rattle.olap_clauses.specs.declared.trails.Step.{Step}
@@ -19,6 +19,6 @@ rank r [] = tree r
 rank zero (s ∷ ss) = 0
 rank (suc r) (s ∷ ss) = cond (is_decision s.reason) (tree r) 0 + rank r ss
 
--- how much is left over the first trail's variables, behind the second trail
+-- how much is left to decide over the first trail's variables after the second trail
 abbrev pub left : Trail → Trail → ℕ
 left old t = rank (length (values_of old)) (steps_of t)

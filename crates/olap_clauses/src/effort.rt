@@ -16,7 +16,7 @@ impl Effort {
         literals: 0,
     };
 
-    /// With one more conflict, from which so many literals were learned.
+    /// With one more conflict, from which this many literals were learned.
     pub(crate) fn with_conflict(self, literals: usize) -> Effort {
         Effort {
             conflicts: self.conflicts.saturating_add(1),
@@ -24,7 +24,7 @@ impl Effort {
         }
     }
 
-    /// What was taken after so much.
+    /// What was taken after this much work.
     pub(crate) fn since(self, before: Effort) -> Effort {
         Effort {
             conflicts: self.conflicts.saturating_sub(before.conflicts),

@@ -10,7 +10,7 @@ pub(crate) struct Fixpoints {
 }
 
 impl Fixpoints {
-    /// None, with room for trails over so many variables.
+    /// None, with room for trails over this many variables.
     pub(crate) fn new(alloc: Global, variables: u32) -> Result<Fixpoints, AllocError> {
         Ok(Fixpoints {
             lengths: Vec::with_capacity(alloc, variables as usize + 1)?,
@@ -30,7 +30,7 @@ impl Fixpoints {
         }
     }
 
-    /// Leaves those up to this length, and answers the last of them, or 0.
+    /// Leaves those up to this length, and returns the last of them, or 0.
     pub(crate) fn cut(&mut self, length: usize) -> usize {
         match self.last_up_to(length) {
             Some(last) => last,
@@ -38,7 +38,7 @@ impl Fixpoints {
         }
     }
 
-    /// Leaves those up to this length, and answers the last of them.
+    /// Leaves those up to this length, and returns the last of them.
     fn last_up_to(&mut self, length: usize) -> Option<usize> {
         'lengths: for _ in 0..self.lengths.len() {
             let last = self.lengths.pop()?;
@@ -55,8 +55,8 @@ impl Fixpoints {
         self.lengths.clear();
     }
 
-    /// There is one clause more, whose literals are false and in the order of the trail. Leaves the lengths at which two
-    /// of them or more were open.
+    /// Another clause was added, whose literals are false and in the order of the trail. Keeps the lengths at which two
+    /// or more of them were open.
     pub(crate) fn keep_before(&mut self, trail: &Trail, clause: &[Lit]) {
         if clause.len() < 2 {
             self.forget();

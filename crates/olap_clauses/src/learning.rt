@@ -11,7 +11,7 @@ use crate::watching::Watches;
 use olap_pool::{Lit, Pool};
 use std::alloc::{AllocError, Global};
 
-/// A clause whose literals stood on so many levels of decisions is kept no longer than others.
+/// A clause whose literals stood on this many levels of decisions is kept no longer than others.
 const MANY: u32 = 64;
 
 /// What a search writes into.
@@ -26,7 +26,7 @@ pub(crate) struct Notes {
 }
 
 impl Notes {
-    /// For so many variables, so many clauses that are given, and so many more.
+    /// For this many variables, this many clauses that are given, and this many more.
     pub(crate) fn new(
         alloc: Global,
         variables: u32,
@@ -76,7 +76,7 @@ fn levels_of(trail: &Trail, clause: &[Lit]) -> u32 {
     levels
 }
 
-/// Learns from a false clause, where it can, and answers the number of what it learned. That is its own, where it said
+/// Learns from a false clause, if it can, and returns the number of what it learned. That is its own, where it said
 /// as much already, as where decisions alone made it false: else the room would fill with copies.
 pub(crate) fn learn(trail: &Trail, pool: &mut Pool, notes: &mut Notes, id: usize) -> Option<usize>
     requires id { id < clause_count pool.old }
@@ -106,7 +106,7 @@ pub(crate) fn learn(trail: &Trail, pool: &mut Pool, notes: &mut Notes, id: usize
     Some(new)
 }
 
-/// How many clauses between the two places have literals on at most so many levels.
+/// How many clauses between the two places have literals on at most this many levels.
 fn count_worthy(pool: &Pool, given: usize, newest: usize, most: u32) -> usize {
     let mut count: usize = 0;
     'clauses: for id in 0..pool.len() {

@@ -16,10 +16,19 @@ pub(crate) enum Order {
 /// How a variable is decided for which the judge isn't asked.
 #[derive(Clone, Copy)]
 pub(crate) enum Sign {
-    /// It is false: most edges and names are, where there is a frozen dimension.
+    /// It is false: most edges and names are, if there is a frozen dimension.
     False,
     /// As it was last.
     Last,
+}
+
+/// How quickly earlier conflicts come to count less in the scores.
+#[derive(Clone, Copy)]
+pub(crate) enum Decay {
+    /// Each counts an eighth more than the one before it.
+    Quick,
+    /// Each counts a nineteenth more.
+    Slow,
 }
 
 /// Which solver searches.
@@ -39,11 +48,12 @@ pub(crate) struct Round {
     pub(crate) part: Part,
     pub(crate) order: Order,
     pub(crate) sign: Sign,
-    /// So many conflicts it has.
+    pub(crate) decay: Decay,
+    /// The most conflicts that it may have.
     pub(crate) budget: u64,
 }
 
-/// So many rounds the first solver has alone. Later ones go to each in turn, which keeps to an order of its own.
+/// How many rounds the first solver has alone. Later rounds go to each solver in turn, which keeps to its own order.
 const ALONE: u64 = 6;
 
 /// Conflicts of a round that tries an order.
@@ -57,6 +67,26 @@ const TURN: u64 = 300;
 
 /// Conflicts of a later turn, for each turn before it.
 const GROWTH: u64 = 50;
+
+/// So many literals a clause, in sixteenths, are few.
+const FEW: u64 = 16 * 16;
+
+/// Which solver has this turn. Each has one of three; while the scores over all variables are ahead, theirs has seven
+/// of nine.
+fn solver_of(turn: u64, ahead: bool) -> Part {
+    let place = if !ahead {
+        turn
+    } else if turn % 3 == 0 {
+        turn / 3
+    } else {
+        1
+    };
+    match place % 3 {
+        0 => Part::First,
+        1 => Part::Second,
+        _ => Part::Third,
+    }
+}
 
 /// What the rounds of each order took, late ones counting more, and which of them ended the last search.
 #[derive(Clone, Copy)]
@@ -78,7 +108,7 @@ impl Orders {
         }
     }
 
-    /// What rounds of this order took of late.
+    /// What rounds of this order took recently.
     fn took(&self, order: Order) -> Effort {
         match order {
             Order::Judge => self.judge,
@@ -107,10 +137,25 @@ impl Orders {
         }
     }
 
+    /// Whether the scores over all variables learned clauses shorter by more than an eighth than both other orders.
+    fn is_free_ahead(&self) -> bool {
+        let others = self.judge.literals_each().min(self.shown.literals_each());
+        self.free.literals_each() < others - others / 8
+    }
+
+    /// Conflicts of the first round: more where the order that ended the last search learned short clauses.
+    fn first_budget(&self) -> u64 {
+        if self.took(self.last).literals_each() <= FEW {
+            LONG
+        } else {
+            SHORT
+        }
+    }
+
     /// What the first solver does in a round that it has alone.
     fn alone(&self, round: u64) -> Round {
         let (order, budget) = match round {
-            0 => (self.last, SHORT),
+            0 => (self.last, self.first_budget()),
             1 => (self.untried(Order::Free), SHORT),
             2 => (self.untried(Order::Shown), SHORT),
             _ => (self.best(), LONG),
@@ -119,6 +164,7 @@ impl Orders {
             part: Part::First,
             order,
             sign: Sign::False,
+            decay: Decay::Quick,
             budget,
         }
     }
@@ -128,17 +174,21 @@ impl Orders {
         if round < ALONE {
             return self.alone(round);
         }
-        let (part, order) = match round % 3 {
-            0 => (Part::First, Order::Shown),
-            1 => (Part::Second, Order::Free),
-            _ => (Part::Third, Order::Judge),
+        let turn = round - ALONE;
+        let ahead = self.is_free_ahead();
+        let part = solver_of(turn, ahead);
+        let (order, decay) = match part {
+            Part::First => (Order::Shown, Decay::Quick),
+            Part::Second if ahead => (Order::Free, Decay::Slow),
+            Part::Second => (Order::Free, Decay::Quick),
+            Part::Third => (Order::Judge, Decay::Quick),
         };
-        let turn = (round - ALONE) / 3;
         Round {
             part,
             order,
             sign: Sign::Last,
-            budget: TURN.max(GROWTH.saturating_mul(turn)),
+            decay,
+            budget: TURN.max(GROWTH.saturating_mul(turn / 3)),
         }
     }
 

@@ -5,7 +5,7 @@
 pub enum Outcome {
     /// The judge took a trail.
     Found,
-    /// There is nothing that it means below what stands.
+    /// No valuation that the judge searches for agrees with the trail.
     Nothing,
     /// The budget was spent, or the room to learn in: nothing is known.
     Stop,

@@ -7,7 +7,7 @@ use crate::trails::Trail;
 use crate::values::Value;
 use olap_pool::Lit;
 
-/// The unknown variable of highest score, if one has a score at all. Nothing is said of it.
+/// The unknown variable of highest score, if one has a score at all. Nothing is proved about it.
 fn best(trail: &Trail, scores: &Scores) -> Option<Lit> {
     let mut best = None;
     let mut top = 0;
@@ -26,7 +26,7 @@ fn best(trail: &Trail, scores: &Scores) -> Option<Lit> {
     best
 }
 
-/// The open literal that had most to do with conflicts of late, if one had.
+/// The open literal that had most to do with recent conflicts, if one had.
 pub(crate) fn pick(trail: &Trail, scores: &Scores) -> Option<Lit>
     ensures { IfSome result (λ lit. IsOpen trail.now lit) }
 {

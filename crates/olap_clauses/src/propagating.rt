@@ -8,8 +8,8 @@ use crate::trails::{Reason, Trail};
 use crate::watching::{Cursor, Watches};
 use olap_pool::{Lit, Pool};
 
-/// A literal of the clause that isn't known false, and that its other node doesn't watch, and its place: the first behind
-/// this place, and round to it. Truths are by code.
+/// A literal of the clause that isn't known false and that its other node doesn't watch, with its place: the first
+/// after this place, or else from the start up to it. Truths are by code.
 fn free_after(truths: &[bool], clause: &[Lit], at: usize, other: Lit) -> Option<(usize, Lit)> {
     let last = clause.len().saturating_sub(1);
     let mut place = at;
@@ -25,7 +25,7 @@ fn free_after(truths: &[bool], clause: &[Lit], at: usize, other: Lit) -> Option<
     None
 }
 
-/// Lets the node watch a free literal of its clause, and answers whether there is one.
+/// Lets the node watch a free literal of its clause, and returns whether there is one.
 fn moved(
     trail: &Trail,
     clause: &[Lit],
@@ -42,8 +42,8 @@ fn moved(
     }
 }
 
-/// Looks at one clause that watches a literal which is false now and another one that isn't true, and goes on to the next
-/// of its list. Its number, if it is false.
+/// Looks at one clause that watches a literal that is false now and another one that isn't true, and goes on to the
+/// next of its list. Returns the clause's number if it is false.
 fn visit(
     trail: &mut Trail,
     pool: &Pool,

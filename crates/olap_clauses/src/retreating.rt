@@ -10,7 +10,7 @@ use crate::standing::{Stand, stands};
 use crate::trails::{Reason, Trail};
 use olap_pool::{Lit, Pool};
 
-/// Takes literals off to below the last decision, and answers that. Nothing before the floor is
+/// Takes the last decision off, and all literals after it, and returns its literal. Nothing before the floor is
 /// touched.
 fn back(trail: &mut Trail, floor: usize) -> Option<Lit>
     requires { floor ≤ length (steps_of trail.old) }
@@ -29,7 +29,7 @@ fn back(trail: &mut Trail, floor: usize) -> Option<Lit>
     None
 }
 
-/// How the clause learned last stands. Where there is none it says nothing.
+/// How the clause learned last stands on this trail. If there is none, nothing is said.
 fn stands_by(trail: &Trail, pool: &Pool, last: Option<usize>) -> Stand
     ensures { StandsBy pool.now trail.now result }
 {
@@ -52,7 +52,7 @@ fn reason_of(last: Option<usize>) -> Reason
     }
 }
 
-/// So many of the first literals make this one false. None: it can't be said.
+/// How many of the first literals make this one false. None: it isn't known.
 fn false_from(trail: &Trail, lit: Lit) -> Option<usize>
     ensures right { IfSome result (IsFalseFrom (steps_of trail.now) lit) }
     ensures bound { IfSome result (λ n. n ≤ length (steps_of trail.now)) }
@@ -65,7 +65,7 @@ fn false_from(trail: &Trail, lit: Lit) -> Option<usize>
     }
 }
 
-/// At least as many of the first literals make this one false, where it is another than that one.
+/// At least as many of the first literals make this one false, if it is another one than that.
 fn later(trail: &Trail, lit: Lit, but: Lit, from: usize) -> Option<usize>
     requires { from ≤ length (steps_of trail.now) }
     ensures right { IfSome result (λ n. (lit ≡ but) ⊎ IsFalseFrom (steps_of trail.now) lit n) }
@@ -79,7 +79,7 @@ fn later(trail: &Trail, lit: Lit, but: Lit, from: usize) -> Option<usize>
     Some(n.max(from))
 }
 
-/// By so many of the first literals the clause forces this one. None: it can't be said.
+/// By this many of the first literals the clause forces this one. None: it can't be said.
 fn forces_from(trail: &Trail, clause: &[Lit], lit: Lit) -> Option<usize>
     ensures right { IfSome result (ForcesFrom (steps_of trail.now) clause.now lit) }
     ensures bound { IfSome result (λ n. n ≤ length (steps_of trail.now)) }
@@ -94,7 +94,7 @@ fn forces_from(trail: &Trail, clause: &[Lit], lit: Lit) -> Option<usize>
     Some(from)
 }
 
-/// By so many of the first literals the clause learned last forces this one, which it does by all
+/// By this many of the first literals the clause learned last forces this one, which it does by all
 /// of them.
 fn learned_from(trail: &Trail, pool: &Pool, last: Option<usize>, lit: Lit) -> usize
     requires { PoolForces pool.now (steps_of trail.now) lit }
@@ -113,7 +113,7 @@ fn learned_from(trail: &Trail, pool: &Pool, last: Option<usize>, lit: Lit) -> us
     }
 }
 
-/// The place of the first decision at this place or behind it, or the end.
+/// The place of the first decision at this place or after it, or the end.
 fn branch_from(trail: &Trail, from: usize) -> usize
     requires { from ≤ length (steps_of trail.now) }
     ensures above { from ≤ result }
@@ -128,7 +128,7 @@ fn branch_from(trail: &Trail, from: usize) -> usize
     trail.len()
 }
 
-/// Takes decisions off, and all behind them, without which the clause learned last forces this
+/// Takes decisions off, and all after them, without which the clause learned last forces this
 /// literal as well. Nothing before the floor is touched.
 fn jump(trail: &mut Trail, pool: &Pool, last: Option<usize>, lit: Lit, floor: usize)
     requires floor { floor ≤ length (steps_of trail.old) }
@@ -145,7 +145,7 @@ fn jump(trail: &mut Trail, pool: &Pool, last: Option<usize>, lit: Lit, floor: us
 }
 
 /// Leaves the branches in which nothing is found, up to one that has another side, and goes there.
-/// False: there is none at the floor or behind it. A branch that the clause learned last shows to
+/// False: there is none at the floor or after it. A branch that the clause learned last shows to
 /// be empty is left as a whole. Where that clause forces a literal, decisions that it doesn't need
 /// for that are taken off too, so that the literal stands as long as what forces it.
 pub(crate) fn retreat(trail: &mut Trail, pool: &Pool, last: Option<usize>, floor: usize) -> bool

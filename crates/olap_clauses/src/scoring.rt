@@ -1,5 +1,5 @@
-// How much each variable had to do with conflicts of late. Nothing here is trusted.
-use crate::ordering::{Order, Sign};
+// How much each variable had to do with recent conflicts. Nothing here is trusted.
+use crate::ordering::{Decay, Order, Round, Sign};
 use crate::trails::Trail;
 use olap_pool::Lit;
 use std::alloc::{AllocError, Global};
@@ -10,7 +10,7 @@ const FIRST: u32 = 64;
 /// What is added at most before all scores are made smaller.
 const MOST: u32 = 1 << 28;
 
-/// A score a variable. What is added grows, so that late conflicts count more.
+/// A score for each variable. The amount that is added grows, so that late conflicts count more.
 #[derive(Drop)]
 pub(crate) struct Scores {
     scores: Vec<u32>,
@@ -18,10 +18,11 @@ pub(crate) struct Scores {
     shown: bool,
     free: bool,
     sign: Sign,
+    decay: Decay,
 }
 
 impl Scores {
-    /// A score of 0 for each of so many variables.
+    /// A score of 0 for each of this many variables.
     pub(crate) fn new(alloc: Global, variables: u32) -> Result<Scores, AllocError> {
         Ok(Scores {
             scores: vec![in alloc; 0; variables as usize]?,
@@ -29,14 +30,17 @@ impl Scores {
             shown: false,
             free: false,
             sign: Sign::False,
+            decay: Decay::Quick,
         })
     }
 
-    /// Whether the judge is shown the scores, and whether they are followed before it is asked, by which sign.
-    pub(crate) fn show(&mut self, order: Order, sign: Sign) {
-        self.shown = order == Order::Shown;
-        self.free = order == Order::Free;
-        self.sign = sign;
+    /// From now on this is the plan: whether the judge is shown the scores, whether they are followed before it is
+    /// asked, by which sign, and how quickly earlier conflicts come to count less.
+    pub(crate) fn show(&mut self, plan: Round) {
+        self.shown = plan.order == Order::Shown;
+        self.free = plan.order == Order::Free;
+        self.sign = plan.sign;
+        self.decay = plan.decay;
     }
 
     /// The scores, or none.
@@ -44,7 +48,7 @@ impl Scores {
         if self.shown { &self.scores } else { &[] }
     }
 
-    /// The scores, where they are followed before the judge is asked, or none.
+    /// The scores, if they are followed before the judge is asked, or none.
     pub(crate) fn free(&self) -> &[u32] {
         if self.free { &self.scores } else { &[] }
     }
@@ -56,7 +60,11 @@ impl Scores {
 
     /// A conflict more: what is added from now on counts more.
     pub(crate) fn age(&mut self) {
-        self.bump = self.bump.saturating_add(self.bump / 8);
+        let more = match self.decay {
+            Decay::Quick => self.bump / 8,
+            Decay::Slow => self.bump / 19,
+        };
+        self.bump = self.bump.saturating_add(more);
         if self.bump > MOST {
             'scores: for score in self.scores.iter_mut() {
                 *score >>= 16;
@@ -65,8 +73,8 @@ impl Scores {
         }
     }
 
-    /// Raises the score of a variable, and the next one a little more: else all of one conflict
-    /// have the same score, and the one that a judge comes to first is always taken.
+    /// Raises the score of a variable, and the next one a little more: else all variables of one conflict would have
+    /// the same score, and the one that a judge looks at first would always be taken.
     pub(crate) fn raise(&mut self, variable: usize) {
         if variable < self.scores.len() {
             self.scores[variable] = self.scores[variable].saturating_add(self.bump);

@@ -10,7 +10,7 @@ use crate::trails::Trail;
 use crate::values::Value;
 use olap_pool::{Lit, Pool};
 
-/// Whether one of the literals is known true. Nothing is said of it.
+/// Whether one of the literals is known true. Nothing is proved about it.
 fn is_true(trail: &Trail, clause: &[Lit]) -> bool {
     'lits: for lit in clause {
         if trail.value(*lit) == Value::Yes {
@@ -76,8 +76,8 @@ fn copy_facts(trail: &Trail, to: &mut Pool)
     }
 }
 
-/// Copies what stands, and then the clauses without it, and answers how many there are up to the
-/// last of the first so many.
+/// Copies what stands, and then the clauses without it, and returns how many clauses the copy has up to the last of the
+/// first `given`.
 pub(crate) fn copy_all(
     trail: &Trail,
     pool: &Pool,

@@ -12,7 +12,7 @@ use crate::effort::Effort;
 use crate::fixpoints::Fixpoints;
 use crate::judging::{Judge, Verdict};
 use crate::learning::{Notes, copy_some, learn};
-use crate::ordering::{Order, Sign};
+use crate::ordering::Round;
 use crate::outcomes::Outcome;
 use crate::picking::pick;
 use crate::propagating::{force_each_short, propagate};
@@ -24,10 +24,10 @@ use olap_pool::{Lit, Pool};
 use std::alloc::{AllocError, Global};
 use std::mem::swap;
 
-/// So many learned clauses are kept at first, before the older ones are dropped: with more, each step takes longer.
+/// How many learned clauses are kept at first, before the older ones are dropped: with more, each step takes longer.
 const KEPT: usize = 7500;
 
-/// So many more are kept each time.
+/// How many more are kept each time.
 const MORE_KEPT: usize = 600;
 
 /// Clauses, a trail, and the search over them.
@@ -37,7 +37,7 @@ pub(crate) struct Solver {
     pool: Pool,
     /// Where the clauses to be kept are copied, before the two pools change places.
     spare: Pool,
-    /// How many clauses were given; those behind them were learned.
+    /// How many clauses were given; those after them were learned.
     given: usize,
     /// How many learned ones are kept before the older ones are dropped.
     kept: usize,
@@ -64,7 +64,7 @@ enum Turn {
     Taken,
 }
 
-/// Whether there was a budget, and so many conflicts are all of it, or there is no room to learn
+/// Whether there was a budget, and this many conflicts are all of it, or there is no room to learn
 /// more.
 fn is_spent(budget: &Option<u64>, conflicts: u64, full: bool) -> bool
     ensures { result ≡ true → IsSome budget.now }
@@ -80,7 +80,7 @@ impl Solver {
     ghost use Rattle.olap_clauses.specs.Engines.{Finds};
     ghost use Rattle.olap_clauses.specs.Turns.{TurnsSo};
 
-    /// Takes all memory that the solver will use: for these clauses, and so many literals and clauses more.
+    /// Takes all memory that the solver will use: for these clauses, and this many literals and clauses more.
     pub(crate) fn new(
         alloc: Global,
         variables: u32,
@@ -146,7 +146,7 @@ impl Solver {
         })
     }
 
-    /// Copies what another solver was given, and what it learned on few levels, where this one has no clauses.
+    /// Copies what another solver was given, and what it learned on few levels, if this one has no clauses.
     pub(crate) fn fill_from(&mut self, other: &Solver)
         ensures trail { self.new.trail ≡ self.old.trail }
         ensures clauses { (v : ℕ → Bool) → AreTrue v other.now.pool → AreTrue v self.old.pool
@@ -159,7 +159,7 @@ impl Solver {
         }
     }
 
-    /// Changes places with another solver, but for what stands.
+    /// Changes places with another solver, except for the trail.
     pub(crate) fn change_places(&mut self, other: &mut Solver)
         ensures trail { self.new.trail ≡ self.old.trail }
         ensures clauses { (v : ℕ → Bool) → AreTrue v self.old.pool → AreTrue v other.old.pool
@@ -192,7 +192,8 @@ impl Solver {
         broken.is_none()
     }
 
-    /// Puts what stands in the place of each clause that it makes true, and takes out of the others what it makes false.
+    /// Replaces each clause that the trail makes true by what stands, and takes out of the others what the trail makes
+    /// false.
     fn rewrite(&mut self)
         ensures clauses { (v : ℕ → Bool) → Agrees v (trail_of self.old) → AreTrue v self.old.pool
             → AreTrue v self.new.pool }
@@ -212,7 +213,7 @@ impl Solver {
         self.facts = self.trail.len();
     }
 
-    /// Rids the clauses of what is known with no decision, where more is known than the last time.
+    /// Rids the clauses of what is known with no decision, if more is known than the last time.
     fn keep_facts(&mut self)
         requires { trail_of self.old ≡ [] }
         ensures clauses { (v : ℕ → Bool) → AreTrue v self.old.pool → AreTrue v self.new.pool }
@@ -223,7 +224,7 @@ impl Solver {
         }
     }
 
-    /// The same, where nothing stands; else nothing is done.
+    /// The same, if the trail is empty; else nothing is done.
     pub(crate) fn simplify(&mut self)
         ensures trail { trail_of self.new ≡ trail_of self.old }
         ensures variables { variables_of self.new ≡ variables_of self.old }
@@ -266,7 +267,7 @@ impl Solver {
         self.trail.push(lit, Reason::Decision);
     }
 
-    /// Takes literals off until so many are left.
+    /// Takes literals off until this many are left.
     pub(crate) fn undo(&mut self, mark: usize)
         ensures trail { trail_of self.new ≡ take mark (trail_of self.old) }
         ensures variables { variables_of self.new ≡ variables_of self.old }
@@ -277,7 +278,7 @@ impl Solver {
         self.done = self.fixpoints.cut(mark);
     }
 
-    /// Forces what the clauses force below what stands, up to one that is false.
+    /// Adds to the trail the literals that the clauses force, until a clause is false or nothing more is forced.
     pub(crate) fn force(&mut self)
         ensures follows { (v : ℕ → Bool) → admits v self.old → Agrees v (trail_of self.old)
             → Agrees v (trail_of self.new) }
@@ -299,7 +300,7 @@ impl Solver {
         }
     }
 
-    /// Adds what the parities that stand in the clauses come to. False: no valuation makes all clauses true.
+    /// Adds what follows from the parities that the clauses contain. False: no valuation makes all clauses true.
     pub(crate) fn derive(&mut self, parities: &mut Parities) -> bool
         ensures none { result ≡ false → (v : ℕ → Bool) → AreTrue v self.old.pool → ⊥ }
         ensures trail { trail_of self.new ≡ trail_of self.old }
@@ -316,13 +317,13 @@ impl Solver {
         some
     }
 
-    /// From now on decisions are taken in this order, and by this sign where the judge isn't asked.
-    pub(crate) fn show(&mut self, order: Order, sign: Sign)
+    /// From now on decisions are taken in the order of this plan, and by its sign where the judge isn't asked.
+    pub(crate) fn show(&mut self, plan: Round)
         ensures trail { trail_of self.new ≡ trail_of self.old }
         ensures variables { variables_of self.new ≡ variables_of self.old }
         ensures admits { (v : ℕ → Bool) → admits v self.old → admits v self.new }
     {
-        self.notes.scores.show(order, sign);
+        self.notes.scores.show(plan);
     }
 
     /// Learns from a clause that is false.
@@ -381,7 +382,7 @@ impl Solver {
         }
     }
 
-    /// Goes to the other side of a branch, where there is one behind the floor.
+    /// Goes to the other side of a branch, if there is one after the floor.
     fn turn_back(&mut self, floor: usize) -> bool
         requires { floor ≤ length (trail_of self.old) }
         ensures on { result ≡ true → (v : ℕ → Bool) → admits v self.old
@@ -443,8 +444,8 @@ impl Solver {
         }
     }
 
-    /// Searches below what stands for what the judge takes, through at most so many conflicts. What
-    /// stands is left as it was.
+    /// Searches for a trail that begins with this one and that the judge takes, for at most `budget` conflicts. The
+    /// trail is left as it was.
     pub(crate) fn search<S, J: Judge<S>>(
         &mut self,
         judge: &J,
@@ -486,7 +487,7 @@ impl Solver {
         self.last = None;
     }
 
-    /// Drops what was learned long ago, where there is little room or much was learned.
+    /// Drops what was learned long ago, if there is little room or much was learned.
     pub(crate) fn make_room(&mut self)
         ensures trail { trail_of self.new ≡ trail_of self.old }
         ensures variables { variables_of self.new ≡ variables_of self.old }

@@ -1,15 +1,15 @@
 -- The exit statuses.
---     exit_status      the number by which the shell is told how a run ended
+--     exit_status      the number that tells the shell how a run ended
 --     out_of_memory    that of a run that ran out of memory
 use Rattle.std.specs.Prelude.{ℕ}
 use Rattle.olap_order.specs.declared.status.Status.{Status}
 use Rattle.olap_order.specs.declared.status.Status.TheVariants as statuses
 
--- of a run that ran out of memory
+-- the exit status of a run that ran out of memory
 abbrev pub out_of_memory : ℕ
 out_of_memory = 6
 
--- the number by which the shell is told how a run ended
+-- the number that tells the shell how a run ended
 abbrev pub exit_status : Status → ℕ
 exit_status statuses.Yes = 0
 exit_status statuses.No = 1

@@ -1,4 +1,6 @@
 //! The program: the words after its name, the real files, standard output, and the exit status.
+//!
+//! It hands all words to `olap_run`, and knows no command.
 #![tactic(auto)]
 
 ghost use Rattle.std.specs.Prelude.{◌≡◌, ◌≢◌};

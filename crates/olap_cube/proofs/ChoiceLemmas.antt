@@ -11,12 +11,13 @@ use Rattle.olap_base.proofs.RollingLemmas.{one_same}
 use Rattle.olap_ast.specs.Formula.{Formula.Reach, Formula.Truth, Formula.Via}
 use Rattle.olap_ast.specs.Frozen.{CandidatesExist, thawed}
 use Rattle.olap_ast.specs.Schema.{Schema, IsLegal}
-use Rattle.olap_ast.proofs.Decided.{dec_not, dec_via}
+use Rattle.olap_ast.proofs.Decided.{dec_via}
 use Rattle.olap_ast.proofs.SameAtoms.{kinds_too}
 use Rattle.olap_ast.proofs.SmallModel.{frozen_alike}
 use Rattle.olap_cube.specs.Tuples.{AllZip3, AreLawful, IsBottomTuple, IsTupleOf, TupleReaches, TupleReachesVia}
 use Rattle.olap_cube.specs.CubeSummarizable.{Chosen, CubeSummarizableExactlyIfNoneBad, IsBadChoice, IsChosen, IsCubeSummarizable, IsKinded, bottoms_of, graphs_of, instances_of}
 use Rattle.olap_cube.proofs.CubeLemmas.{cubes_agree_exactly}
+use Rattle.olap_base.proofs.DecisionLemmas.{dec_not}
 
 -- legal instances are lawful
 pub lawful_from_legal : (ss : List Schema) (is : List Instance) → AllZip IsLegal ss is → AreLawful (graphs_of ss) is
@@ -49,8 +50,7 @@ chosen_bottom (s ∷ ss) [] ps a xs m = absurd a
 chosen_bottom (s ∷ ss) (c ∷ cs) [] a xs m = absurd a
 chosen_bottom (s ∷ ss) (c ∷ cs) (p ∷ ps) a [] m = absurd m
 chosen_bottom (s ∷ ss) (c ∷ cs) (p ∷ ps) a (x ∷ xs) m = (
-  m.0.0,
-  subst (λ d. IsBottom s.graph d) (sym m.0.1) a.0.bottom,
+  (m.0.0, subst (λ d. IsBottom s.graph d) (sym m.0.1) a.0.bottom),
   chosen_bottom ss cs ps a.1 xs m.1,
 )
 
@@ -118,14 +118,14 @@ alike exist (s ∷ ss) (c ∷ cs) (i ∷ is) (x ∷ xs) [] a w l b m r = absurd 
 alike exist (s ∷ ss) (c ∷ cs) (i ∷ is) (x ∷ xs) (y ∷ ys) a w l b m r =
     let k = exist s (Reach c) (kinds_too s Truth (Reach c) refl refl (All-head IsKinded s ss w)) in
     let hier = All-head IsHierarchy s.graph (graphs_of ss) a in
-    let f = frozen_alike s (Reach c) k.0 hier k.1 i l.0 x b.0 (y, m.0, r.0) in
+    let f = frozen_alike s (Reach c) k.0 hier k.1 i l.0 x b.0.0 (y, m.0, r.0) in
     let rest = alike exist ss cs is xs ys (All-tail IsHierarchy s.graph (graphs_of ss) a) (All-tail IsKinded s ss w) l.1
-    b.2 m.1 r.1 in
+    b.1 m.1 r.1 in
     let p : Chosen = record { bottom = category_of i x; candidates = k.0; frozen = f.0 } in
     let z = f.1.stands_for.root in
     record {
       choice = p ∷ rest.choice;
-      chosen = (record { bottom = b.1; candidates = k.1; is_one = f.1 }, rest.chosen);
+      chosen = (record { bottom = b.0.1; candidates = k.1; is_one = f.1 }, rest.chosen);
       roots = z ∷ rest.roots;
       roots_are = (f.1.stands_for.root_is, rest.roots_are);
       same = λ t. joined t (thawed s k.0 (category_of i x) f.0) z

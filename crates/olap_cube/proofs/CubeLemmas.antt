@@ -1,40 +1,23 @@
 -- Tuples of members as points: the two views of a tuple of categories agree for every fact table exactly if each
 -- fact's tuple is reached by one source.
-use Rattle.std.proofs.Common.{◌≡◌, ℕ, ◌↔◌, List, [], ◌∷◌, pos, true, refl, sym, ap, ◌∙◌}
-use Rattle.std.proofs.lemmas.List.Folds.{flat_map-map}
+use Rattle.std.proofs.Common.{◌≡◌, ℕ, ◌↔◌, List, [], ◌∷◌, true, refl}
 use Rattle.std.proofs.Math.Decide.{ℕ_discrete}
 use mathlib.Core.List.{List-discrete}
 use Rattle.olap_base.specs.Graph.{Graph}
 use Rattle.olap_base.specs.Instance.{Instance}
 use Rattle.olap_base.specs.Reaching.{reaches, reaches_is}
-use Rattle.olap_base.proofs.ListLemmas.{both_true, first_true, second_true}
-use Rattle.olap_base.proofs.RollingTotals.{Rolling, IsRolling, By, below, from_rows}
-use Rattle.olap_base.proofs.RollingLemmas.{rolling_agree, one_same, times_same, direct_of_one, merged_of_one}
+use Rattle.olap_base.proofs.ListLemmas.{first_true, second_true}
+use Rattle.olap_base.proofs.RollingTotals.{IsRolling, By}
+use Rattle.olap_base.proofs.RollingLemmas.{rolling_agree, times_same, direct_of_one, merged_of_one}
 use Rattle.olap_base.proofs.ViewLemmas.{members_of_is, via_is_by}
 use Rattle.olap_cube.specs.Tuples.{tuple_reaches, IsTupleOf, IsBottomTuple, AreLawful, TupleReachesVia, tuples_of}
-use Rattle.olap_cube.specs.CubeViews.{CubeFact, CubeRow, CubeView, cube_direct_view, cube_direct_views, cube_rows_from_views, CubeViewsAgree, CubeReachedByOne, CubesAgreeExactlyIfReachedByOne, OneCubeFactsViews, one_cube_fact}
+use Rattle.olap_cube.specs.CubeViews.{CubesAgreeExactlyIfReachedByOne, OneCubeFactsViews, tuples}
 use Rattle.olap_cube.proofs.TupleLemmas.{tuple_reaches_is, tuple_onward, tuples_of_is, is_tuple_of, Distinct-tuples_of, tuple_once}
-
--- tuples as points
-abbrev pub tuples : List Instance → Rolling (List ℕ) (List ℕ) CubeFact CubeRow
-tuples is = record {
-  at = λ f. f.members;
-  value = λ f. f.value;
-  row = λ y s. record { members = y; summary = s };
-  place = λ q. q.members;
-  sums = λ q. q.summary;
-  reach = tuple_reaches is;
-  points = tuples_of is;
-  one = λ x. record { members = x; value = pos 1 };
-}
+use Rattle.std.proofs.lemmas.Bool.{and_from}
 
 -- tuples of members are points that roll up, as those of one instance do
 pub tuples_roll : (gs : List Graph) (is : List Instance) → AreLawful gs is → IsRolling (tuples is)
 tuples_roll gs is w = record {
-  place_is = λ p s. refl;
-  sums_is = λ p s. refl;
-  at_one = λ p. refl;
-  value_one = λ p. refl;
   equal = List-discrete ℕ_discrete;
   distinct = Distinct-tuples_of is;
   once = λ c x y z k l e f. tuple_once gs is c x y z w (tuples_of_is is c y k) (tuples_of_is is c z l) e f;
@@ -61,8 +44,8 @@ through (g ∷ gs) (i ∷ is) w (c ∷ cs) (x ∷ xs) (y ∷ ys) m e (t ∷ ts) 
     let r = through gs is w.1 cs xs ys m.1 (second_true (reaches i x y) (tuple_reaches is xs ys) e) ts v.1 in (
       b.0 ∷ r.0,
       (members_of_is i t b.0 b.1, r.1),
-      both_true (reaches i x b.0) (tuple_reaches is xs r.0) b.2 r.2,
-      both_true (reaches i b.0 y) (tuple_reaches is r.0 ys) b.3 r.3,
+      and_from (reaches i x b.0) (tuple_reaches is xs r.0) b.2 r.2,
+      and_from (reaches i b.0 y) (tuple_reaches is r.0 ys) b.3 r.3,
     )
 
 -- what reaches a tuple of the source, which reaches the target's, reaches the target by way of the source
@@ -98,39 +81,21 @@ tuple_via_is_by gs is w c x y m e t = (
   λ b. place_by_place is c x y t b.0 m (tuples_of_is is t b.0 b.1) b.2 b.3,
 )
 
--- the view from views, as that of points
-cube_merged_is : (is : List Instance) (c : List ℕ) (facts : List CubeFact) (sources : List (List ℕ))
-    → cube_rows_from_views is c (cube_direct_views is facts sources)
-    ≡ from_rows (tuples is) c (below (tuples is) sources facts)
-cube_merged_is is c facts sources =
-    ap (from_rows (tuples is) c) (flat_map-map (λ (v : CubeView). v.rows) (cube_direct_view is facts) sources)
-
 -- the theorem, as that of points
 pub cubes_agree_exactly : CubesAgreeExactlyIfReachedByOne
-cubes_agree_exactly gs is c sources w = (to, from)
-  where
-    to : CubeViewsAgree gs is c sources → CubeReachedByOne gs is c sources
-    to h x b y m q = let e : tuple_reaches is x y ≡ true = (tuple_reaches_is is x y).1 q in
-        one_same (λ t. By (tuples is) x t y) (λ t. TupleReachesVia is x t c)
-        (λ t. let v = tuple_via_is_by gs is w c x y m e t in (v.1, v.0)) sources
-        ((rolling_agree (tuples is) (tuples_roll gs is w) (IsBottomTuple gs is) c sources).0
-        (λ facts t. h facts t ∙ cube_merged_is is c facts sources) x b y (is_tuple_of is c y m) e)
-
-    from : CubeReachedByOne gs is c sources → CubeViewsAgree gs is c sources
-    from h facts t = (rolling_agree (tuples is) (tuples_roll gs is w) (IsBottomTuple gs is) c sources).1
-        (λ x b y k e. let m = tuples_of_is is c y k in
-        one_same (λ t. TupleReachesVia is x t c) (λ t. By (tuples is) x t y) (tuple_via_is_by gs is w c x y m e) sources
-        (h x b y m ((tuple_reaches_is is x y).0 e)))
-        facts t
-        ∙ sym (cube_merged_is is c facts sources)
+cubes_agree_exactly gs is c sources w =
+    let r = rolling_agree (tuples is) (tuples_roll gs is w) (IsBottomTuple gs is) (λ x t. TupleReachesVia is x t c) c
+    (λ x y k e. tuple_via_is_by gs is w c x y (tuples_of_is is c y k) e) sources in (
+      λ h x b y m q. r.0 h x b y (is_tuple_of is c y m) ((tuple_reaches_is is x y).1 q),
+      λ h. r.1 (λ x b y k e. h x b y (tuples_of_is is c y k) ((tuple_reaches_is is x y).0 e)),
+    )
 
 -- the theorem, as that of points
 pub one_cube_facts_views : OneCubeFactsViews
 one_cube_facts_views gs is w c x y m r sources n h =
     let e = (tuple_reaches_is is x y).1 r in let k = is_tuple_of is c y m in let roll = tuples_roll gs is w in (
       direct_of_one (tuples is) roll c x y k e,
-      cube_merged_is is c (one_cube_fact x) sources
-          ∙ merged_of_one (tuples is) roll c x y k e sources n
+      merged_of_one (tuples is) roll c x y k e sources n
           (times_same (λ t. TupleReachesVia is x t c) (λ t. By (tuples is) x t y) (tuple_via_is_by gs is w c x y m e)
           sources n h),
     )

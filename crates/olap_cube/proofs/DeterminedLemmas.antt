@@ -1,24 +1,15 @@
 -- There is one counterexample at most, whichever candidates are taken.
-use Rattle.std.proofs.Common.{◌≡◌, ℕ, List, [], ◌∷◌, ◌++◌, Bool, true, false, cond, length, map, refl, sym, ap, ◌∙◌, inl, inr, arith}
+use Rattle.std.proofs.Common.{◌≡◌, ℕ, List, [], ◌∷◌, ◌++◌, Bool, cond, length, map, refl, sym, ap, ◌∙◌, arith}
 use Rattle.olap_ast.specs.Formula.{Formula.Reach}
 use Rattle.olap_ast.specs.Frozen.{AreOneFrozenDimension, code, name_in, root_place, thawed}
 use Rattle.olap_ast.specs.Schema.{Schema}
-use Rattle.olap_base.specs.Ranks.{IsNotAfter}
 use Rattle.olap_ast.proofs.Determined.{same_name, same_thawed}
 use Rattle.olap_cube.proofs.RankLemmas.{to_least}
 use Rattle.olap_cube.specs.Codes.{AreNotAfter, codes_of}
 use Rattle.olap_cube.specs.Tuples.{AllZip3}
 use Rattle.olap_cube.specs.CubeSummarizable.{AreOneChoice, Chosen, IsChosen, TheCubeCounterexampleIsOne, bottoms_of}
-
--- of two lists neither comes after the other only if they are equal
-not_after_both : (xs ys : List ℕ) → IsNotAfter xs ys → IsNotAfter ys xs → xs ≡ ys
-not_after_both [] [] a b = refl
-not_after_both [] (y ∷ ys) a b = absurd b
-not_after_both (x ∷ xs) [] a b = absurd a
-not_after_both (x ∷ xs) (y ∷ ys) (inl l) (inl m) = absurd (omega arith)
-not_after_both (x ∷ xs) (y ∷ ys) (inl l) (inr m) = let e = m.0 in absurd (omega arith)
-not_after_both (x ∷ xs) (y ∷ ys) (inr l) (inl m) = let e = l.0 in absurd (omega arith)
-not_after_both (x ∷ xs) (y ∷ ys) (inr l) (inr m) = let e = l.0 in let q = not_after_both xs ys l.1 m.1 in cc
+use Rattle.olap_ast.proofs.Uniqueness.{same_bit}
+use Rattle.olap_base.proofs.RankLemmas.{not_after_both}
 
 -- codes that are not after each other are the same
 are_not_after_both : (xs ys : List (List ℕ)) → AreNotAfter xs ys → AreNotAfter ys xs → xs ≡ ys
@@ -43,13 +34,6 @@ tail_of (x ∷ xs) = xs
 -- the edges as a code
 abbrev bits : List Bool → List ℕ
 bits bs = map (λ b. cond b 1 0) bs
-
--- equal bits, equal truth values
-same_bit : (a b : Bool) → ◌≡◌ {A = ℕ} (cond a 1 0) (cond b 1 0) → a ≡ b
-same_bit true true e = refl
-same_bit true false e = absurd (omega arith)
-same_bit false true e = absurd (omega arith)
-same_bit false false e = refl
 
 -- equal codes have equal bits and equal indexes
 pub same_parts : (a b : List Bool) (m n : List ℕ) → length a ≡ length b → bits a ++ m ≡ bits b ++ n → (a ≡ b) × (m ≡ n)

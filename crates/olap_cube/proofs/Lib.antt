@@ -4,5 +4,5 @@ pub mod CubeLemmas
 pub mod ChoiceLemmas
 pub mod DeterminedLemmas
 pub mod RankLemmas
-mod SumLemmas
+pub mod SumLemmas
 mod OneDimensionLemmas

@@ -1,12 +1,13 @@
 -- A cube of one dimension is its dimension.
-use Rattle.std.proofs.Common.{◌≡◌, ℕ, ◌<◌, ◌⊎◌, ◌↔◌, List, [], ◌∷◌, map, refl, sym, ap, subst, ◌∙◌, inl, inr, arith}
+use Rattle.std.proofs.Common.{◌≡◌, ℕ, ◌<◌, ◌↔◌, List, [], ◌∷◌, map, refl, sym, ap, subst, ◌∙◌, inl, inr, arith}
 use Rattle.std.specs.List.{AllZip}
 use Rattle.olap_base.specs.Graph.{IsBottom}
 use Rattle.olap_base.specs.Instance.{Instance, IsMemberOf, ReachesVia}
 use Rattle.olap_base.specs.Above.{HasOneMemberEach}
-use Rattle.olap_base.specs.Views.{ExactlyOne, NoneOf}
+use Rattle.olap_base.specs.Views.{ExactlyOne, NoneOf, ViewsAgree}
 use Rattle.olap_base.proofs.ViewLemmas.{agree_exactly}
-use Rattle.olap_ast.specs.Formula.{Formula, Formula.Reach, comparisons, equalities}
+use Rattle.olap_ast.specs.Atoms.{comparisons, equalities}
+use Rattle.olap_ast.specs.Formula.{Formula, Formula.Reach}
 use Rattle.olap_ast.specs.Frozen.{AreCandidates, Candidates, Frozen, IsFrozen, IsFrozenInstance, code, thawed}
 use Rattle.olap_ast.specs.Schema.{Schema, IsLegal}
 use Rattle.olap_ast.specs.Summarizable.{IsCounterexample, IsSummarizable, not_by_one}
@@ -16,11 +17,12 @@ use Rattle.olap_ast.proofs.SameAtoms.{candidates_too, frozen_too}
 use Rattle.olap_ast.proofs.SourceLemmas.{question_free, question_numberless}
 use Rattle.olap_ast.proofs.Summing.{one_of}
 use Rattle.olap_cube.specs.Tuples.{IsBottomTuple, IsTupleOf, TupleReaches, TupleReachesVia}
-use Rattle.olap_cube.specs.CubeViews.{CubeViewsAgree}
+use Rattle.olap_cube.specs.CubeViews.{IsCubeFactTable, tuples}
 use Rattle.olap_cube.specs.Codes.{AreNotAfter, IsLeastChoice, codes_of}
 use Rattle.olap_cube.specs.CubeSummarizable.{Chosen, CounterexamplesOfOneDimension, CubesOfOneDimension, IsBadChoice, IsCubeSummarizable, bottoms_of}
 use Rattle.olap_cube.proofs.CubeLemmas.{cubes_agree_exactly}
 use Rattle.olap_cube.proofs.RankLemmas.{from_least, to_least}
+use Rattle.olap_base.proofs.GeneralLemmas.{less_equal_greater}
 
 -- each as a tuple of one
 abbrev alone : List ℕ → List (List ℕ)
@@ -49,13 +51,13 @@ cubes_of_one_dimension s c sources = (to, from)
     to h i l = (agree_exactly s.graph i c sources l.is_instance l.lawful).1
         (λ x m b r. (one_alone i x c sources).0
         ((cubes_agree_exactly (s.graph ∷ []) (i ∷ []) (c ∷ []) (alone sources) (l.lawful, tt)).0 (h (i ∷ []) (l, tt))
-        (x ∷ []) (m, b, tt) (r.0 ∷ []) (r.1, tt) (r.2, tt)))
+        (x ∷ []) ((m, b), tt) (r.0 ∷ []) (r.1, tt) (r.2, tt)))
 
     from : IsSummarizable s c sources → IsCubeSummarizable (s ∷ []) (c ∷ []) (alone sources)
     from h is l = go is l
       where
         go : (is : List Instance) → AllZip IsLegal (s ∷ []) is
-            → CubeViewsAgree (s.graph ∷ []) is (c ∷ []) (alone sources)
+            → ViewsAgree (IsCubeFactTable (s.graph ∷ []) is) (tuples is) (c ∷ []) (alone sources)
         go [] l = absurd l
         go (i ∷ j ∷ is) l = absurd l.1
         go (i ∷ []) l =
@@ -65,17 +67,13 @@ cubes_of_one_dimension s c sources = (to, from)
                 → IsTupleOf (i ∷ []) (c ∷ []) y → TupleReaches (i ∷ []) x y
                 → ExactlyOne (λ t. TupleReachesVia (i ∷ []) x t (c ∷ [])) (alone sources)
             one [] b y m r = absurd b
-            one (x ∷ z ∷ zs) b y m r = absurd b.2
+            one (x ∷ z ∷ zs) b y m r = absurd b.1
             one (x ∷ []) b [] m r = absurd m
             one (x ∷ []) b (y ∷ z ∷ zs) m r = absurd m.1
             one (x ∷ []) b (y ∷ []) m r = (one_alone i x c sources).1
-                ((agree_exactly s.graph i c sources l.0.is_instance l.0.lawful).0 (h i l.0) x b.0 b.1 (y, m.0, r.0))
+                ((agree_exactly s.graph i c sources l.0.is_instance l.0.lawful).0 (h i l.0) x b.0.0 b.0.1 (y, m.0, r.0))
 
 -- ---- counterexamples
-
--- of two numbers one is less, or they are equal
-order : (m n : ℕ) → (m < n) ⊎ ((m ≡ n) ⊎ (n < m))
-order m n = grind arith
 
 -- the one member of the root's category
 alone_root : (i : Instance) → HasOneMemberEach i → (b r : ℕ) → IsMemberOf i b r → (roots : List ℕ)
@@ -175,7 +173,7 @@ module _ (s : Schema) (c : ℕ) (sources : List ℕ) where
       first : (other : List Chosen) → Bad other → IsNotAfter (p.bottom ∷ []) (bottoms_of other)
       first [] b = absurd b.chosen
       first (o ∷ r ∷ rest) b = absurd b.chosen.1
-      first (o ∷ []) b = elim (order p.bottom o.bottom) [
+      first (o ∷ []) b = elim (less_equal_greater p.bottom o.bottom) [
         | inl l ↦ inl l
         | inr m ↦ elim m [
           | inl e ↦ inr (e, tt)

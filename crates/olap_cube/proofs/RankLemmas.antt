@@ -60,7 +60,7 @@ bottom_lengths (s ∷ ss) (c ∷ cs) [] qs a b = absurd a
 bottom_lengths (s ∷ ss) (c ∷ cs) (p ∷ ps) [] a b = absurd b
 bottom_lengths (s ∷ ss) (c ∷ cs) (p ∷ ps) (q ∷ qs) a b = ap suc (bottom_lengths ss cs ps qs a.1 b.1)
 
--- their codes, one behind the other, are in the order of the lists of codes
+-- their codes, one after the other, are in the order of the lists of codes
 to_codes : (ss : List Schema) (cs : List ℕ) (ps qs : List Chosen) → AllZip3 IsChosen ss cs ps
     → AllZip3 IsChosen ss cs qs
     → IsNotAfter (flat_map (λ p. code p.frozen) ps) (flat_map (λ p. code p.frozen) qs)

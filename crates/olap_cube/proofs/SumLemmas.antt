@@ -6,12 +6,12 @@ use Rattle.std.proofs.Math.Decide.{ℕ_discrete}
 use Rattle.olap_base.specs.Deciding.{contains_cases}
 use Rattle.olap_base.specs.Instance.{Instance}
 use Rattle.olap_base.specs.OneFact.{HoldsTimes, ones}
-use Rattle.olap_base.specs.Views.{ExactlyOne, NoneOf}
+use Rattle.olap_base.specs.Views.{ExactlyOne, Fact, NoneOf, direct_views, one_fact, only_sum, row_at, rows_from_views}
 use Rattle.olap_base.proofs.ListLemmas.{Contains-nil}
 use Rattle.olap_ast.specs.Schema.{Schema}
 use Rattle.olap_cube.specs.Tuples.{IsBottomTuple, TupleReachesVia}
-use Rattle.olap_cube.specs.CubeViews.{CubeFact, IsCubeFactTable, cube_direct_views, cube_row_at, cube_rows_from_views, one_cube_fact}
-use Rattle.olap_cube.specs.CubeSummarizable.{BadChoicesHaveTwoSums, Chosen, HasTwoCubeSums, IsBadChoice, graphs_of, instances_of, only_cube_sum}
+use Rattle.olap_cube.specs.CubeViews.{IsCubeFactTable, tuples}
+use Rattle.olap_cube.specs.CubeSummarizable.{BadChoicesHaveTwoSums, Chosen, HasTwoCubeSums, IsBadChoice, graphs_of, instances_of}
 use Rattle.olap_cube.proofs.CubeLemmas.{one_cube_facts_views}
 use Rattle.olap_cube.proofs.ChoiceLemmas.{chosen_bottom, chosen_legal, chosen_up, dec_tuple_via, lawful_from_legal}
 
@@ -39,11 +39,11 @@ one_time P (x ∷ xs) n e (inl t) = let z : suc t.1 ≡ suc 0 = sym t.2 ∙ e in
 one_time P (x ∷ xs) n e (inr t) = inr (t.0, one_time P xs n e t.1)
 
 -- no ones have no SUM
-no_ones : (y : List ℕ) (n : ℕ) → n ≡ 0 → only_cube_sum (cons_option (cube_row_at y (ones n)) []) ≡ None
-no_ones y n e = subst (λ w. only_cube_sum (cons_option (cube_row_at y (ones w)) []) ≡ None) (sym e) refl
+pub no_ones : (y : List ℕ) (n : ℕ) → n ≡ 0 → only_sum (cons_option (row_at y (ones n)) []) ≡ None
+no_ones y n e = subst (λ w. only_sum (cons_option (row_at y (ones w)) []) ≡ None) (sym e) refl
 
 -- n ones have the SUM n
-some_ones : (y : List ℕ) (n : ℕ) → n ≢ 0 → only_cube_sum (cons_option (cube_row_at y (ones n)) []) ≡ Some (pos n)
+pub some_ones : (y : List ℕ) (n : ℕ) → n ≢ 0 → only_sum (cons_option (row_at y (ones n)) []) ≡ Some (pos n)
 some_ones y zero z = absurd (z refl)
 some_ones y (suc n) z = refl
 
@@ -54,9 +54,9 @@ module _ (schemas : List Schema) (c : List ℕ) (sources : List (List ℕ)) (cho
   abbrev is : List Instance
   is = instances_of schemas choice
 
-  facts : IsCubeFactTable (graphs_of schemas) is (one_cube_fact b.roots)
-  facts fact h = elim (contains_cases fact (record { members = b.roots; value = pos 1 }) [] h) [
-    | inl e ↦ subst (λ (f : CubeFact). IsBottomTuple (graphs_of schemas) is f.members) e
+  facts : IsCubeFactTable (graphs_of schemas) is (one_fact b.roots)
+  facts fact h = elim (contains_cases fact (record { at = b.roots; value = pos 1 }) [] h) [
+    | inl e ↦ subst (λ (f : Fact (List ℕ)). IsBottomTuple (graphs_of schemas) is f.at) e
         (chosen_bottom schemas c choice b.chosen b.roots b.roots_are)
     | inr n ↦ absurd (Contains-nil fact n)
   ]
@@ -71,16 +71,16 @@ module _ (schemas : List Schema) (c : List ℕ) (sources : List (List ℕ)) (cho
       record {
         legal = l;
         facts = facts;
-        direct = ap only_cube_sum views.0;
+        direct = ap only_sum views.0;
         views = differs up.0 ways.0
             (λ e. b.bad (one_time (λ t. TupleReachesVia is b.roots t c) sources ways.0 e ways.1))
-            (ap only_cube_sum views.1);
+            (ap only_sum views.1);
       }
     where
       differs : (y : List ℕ) (n : ℕ) → n ≢ 1
-          → only_cube_sum (cube_rows_from_views is c (cube_direct_views is (one_cube_fact b.roots) sources))
-          ≡ only_cube_sum (cons_option (cube_row_at y (ones n)) [])
-          → only_cube_sum (cube_rows_from_views is c (cube_direct_views is (one_cube_fact b.roots) sources))
+          → only_sum (rows_from_views (tuples is) c (direct_views (tuples is) (one_fact b.roots) sources))
+          ≡ only_sum (cons_option (row_at y (ones n)) [])
+          → only_sum (rows_from_views (tuples is) c (direct_views (tuples is) (one_fact b.roots) sources))
           ≡ Some (pos 1)
           → ⊥
       differs y n other told e = elim (ℕ_discrete n 0) [

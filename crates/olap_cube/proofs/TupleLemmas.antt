@@ -1,15 +1,16 @@
 -- Tuples of members: what is so of members is so of tuples, place by place.
 use Rattle.std.proofs.Common.{◌≡◌, ℕ, ◌↔◌, List, [], ◌∷◌, ◌++◌, map, true, refl, sym, ap, subst, ◌∙◌, inl, inr, arith}
 use Rattle.std.specs.Prelude.{Contains, flat_map, IsTrue}
-use Rattle.std.proofs.lemmas.List.Elements.{Contains-append_left, Contains-append_right, Contains-append_cases}
+use Rattle.std.proofs.lemmas.List.Elements.{Contains-append_cases}
 use Rattle.olap_base.specs.Graph.{Graph}
 use Rattle.olap_base.specs.Instance.{Instance}
 use Rattle.olap_base.specs.Reaching.{reaches, reaches_is}
 use Rattle.olap_base.specs.Views.{members_of}
 use Rattle.olap_base.specs.Deciding.{contains_cons, contains_cases}
-use Rattle.olap_base.proofs.ListLemmas.{Contains-nil, Contains-map, Contains-from_map, Distinct, Distinct-map, both_true, first_true, second_true}
+use Rattle.olap_base.proofs.ListLemmas.{Contains-nil, Contains-map, Contains-from_map, Distinct, Distinct-map, first_true, second_true, Contains-flat_map}
 use Rattle.olap_base.proofs.ViewLemmas.{members_of_is, is_member_of, Distinct-members_of, members_once, members_onward}
 use Rattle.olap_cube.specs.Tuples.{TupleReaches, tuple_reaches, IsTupleOf, AreLawful, tuples_of}
+use Rattle.std.proofs.lemmas.Bool.{and_from}
 
 -- ---- reaching
 
@@ -25,7 +26,7 @@ tuple_reaches_is (i ∷ is) (x ∷ xs) (y ∷ ys) = let r = tuple_reaches_is is 
     (reaches_is i x y).0 (first_true (reaches i x y) (tuple_reaches is xs ys) e),
     r.0 (second_true (reaches i x y) (tuple_reaches is xs ys) e),
   ),
-  λ t. both_true (reaches i x y) (tuple_reaches is xs ys) ((reaches_is i x y).1 t.0) (r.1 t.1),
+  λ t. and_from (reaches i x y) (tuple_reaches is xs ys) ((reaches_is i x y).1 t.0) (r.1 t.1),
 )
 
 -- what a tuple reaches reaches on
@@ -39,22 +40,13 @@ tuple_onward (i ∷ is) [] ys zs e f = absurd (cc)
 tuple_onward (i ∷ is) (x ∷ xs) [] zs e f = absurd (cc)
 tuple_onward (i ∷ is) (x ∷ xs) (y ∷ ys) [] e f = absurd (cc)
 tuple_onward (i ∷ is) (x ∷ xs) (y ∷ ys) (z ∷ zs) e f =
-    both_true (reaches i x z) (tuple_reaches is xs zs)
+    and_from (reaches i x z) (tuple_reaches is xs zs)
     (members_onward i x y z (first_true (reaches i x y) (tuple_reaches is xs ys) e)
     (first_true (reaches i y z) (tuple_reaches is ys zs) f))
     (tuple_onward is xs ys zs (second_true (reaches i x y) (tuple_reaches is xs ys) e)
     (second_true (reaches i y z) (tuple_reaches is ys zs) f))
 
 -- ---- the tuples of some categories
-
--- what is in one of the lists is in all together
-Contains-flat_map : {A B : Type 0} (f : A → List B) (xs : List A) (x : A) (y : B) → Contains xs x → Contains (f x) y
-    → Contains (flat_map f xs) y
-Contains-flat_map f [] x y c d = absurd (Contains-nil x c)
-Contains-flat_map f (z ∷ zs) x y c d = elim (contains_cases x z zs c) [
-  | inl e ↦ Contains-append_left (f z) (flat_map f zs) y (subst (λ w. Contains (f w) y) (sym e) d)
-  | inr h ↦ Contains-append_right (f z) (flat_map f zs) y (Contains-flat_map f zs x y h d)
-]
 
 -- what is in all together is in one of the lists
 Contains-from_flat_map : {A B : Type 0} (f : A → List B) (xs : List A) (y : B) → Contains (flat_map f xs) y

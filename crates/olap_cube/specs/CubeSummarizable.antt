@@ -8,7 +8,7 @@ use Rattle.std.specs.Prelude.{◌≡◌, ℕ, List, [], ◌∷◌, ◌++◌, ℤ
 use Rattle.std.specs.List.{AllZip}
 use Rattle.olap_base.specs.Graph.{Graph, IsBottom, IsHierarchy}
 use Rattle.olap_base.specs.Instance.{Instance}
-use Rattle.olap_base.specs.Views.{ExactlyOne}
+use Rattle.olap_base.specs.Views.{ExactlyOne, ViewsAgree, direct_rows, direct_views, one_fact, only_sum, rows_from_views}
 use Rattle.olap_ast.specs.Constants.{HasKinds}
 use Rattle.olap_ast.specs.Formula.{Formula.Reach, Formula.Truth}
 use Rattle.olap_ast.specs.Frozen.{AreCandidates, AreOneFrozenDimension, Candidates, Frozen, IsFrozen, code, thawed}
@@ -16,7 +16,7 @@ use Rattle.olap_ast.specs.Schema.{Schema, IsLegal}
 use Rattle.olap_ast.specs.Summarizable.{IsCounterexample, IsSummarizable}
 use Rattle.olap_base.specs.Ranks.{IsFirst}
 use Rattle.olap_cube.specs.Tuples.{AllZip3, IsTupleOf, TupleReachesVia}
-use Rattle.olap_cube.specs.CubeViews.{CubeRow, CubeViewsAgree, IsCubeFactTable, cube_direct_rows, cube_direct_views, cube_rows_from_views, one_cube_fact}
+use Rattle.olap_cube.specs.CubeViews.{IsCubeFactTable, tuples}
 
 -- the graph of each schema
 abbrev pub graphs_of : List Schema → List Graph
@@ -25,8 +25,8 @@ graphs_of schemas = map (λ s. s.graph) schemas
 -- for every choice of one legal instance for each schema, and every fact table, the view of c from the sources' direct
 -- views is the direct view of c
 abbrev pub IsCubeSummarizable : List Schema → List ℕ → List (List ℕ) → Type 0
-IsCubeSummarizable schemas c sources =
-    (is : List Instance) → AllZip IsLegal schemas is → CubeViewsAgree (graphs_of schemas) is c sources
+IsCubeSummarizable schemas c sources = (is : List Instance) → AllZip IsLegal schemas is →
+    ViewsAgree (IsCubeFactTable (graphs_of schemas) is) (tuples is) c sources
 
 -- ---- choices
 
@@ -95,19 +95,14 @@ TheCubeCounterexampleIsOne = (schemas : List Schema) (c : List ℕ) (sources : L
 
 -- ---- the sums of a bad choice
 
--- the SUM of a view of a tuple of categories that has at most one tuple of members
-abbrev pub only_cube_sum : List CubeRow → Option ℤ
-only_cube_sum [] = None
-only_cube_sum (r ∷ rows) = Some r.summary.sum
-
 -- the instances are legal, one fact of value 1 at x is a fact table on them, and its two SUMs differ
 pub record HasTwoCubeSums (schemas : List Schema) (is : List Instance) (c x : List ℕ) (sources : List (List ℕ)) :
     Type 0 where
   pub legal : AllZip IsLegal schemas is
-  pub facts : IsCubeFactTable (graphs_of schemas) is (one_cube_fact x)
-  pub direct : only_cube_sum (cube_direct_rows is c (one_cube_fact x)) ≡ Some (pos 1)
+  pub facts : IsCubeFactTable (graphs_of schemas) is (one_fact x)
+  pub direct : only_sum (direct_rows (tuples is) c (one_fact x)) ≡ Some (pos 1)
   pub views :
-      only_cube_sum (cube_rows_from_views is c (cube_direct_views is (one_cube_fact x) sources)) ≡ Some (pos 1) → ⊥
+      only_sum (rows_from_views (tuples is) c (direct_views (tuples is) (one_fact x) sources)) ≡ Some (pos 1) → ⊥
 
 -- the fact of value 1 at the roots of a bad choice has two SUMs
 abbrev pub BadChoicesHaveTwoSums : Type 0

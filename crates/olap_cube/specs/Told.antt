@@ -1,4 +1,4 @@
--- The lists of numbers behind the program's tuples of categories.
+-- The lists of numbers that the program's tuples of categories stand for.
 --     tuple_of     the numbers of a tuple's categories
 --     tuples_in    those of each tuple of a list
 use Rattle.std.specs.Prelude.{ℕ, List, map}

@@ -39,9 +39,7 @@ IsTupleOf is c y = AllZip3 IsMemberOf is c y
 
 -- each is a member of a bottom category
 abbrev pub IsBottomTuple : List Graph → List Instance → List ℕ → Type 0
-IsBottomTuple [] [] [] = Unit {0}
-IsBottomTuple (g ∷ gs) (i ∷ is) (x ∷ xs) = IsMember i x × IsBottom g (category_of i x) × IsBottomTuple gs is xs
-IsBottomTuple _ _ _ = ⊥
+IsBottomTuple gs is xs = AllZip3 (λ g i x. IsMember i x × IsBottom g (category_of i x)) gs is xs
 
 -- each member reaches one of its source's category that reaches one of its target's
 abbrev pub TupleReachesVia : List Instance → List ℕ → List ℕ → List ℕ → Type 0

@@ -26,7 +26,7 @@ use Rattle.olap_cube_summ.proofs.DimensionLemmas.{are_dimensions, families_are, 
 use Rattle.olap_cube_summ.proofs.PatternLemmas.{has_all, same_itself}
 
 -- families of some dimensions can be bad, then so can their unions
-by_unions : (n : ℕ) (ds : List (List Family)) (us : List (CatSet 4)) → AreUnions ds us → (xs : List Family)
+pub by_unions : (n : ℕ) (ds : List (List Family)) (us : List (CatSet 4)) → AreUnions ds us → (xs : List Family)
     → AreOf ds xs → (m : ℕ) → CanBeBad n (patterns_of xs) m → CanBeBad n us m
 by_unions n [] [] u [] a m b = b
 by_unions n [] [] u (x ∷ xs) a m b = absurd a

@@ -8,27 +8,9 @@ use Rattle.olap_base.specs.Views.{ExactlyOne, NoneOf}
 
 -- ---- decisions
 
--- whether two are equivalent can be decided
-pub dec_both : {A B : Type 0} → Dec A → Dec B → Dec (A ↔ B)
-dec_both (yes a) (yes b) = yes (λ x. b, λ y. a)
-dec_both (yes a) (no m) = no (λ e. m (e.0 a))
-dec_both (no n) (yes b) = no (λ e. n (e.1 b))
-dec_both (no n) (no m) = yes (λ a. absurd (n a), λ b. absurd (m b))
-
 -- below k + 1 it is k, or below k
 pub below_suc : (j k : ℕ) → j < suc k → (j < k) ⊎ (j ≡ k)
 below_suc j k h = grind arith
-
--- whether P holds of all numbers below n
-pub dec_below : (P : ℕ → Type 0) → ((k : ℕ) → Dec (P k)) → (n : ℕ) → Dec ((k : ℕ) → k < n → P k)
-dec_below P d zero = yes (λ k l. absurd (omega arith))
-dec_below P d (suc n) = go (d n) (dec_below P d n)
-  where
-    go : Dec (P n) → Dec ((k : ℕ) → k < n → P k) → Dec ((k : ℕ) → k < suc n → P k)
-    go (yes p) (yes h) =
-        yes (λ k l. elim (below_suc k n l) [ inl m ↦ h k m | inr e ↦ subst P (sym e) p ])
-    go (no f) h = no (λ g. f (g n (omega arith)))
-    go (yes p) (no f) = no (λ g. f (λ k l. g k (omega arith)))
 
 -- whether a number is less can be decided
 pub dec_less : (m n : ℕ) → Dec (m < n)

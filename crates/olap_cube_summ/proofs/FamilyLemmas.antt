@@ -1,19 +1,19 @@
 -- The families of the first bottom categories, dimension by dimension.
-use Rattle.std.proofs.Common.{◌≡◌, ℕ, zero, suc, ◌+◌, ◌-◌, ◌<◌, ◌≤◌, ◌⊎◌, ◌↔◌, ◌++◌, List, [], ◌∷◌, length, map, get_or, take, drop, drop-cons, refl, ap, sym, subst, ◌∙◌, inl, inr, arith}
+use Rattle.std.proofs.Common.{◌≡◌, ℕ, zero, suc, ◌+◌, ◌-◌, ◌<◌, ◌≤◌, ◌⊎◌, ◌↔◌, ◌++◌, List, [], ◌∷◌, length, get_or, take, drop, drop-cons, refl, ap, sym, subst, ◌∙◌, inl, inr, arith}
 use Rattle.std.specs.Prelude.{All, Contains}
 use Rattle.std.proofs.lemmas.List.Elements.{All-head, All-tail}
 use Rattle.std.specs.Int.Bits.{bit_and}
 use Rattle.std.proofs.lemmas.List.{length-drop}
 use Rattle.std.proofs.Math.Seq.{take-length}
-use Rattle.olap_base.specs.Deciding.{contains_cases, contains_cons}
-use Rattle.olap_base.proofs.ListLemmas.{Contains-nil}
+use Rattle.olap_base.proofs.ListLemmas.{get_or_inside}
 use Rattle.olap_base.specs.Ranks.{IsNotAfter}
 use Rattle.olap_bits.specs.declared.sets.CatSet.{CatSet}
 use Rattle.olap_cube_summ.specs.Masks.{CanBeBad, IsIn, all_of}
-use Rattle.olap_cube_summ.specs.Families.{AreBad, AreFirst, AreOf, AreUnions, IsOrdered, IsUnion, bottoms_of, patterns_of}
+use Rattle.olap_cube_summ.specs.Families.{AreFirst, AreOf, AreUnions, IsOrdered, IsUnion, bottoms_of, patterns_of}
 use Rattle.olap_cube_summ.specs.declared.families.Family.{Family}
-use Rattle.olap_cube_summ.proofs.MaskLemmas.{below_next}
 use Rattle.olap_cube_summ.proofs.LeastLemmas.{CanEnd, Ends, Greedy, NotAfter, greedy_ends, greedy_least}
+use Rattle.olap_cube_summ.proofs.AnswerLemmas.{by_unions}
+use Rattle.olap_base.proofs.GeneralLemmas.{below_or_same}
 
 -- ---- sets in the place of others
 
@@ -22,7 +22,7 @@ wider : (n : ℕ) (s t : CatSet 4) → ((p : ℕ) → IsIn s p → IsIn t p) →
     → CanBeBad n (s ∷ rest) m → CanBeBad n (t ∷ rest) m
 wider n s t h rest m b = (b.0, h b.0 b.1, b.2)
 
--- if sets are bad wherever others are, they are so behind the same sets
+-- if sets are bad wherever others are, they are so after the same sets
 under : (n : ℕ) (done a b : List (CatSet 4)) → ((m : ℕ) → CanBeBad n a m → CanBeBad n b m) → (m : ℕ)
     → CanBeBad n (done ++ a) m → CanBeBad n (done ++ b) m
 under n [] a b h m t = h m t
@@ -36,23 +36,6 @@ one_of_union n families u is [] rest m b = let t = (is b.0).0 b.1 in (t.0, t.1, 
 one_of_union n families u is (d ∷ done) rest m b =
     let t = one_of_union n families u is done rest (bit_and m b.0) b.2 in (t.0, t.1, (b.0, b.1, t.2))
 
--- by families of some dimensions, then by their unions
-by_unions : (n : ℕ) (ds : List (List Family)) (us : List (CatSet 4)) → AreUnions ds us → (xs : List Family)
-    → AreOf ds xs → (m : ℕ) → CanBeBad n (patterns_of xs) m → CanBeBad n us m
-by_unions n [] [] u [] a m b = b
-by_unions n [] [] u (x ∷ xs) a m b = absurd a
-by_unions n [] (s ∷ us) u xs a m b = absurd u
-by_unions n (d ∷ ds) [] u xs a m b = absurd u
-by_unions n (d ∷ ds) (s ∷ us) u [] a m b = absurd a
-by_unions n (d ∷ ds) (s ∷ us) u (x ∷ xs) a m b =
-    (b.0, (u.0 b.0).1 (x, a.0, b.1), by_unions n ds us u.1 xs a.1 (bit_and m b.0) b.2)
-
--- an item doesn't depend on what would stand where there is none
-same_item : {A : Type 0} (xs : List A) (k : ℕ) (d e : A) → k < length xs → get_or xs k d ≡ get_or xs k e
-same_item [] k d e l = absurd (omega arith)
-same_item (x ∷ xs) zero d e l = refl
-same_item (x ∷ xs) (suc k) d e l = same_item xs k d e (let z : suc k < suc (length xs) = l in omega arith)
-
 -- of ordered families one has a bottom category
 same_by_bottom : (d : List Family) (x y : Family) → IsOrdered d → Contains d x → Contains d y
     → x.bottom.0 ≡ y.bottom.0 → x ≡ y
@@ -63,12 +46,12 @@ same_by_bottom d x y ordered c e q = go (which c.0 e.0)
 
     before : (a b : Family) (j k : ℕ) → j < k → k < length d → get_or d j a ≡ a → get_or d k b ≡ b → j < length d
         → a.bottom.0 < b.bottom.0
-    before a b j k l m f g o = subst (λ (w : Family). w.bottom.0 < b.bottom.0) (same_item d j b a o ∙ f)
+    before a b j k l m f g o = subst (λ (w : Family). w.bottom.0 < b.bottom.0) (get_or_inside d j b a o ∙ f)
         (subst (λ (w : Family). (get_or d j b).bottom.0 < w.bottom.0) g (ordered j k b l m))
 
     go : (c.0 < e.0) ⊎ ((c.0 ≡ e.0) ⊎ (e.0 < c.0)) → x ≡ y
     go (inl l) = let o = before x y c.0 e.0 l e.1 c.2 e.2 c.1 in absurd (omega arith)
-    go (inr (inl l)) = sym c.2 ∙ ap (λ w. get_or d w x) l ∙ same_item d e.0 x y e.1 ∙ e.2
+    go (inr (inl l)) = sym c.2 ∙ ap (λ w. get_or d w x) l ∙ get_or_inside d e.0 x y e.1 ∙ e.2
     go (inr (inr l)) = let o = before y x e.0 c.0 l c.1 e.2 c.2 e.1 in absurd (omega arith)
 
 -- the first k families have the patterns of a set
@@ -194,7 +177,7 @@ first_by_order P families k x ordered l e none f c p = go (which c.0 k)
     which j k = grind arith
 
     at_k : get_or families k f ≡ x
-    at_k = same_item families k f x l ∙ sym e
+    at_k = get_or_inside families k f x l ∙ sym e
 
     go : (c.0 < k) ⊎ ((c.0 ≡ k) ⊎ (k < c.0)) → x.bottom.0 ≤ f.bottom.0
     go (inl a) = absurd (none c.0 f a c.2 p)
@@ -213,14 +196,14 @@ union_next families k all next x l e u h p = (
     | inl a ↦ let t = (h p).0 a in (t.0, t.1, (let m = t.2 in omega arith), t.3, t.4)
     | inr a ↦ (x, k, omega arith, sym e, a)
   ],
-  λ t. (u p).1 (elim (below_next t.1 k t.2) [
+  λ t. (u p).1 (elim (below_or_same t.1 k t.2) [
     | inl m ↦ inl ((h p).1 (t.0, t.1, m, t.3, t.4))
     | inr q ↦ inr (subst (λ (w : Family). IsIn w.patterns p)
-        (sym t.3 ∙ ap (λ w. get_or families w t.0) q ∙ same_item families k t.0 x l ∙ sym e) t.4)
+        (sym t.3 ∙ ap (λ w. get_or families w t.0) q ∙ get_or_inside families k t.0 x l ∙ sym e) t.4)
   ]),
 )
 
--- one dimension more has its union behind the others
+-- one dimension more has its union after the others
 pub unions_next : (ds : List (List Family)) (k : ℕ) (ss : List (CatSet 4)) (d : List Family) (s : CatSet 4)
     → k < length ds → get_or ds k d ≡ d → AreUnions (take k ds) ss → IsUnion d s
     → AreUnions (take (suc k) ds) (ss ++ s ∷ [])

@@ -1,15 +1,15 @@
 -- What formulas about ways say.
-use Rattle.std.proofs.Common.{◌≡◌, ◌≢◌, ℕ, suc, ◌+◌, ◌<◌, ◌↔◌, ◌⊎◌, ◌++◌, List, [], Bool, true, false, eqb, length, refl, ap, sym, subst, ◌∙◌, inl, inr, arith}
-use Rattle.std.specs.Prelude.{All, slice_index}
+use Rattle.std.proofs.Common.{◌≡◌, ◌≢◌, ℕ, ◌+◌, ◌<◌, ◌↔◌, ◌⊎◌, ◌++◌, List, [], Bool, true, false, eqb, length, refl, ap, sym, subst, ◌∙◌, inl, inr, arith}
+use Rattle.std.specs.Prelude.{slice_index}
 use Rattle.std.specs.Int.{bit_at}
 use Rattle.std.proofs.lemmas.Bool.{cases_eq, eq-eqb, ne_eqb}
-use Rattle.olap_ast.specs.Formula.{Formula, Formula.Truth, Formula.Falsity, Formula.Not, Formula.And, Formula.Or, Formula.Reach, Formula.Via, Holds, comparisons, equalities}
-use Rattle.olap_base.specs.Graph.{Graph, IsCategory}
-use Rattle.olap_base.specs.Instance.{Instance, ReachesCategory, ReachesVia}
+use Rattle.olap_ast.specs.Formula.{Formula, Formula.Truth, Formula.Falsity, Formula.Not, Formula.And, Formula.Or, Formula.Reach}
+use Rattle.olap_base.specs.Instance.{Instance, ReachesVia}
+use Rattle.olap_ast.specs.Atoms.{comparisons, equalities}
 use Rattle.olap_bits.specs.declared.sets.CatSet.{CatSet}
 use Rattle.olap_cube_summ.specs.Masks.{Has, IsIn}
 use Rattle.olap_cube_summ.specs.Ways.{HasWays, HasWaysIn, HasWaysTo, IsAboutWays, IsInside, IsOutside, way_of}
-use Rattle.olap_cube_summ.proofs.MaskLemmas.{below_next}
+use Rattle.olap_base.proofs.GeneralLemmas.{below_or_same}
 
 -- two empty lists together are empty
 nothing_joined : {A : Type 0} (xs ys : List A) → xs ≡ [] → ys ≡ [] → xs ++ ys ≡ []
@@ -34,7 +34,7 @@ module _ (c : ℕ) (column : List ℕ) where
     numberless = nothing_joined (comparisons f) [] a.numberless refl;
     at = λ g b t all. (a.at g b t all, (all k 0 l, t));
     means = λ i x. (
-      λ h j m. elim (below_next j k m) [
+      λ h j m. elim (below_or_same j k m) [
         | inl n ↦ (a.means i x).0 h.0 j n
         | inr q ↦ subst (λ w. Has p w ↔ ReachesVia i x (slice_index column w) c) (sym q)
             (λ y. h.1, λ y. is_one (cases_eq (bit_at p k) 1))
@@ -51,7 +51,7 @@ module _ (c : ℕ) (column : List ℕ) where
     numberless = nothing_joined (comparisons f) [] a.numberless refl;
     at = λ g b t all. (a.at g b t all, (all k 0 l, t));
     means = λ i x. (
-      λ h j m. elim (below_next j k m) [
+      λ h j m. elim (below_or_same j k m) [
         | inl n ↦ (a.means i x).0 h.0 j n
         | inr q ↦ subst (λ w. Has p w ↔ ReachesVia i x (slice_index column w) c) (sym q)
             (λ y. absurd (not_one y), λ y. absurd (h.1 y))
@@ -100,7 +100,7 @@ module _ (c : ℕ) (column : List ℕ) where
           | inl z ↦ let t = (a.means i x).0 z in (t.0, (let l = t.1 in omega arith), t.2, t.3)
           | inr z ↦ (n, omega arith, h, (b.means i x).0 z)
         ],
-        λ t. elim (below_next t.0 n t.1) [
+        λ t. elim (below_or_same t.0 n t.1) [
           | inl l ↦ inl ((a.means i x).1 (t.0, l, t.2, t.3))
           | inr q ↦ inr ((b.means i x).1 (subst (λ w. HasWays i x c column w) q t.3))
         ],
@@ -115,7 +115,7 @@ module _ (c : ℕ) (column : List ℕ) where
       at = a.at;
       means = λ i x. (
         λ y. let t = (a.means i x).0 y in (t.0, (let l = t.1 in omega arith), t.2, t.3),
-        λ t. (a.means i x).1 (elim (below_next t.0 n t.1) [
+        λ t. (a.means i x).1 (elim (below_or_same t.0 n t.1) [
           | inl l ↦ (t.0, l, t.2, t.3)
           | inr q ↦ absurd (out (subst (λ w. IsIn patterns w) q t.2))
         ]),

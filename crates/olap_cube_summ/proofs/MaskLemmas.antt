@@ -1,5 +1,5 @@
 -- What sets of masks have, and when a mask is bad.
-use Rattle.std.proofs.Common.{◌≡◌, ◌≢◌, not, ℕ, zero, suc, ◌+◌, ◌-◌, ◌<◌, ◌≤◌, ◌⊎◌, ◌↔◌, ◌^◌, ◌||◌, Bool, List, [], ◌∷◌, length, ◌++◌, drop, drop-cons, get_or, true, false, eqb, refl, ap, sym, subst, ◌∙◌, inl, inr, arith}
+use Rattle.std.proofs.Common.{◌≡◌, ◌≢◌, not, ℕ, zero, suc, ◌+◌, ◌-◌, ◌<◌, ◌≤◌, ◌⊎◌, ◌↔◌, ◌||◌, Bool, List, [], ◌∷◌, length, ◌++◌, drop, drop-cons, get_or, true, false, eqb, refl, ap, sym, subst, ◌∙◌, inl, inr, arith}
 use Rattle.std.specs.Prelude.{IsTrue}
 use Rattle.std.specs.Cmp.{nat_cmp_total}
 use Rattle.std.specs.FinSet as set
@@ -16,6 +16,7 @@ use Rattle.olap_bits.specs.Sets.{members}
 use Rattle.olap_bits.specs.declared.sets.CatSet.{CatSet}
 use Rattle.olap_bits.proofs.CatSetLemmas.{in_insert}
 use Rattle.olap_cube_summ.specs.Masks.{CanBeBad, Has, IsBad, IsIn, OneCanBeBad, all_of}
+use Rattle.olap_base.proofs.GeneralLemmas.{below_or_same, one_time}
 
 -- ---- sets
 
@@ -84,24 +85,11 @@ in_union s t u e m = (
 
 -- ---- bad masks
 
--- what holds 0 times holds of none
-none_times : {A : Type 0} (P : A → Type 0) (xs : List A) → HoldsTimes P xs 0 → NoneOf P xs
-none_times P [] h = tt
-none_times P (x ∷ xs) (inl t) = let z : 0 ≡ suc t.1 = t.2 in absurd (omega arith)
-none_times P (x ∷ xs) (inr t) = (t.0, none_times P xs t.1)
-
 -- what holds of none holds 0 times
 times_none : {A : Type 0} (P : A → Type 0) (xs : List A) (n : ℕ) → NoneOf P xs → HoldsTimes P xs n → n ≡ 0
 times_none P [] n o h = h
 times_none P (x ∷ xs) n o (inl t) = absurd (o.0 t.0)
 times_none P (x ∷ xs) n o (inr t) = times_none P xs n o.1 t.1
-
--- what holds once holds of exactly one
-one_time : {A : Type 0} (P : A → Type 0) (xs : List A) → HoldsTimes P xs 1 → ExactlyOne P xs
-one_time P [] h = let z : 1 ≡ 0 = h in absurd (omega arith)
-one_time P (x ∷ xs) (inl t) = let z : 1 ≡ suc t.1 = t.2 in let m : t.1 ≡ 0 = omega arith in
-    inl (t.0, none_times P xs (subst (λ w. HoldsTimes P xs w) m t.3))
-one_time P (x ∷ xs) (inr t) = inr (t.0, one_time P xs t.1)
 
 -- what holds of exactly one holds once
 time_one : {A : Type 0} (P : A → Type 0) (xs : List A) (n : ℕ) → ExactlyOne P xs → HoldsTimes P xs n → n ≡ 1
@@ -161,10 +149,6 @@ first_mask n a sets none one small e f = let w = in_with none one a small f in (
 
 -- ---- steps of loops
 
--- below p + 1 it is below p, or is p
-pub below_next : (q p : ℕ) → q < p + 1 → (q < p) ⊎ (q ≡ p)
-below_next q p h = grind arith
-
 module _ (s : CatSet 4) (mask : ℕ) (patterns : CatSet 4) where
   -- the set has what the mask has in common with the patterns below p, beside what another has
   abbrev pub AreMet : ℕ → CatSet 4 → Type 0
@@ -181,7 +165,7 @@ module _ (s : CatSet 4) (mask : ℕ) (patterns : CatSet 4) where
         ],
         λ h. (w m).1 (elim h [
           | inl x ↦ inr ((a m).1 (inl x))
-          | inr x ↦ elim (below_next x.0 p x.1) [
+          | inr x ↦ elim (below_or_same x.0 p x.1) [
             | inl l ↦ inr ((a m).1 (inr (x.0, l, x.2, x.3)))
             | inr q ↦ inl (x.3 ∙ ap (bit_and mask) q)
           ]
@@ -193,7 +177,7 @@ module _ (s : CatSet 4) (mask : ℕ) (patterns : CatSet 4) where
     λ h. elim ((a m).0 h) [ inl x ↦ inl x | inr x ↦ inr (x.0, (let l = x.1 in omega arith), x.2, x.3) ],
     λ h. (a m).1 (elim h [
       | inl x ↦ inl x
-      | inr x ↦ elim (below_next x.0 p x.1) [
+      | inr x ↦ elim (below_or_same x.0 p x.1) [
         | inl l ↦ inr (x.0, l, x.2, x.3)
         | inr q ↦ absurd (out (subst (λ w. IsIn patterns w) q x.2))
       ]
@@ -217,7 +201,7 @@ module _ (masks patterns : CatSet 4) where
       | inl o ↦ let t = (a m).0 o in (t.0, t.1, (let l = t.2 in omega arith), t.3, t.4, t.5)
       | inr t ↦ (n, t.0, omega arith, i, t.1, t.2)
     ],
-    λ t. (e m).1 (elim (below_next t.0 n t.2) [
+    λ t. (e m).1 (elim (below_or_same t.0 n t.2) [
       | inl l ↦ inl ((a m).1 (t.0, t.1, l, t.3, t.4, t.5))
       | inr q ↦ inr (t.1, t.4, t.5 ∙ ap (λ w. bit_and w t.1) q)
     ]),
@@ -226,7 +210,7 @@ module _ (masks patterns : CatSet 4) where
   pub all_met_without : (n : ℕ) (met : CatSet 4) → (IsIn masks n → ⊥) → AreAllMet n met → AreAllMet (n + 1) met
   all_met_without n met out a m = (
     λ h. let t = (a m).0 h in (t.0, t.1, (let l = t.2 in omega arith), t.3, t.4, t.5),
-    λ t. (a m).1 (elim (below_next t.0 n t.2) [
+    λ t. (a m).1 (elim (below_or_same t.0 n t.2) [
       | inl l ↦ (t.0, t.1, l, t.3, t.4, t.5)
       | inr q ↦ absurd (out (subst (λ w. IsIn masks w) q t.3))
     ]),
@@ -318,7 +302,7 @@ possible_with n mask patterns rest p found next i b e a q = let w = in_with foun
     )
     | inr o ↦ let t = (a q).0 o in ((let l = t.0 in omega arith), t.1, t.2)
   ],
-  λ t. (w q).1 (elim (below_next q p t.0) [ inl l ↦ inr ((a q).1 (l, t.1, t.2)) | inr r ↦ inl r ]),
+  λ t. (w q).1 (elim (below_or_same q p t.0) [ inl l ↦ inr ((a q).1 (l, t.1, t.2)) | inr r ↦ inl r ]),
 )
 
 -- any other is left out
@@ -327,7 +311,7 @@ pub possible_without : (n mask : ℕ) (patterns : CatSet 4) (rest : List (CatSet
     → ArePossible n mask patterns rest (p + 1) found
 possible_without n mask patterns rest p found out a q = (
   λ h. let t = (a q).0 h in ((let l = t.0 in omega arith), t.1, t.2),
-  λ t. (a q).1 (elim (below_next q p t.0) [
+  λ t. (a q).1 (elim (below_or_same q p t.0) [
     | inl l ↦ (l, t.1, t.2)
     | inr r ↦ absurd (out (subst (IsIn patterns) r t.1) (subst (λ v. CanBeBad n rest (bit_and mask v)) r t.2))
   ]),

@@ -1,26 +1,12 @@
 -- Choices that can't be told apart have one text.
-use Rattle.std.proofs.Common.{◌≡◌, ℕ, ◌+◌, List, [], ◌∷◌, ◌++◌, codes, length, refl}
-use Rattle.std.specs.Prelude.{flat_map}
-use Rattle.olap_base.specs.Graph.{Graph}
-use Rattle.olap_ast.specs.Frozen.{Candidates, Frozen, chosen, name_in}
+use Rattle.std.proofs.Common.{◌≡◌, ℕ, ◌+◌, List, [], ◌∷◌, ◌++◌, refl}
 use Rattle.olap_ast.specs.Schema.{Schema}
-use Rattle.olap_cex.specs.FrozenText.{edge_bits, frozen_text}
-use Rattle.olap_cex.specs.Present.{first_present}
 use Rattle.olap_cube.specs.CubeSummarizable.{AreOneChoice, Chosen, bottoms_of, graphs_of, instances_of}
-use Rattle.olap_grammar.specs.Quoting.{quoted}
-use Rattle.olap_graph.specs.Lookups.{name_of_category}
 use Rattle.olap_instance.specs.Printing.{text_of_instance}
 use Rattle.olap_cube_summ.specs.CubeCexText.{dimensions_text, roots_of}
 use Rattle.olap_cube_summ.specs.Telling.{cube_direct_sum, cube_sums_text, cube_views_sum, number_line}
 use Rattle.olap_cube_summ.specs.Laws.{OneChoiceHasOneText}
-
--- frozen dimensions that can't be told apart have one line
-same_line : (g : Graph) (k h : Candidates) (r d : ℕ) (f w : Frozen) → r ≡ d → f ≡ w
-    → ((c : ℕ) → name_in k f c ≡ name_in h w c) → frozen_text g k r f ≡ frozen_text g h d w
-same_line g k h r d f w q p n = λ i.
-    codes "frozen " ++ (edge_bits (p i).edges ++ (flat_map
-    (λ c. 32 ∷ (name_of_category g c ++ 61 ∷ quoted (n c i)))
-    (first_present (q i) (chosen g.edges (p i).edges) (length g.names)) ++ 10 ∷ []))
+use Rattle.olap_cex.proofs.OneLine.{same_line}
 
 -- all that the text is made of is the same
 record IsTheSame (ss : List Schema) (ps qs : List Chosen) : Type 0 where

@@ -1,15 +1,16 @@
 -- What is known of a cube's dimensions is known of each.
-use Rattle.std.proofs.Common.{◌≡◌, ℕ, zero, suc, ◌+◌, ◌<◌, ◌≤◌, List, [], ◌∷◌, ◌++◌, length, get_or, map, take, true, false, ◌||◌, refl, sym, ap, subst, ◌∙◌, arith}
-use Rattle.std.specs.Prelude.{All, Bool, Contains, IsTrue, not, filter, flat_map, ◌==◌}
+use Rattle.std.proofs.Common.{◌≡◌, ℕ, zero, suc, ◌+◌, ◌<◌, ◌≤◌, List, [], ◌∷◌, ◌++◌, length, get_or, map, take, refl, sym, ap, subst, ◌∙◌, arith}
+use Rattle.std.specs.Prelude.{All, Contains, IsTrue, flat_map}
 use Rattle.std.specs.List.{list_any}
 use Rattle.std.specs.Str.{is_utf8}
 use Rattle.std.proofs.lemmas.List.{append-nil, get_or-map, length-map, take_all, take_more}
 use Rattle.olap_base.specs.Graph.{IsCategory, IsHierarchy}
-use Rattle.olap_base.proofs.ListLemmas.{Contains-from_filter, Contains-from_map}
 use Rattle.olap_base.specs.declared.ids.CatId.{CatId}
-use Rattle.olap_ast.specs.Constants.{IsConstant, all_equalities}
-use Rattle.olap_ast.specs.Formula.{Equality, Formula.Reach, equalities}
+use Rattle.olap_ast.specs.Atoms.{Equality, equalities}
+use Rattle.olap_ast.specs.Constants.{IsConstant}
+use Rattle.olap_ast.specs.Formula.{Formula.Reach, Constant.AText}
 use Rattle.olap_ast.specs.Schema.{Schema}
+use Rattle.olap_ast.proofs.ComparedLemmas.{atom_of_text}
 use Rattle.olap_cex.specs.FoundFor.{IsFoundFor}
 use Rattle.olap_cube.specs.Tuples.{AllZip3}
 use Rattle.olap_cube.specs.CubeSummarizable.{IsChosen, bottoms_of, graphs_of}
@@ -22,6 +23,7 @@ use Rattle.olap_frozen.specs.declared.frozen.Room.{Room}
 use Rattle.olap_schema.specs.Readable.{is_control}
 use Rattle.olap_schema.specs.Readable.{AreTexts}
 use Rattle.olap_cube_summ.specs.Drawn.{AreDrawn, AreFound, IsDrawn, IsFoundOf}
+use Rattle.olap_base.proofs.GeneralLemmas.{first_of_not_or}
 
 -- ---- categories
 
@@ -161,21 +163,14 @@ hierarchies (s ∷ ss) (f ∷ fs) (r ∷ rs) a (suc k) d l = hierarchies ss fs r
 
 -- ---- the instance of a frozen dimension may be printed
 
--- an implication is false only if its premise is true
-not_bad : (u b : Bool) → (not u || b) ≡ false → u ≡ true
-not_bad true b e = refl
-not_bad false b e = absurd (cc)
-
 -- the question whether a category is reached has no text of its own
 constant_is_utf8 : (s : Schema) (target : ℕ) → AreTexts (flat_map (λ c. equalities c.formula) s.constraints)
-    → (c : ℕ) (text : List ℕ) → IsConstant s (Reach target) c text → IsTrue (is_utf8 text)
+    → (c : ℕ) (text : List ℕ) → IsConstant s (Reach target) c (AText text) → IsTrue (is_utf8 text)
 constant_is_utf8 s target texts c text h =
-    let all = all_equalities s (Reach target) in
-    let m = Contains-from_map (λ (e : Equality). e.text) (filter (λ (e : Equality). e.category == c) all) text h in
-    let f = Contains-from_filter (λ (e : Equality). e.category == c) all m.0 m.1 in
-    let own = subst (λ (es : List Equality). Contains es m.0)
-    (append-nil (flat_map (λ c. equalities c.formula) s.constraints)) f.0 in
-    subst (λ w. IsTrue (is_utf8 w)) m.2 (not_bad (is_utf8 m.0.text) (list_any is_control m.0.text) (texts m.0 own))
+    let atom : Equality = record { category = c; text = text } in
+    let own = subst (λ (es : List Equality). Contains es atom)
+    (append-nil (flat_map (λ c. equalities c.formula) s.constraints)) (atom_of_text s (Reach target) c text h) in
+    first_of_not_or (is_utf8 text) (list_any is_control text) (texts atom own)
 
 -- a frozen dimension of one dimension is one of its graph
 pub found_for : (s : Schema) (f : Found) → IsFoundOf s f

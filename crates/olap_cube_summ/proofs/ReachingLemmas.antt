@@ -1,5 +1,5 @@
 -- The roots reach the target by a source exactly if they do in every dimension, by the rows of what categories reach.
-use Rattle.std.proofs.Common.{◌≡◌, ℕ, zero, suc, ◌<◌, ◌↔◌, List, [], ◌∷◌, length, get_or, refl, sym, ◌∙◌, subst, arith}
+use Rattle.std.proofs.Common.{◌≡◌, ℕ, zero, suc, ◌<◌, ◌↔◌, List, [], ◌∷◌, length, get_or, sym, ◌∙◌, subst, arith}
 use Rattle.olap_ast.specs.Schema.{Schema}
 use Rattle.olap_cex.specs.CexFor.{IsWay}
 use Rattle.olap_cex.proofs.CountLemmas.{way_is}
@@ -9,14 +9,9 @@ use Rattle.olap_frozen.specs.declared.frozen.Room.{Room}
 use Rattle.olap_cube_summ.specs.Drawn.{AreDrawn, IsDrawn}
 use Rattle.olap_cube_summ.specs.Reaching.{ReachBy, ReachesAt, ReachesBy}
 use Rattle.olap_cube_summ.proofs.PlaceLemmas.{category_at, drawn_at, drawn_count}
+use Rattle.olap_base.proofs.ListLemmas.{get_or_inside}
 
 -- ---- the i-th dimension
-
--- past no end it doesn't matter what stands there
-same_at : {A : Type 0} (xs : List A) (i : ℕ) (d e : A) → i < length xs → get_or xs i d ≡ get_or xs i e
-same_at [] i d e l = absurd (omega arith)
-same_at (x ∷ xs) zero d e l = refl
-same_at (x ∷ xs) (suc i) d e l = same_at xs i d e (omega arith)
 
 -- the root and the source have rows, and a way in the rows is one in the instance
 pub record IsWayAt (ss : List Schema) (fs : List Found) (f : Found) (room : Room) (t c : List ℕ) (i : ℕ) : Type 0 where
@@ -41,7 +36,7 @@ way_at ss fs rooms t c i f room a source l found_is room_is =
       root = omega arith;
       source = omega arith;
       ways = λ d. subst (λ (g : Found). IsWay room.rows.items f.frozen.root.0 (get_or c i 0) (get_or t i 0)
-          ↔ ReachesBy s g (get_or t i 0) (get_or c i 0)) (found_is ∙ same_at fs i f d fits)
+          ↔ ReachesBy s g (get_or t i 0) (get_or c i 0)) (found_is ∙ get_or_inside fs i f d fits)
           (way_is s.graph f drawn.root drawn.hierarchy room.rows.items drawn.rows (get_or c i 0) (get_or t i 0)
           category);
     }

@@ -31,7 +31,8 @@ use Rattle.olap_cube_summ.specs.Ways.{HasWays, HasWaysIn, IsAboutWays, IsInside,
 use Rattle.olap_cube_summ.specs.Patterns.{AreAllKnown, IsKnown, IsLeastKnown, IsOther, SomeIsKnown, shape_of}
 use Rattle.olap_cube_summ.specs.Questions.{sources_in, target_in}
 use Rattle.olap_cube_summ.specs.declared.questions.Question.{Question}
-use Rattle.olap_cube_summ.proofs.BelowLemmas.{dec_below, dec_both, dec_less, dec_true}
+use Rattle.olap_cube_summ.proofs.BelowLemmas.{dec_less, dec_true}
+use Rattle.olap_base.proofs.DecisionLemmas.{dec_below, dec_both}
 
 -- what holds at the root holds at each member of its category
 pub at_root : (s : Schema) (f : Formula) (r : ℕ) (k : Candidates) (h : Frozen) → (t : IsFrozen s f r k h)
@@ -108,7 +109,7 @@ module _ (s : Schema) (q : Question) where
   -- ---- any other
 
   module _ (patterns : CatSet 4) (f : Formula) (about : IsAboutWays c column (IsOutside c column patterns) f) where
-    -- where there is no other, all are known
+    -- if there is no other, all are known
     pub all_known : (b : ℕ) (k : Candidates) → AreCandidates s f k → NoneFrozen s f b k → AreAllKnown s q b patterns
     all_known b k candidates none h a e =
         go (dec_ways_in (shape_of s h) a.is_one.stands_for.root c column patterns)

@@ -1,5 +1,5 @@
 -- The questions of a cube, and the answers to them.
-use Rattle.std.proofs.Common.{◌≡◌, ℕ, zero, suc, ◌+◌, ◌<◌, ◌≤◌, ◌↔◌, ◌++◌, List, [], ◌∷◌, Bool, true, false, length, get_or, refl, ap, sym, subst, ◌∙◌, inl, inr, arith}
+use Rattle.std.proofs.Common.{◌≡◌, ℕ, zero, suc, ◌+◌, ◌<◌, ◌≤◌, ◌↔◌, ◌++◌, List, [], ◌∷◌, Bool, true, false, length, get_or, ap, sym, subst, ◌∙◌, inl, inr, arith}
 use Rattle.std.specs.Prelude.{All, IsTrue, slice_index, slice_index_or}
 use Rattle.std.proofs.lemmas.List.{get_or-map, get_or_append_left, get_or_push, length-map}
 use Rattle.olap_ast.specs.Formula.{Formula.Truth}
@@ -20,21 +20,10 @@ use Rattle.olap_cube_summ.specs.Questions.{AreQuestions, AreQuestionsOf, no_ques
 use Rattle.olap_cube_summ.specs.declared.questions.Question.{Question}
 use Rattle.olap_cube_summ.proofs.AnswerLemmas.{none_bad}
 use Rattle.olap_cube_summ.proofs.BelowLemmas.{below_suc}
-
--- an item doesn't depend on what would stand where there is none
-same_item : {A : Type 0} (xs : List A) (k : ℕ) (d e : A) → k < length xs → get_or xs k d ≡ get_or xs k e
-same_item [] k d e l = absurd (omega arith)
-same_item (x ∷ xs) zero d e l = refl
-same_item (x ∷ xs) (suc k) d e l = same_item xs k d e (let z : suc k < suc (length xs) = l in omega arith)
+use Rattle.olap_cube_summ.proofs.PlaceLemmas.{category_count}
+use Rattle.olap_base.proofs.ListLemmas.{get_or_inside}
 
 -- ---- categories of each dimension
-
--- there are as many as dimensions
-pub as_many : (ss : List Schema) (cs : List ℕ) → AreCategoriesOf ss cs → length cs ≡ length ss
-as_many [] [] a = refl
-as_many [] (c ∷ cs) a = absurd a
-as_many (s ∷ ss) [] a = absurd a
-as_many (s ∷ ss) (c ∷ cs) a = let e = as_many ss cs a.1 in omega arith
 
 -- the category of a tuple in a dimension is one of its schema
 category_at : (ss : List Schema) (cs : List ℕ) → AreCategoriesOf ss cs → (i : ℕ) → i < length ss
@@ -60,14 +49,14 @@ are_questions_of ss c sources qs t all few asked = record {
         subst (IsCategory (slice_index_or ss i no_schema).graph)
         (ap (λ w. slice_index w i) (sym (asked.rows k n))
         ∙ get_or-map (λ q. slice_index (sources_in q) k) qs i no_question 0 m
-        ∙ same_item (sources_in (get_or qs i no_question)) k 0 d o)
+        ∙ get_or_inside (sources_in (get_or qs i no_question)) k 0 d o)
         (category_at ss (slice_index_or sources k []) (all k [] n) i l);
     few = subst (λ w. w ≤ most_views) (sym (asked.counts i no_question m)) few;
   };
 }
   where
     count : length qs ≡ length ss
-    count = sym (length-map qs target_in) ∙ ap length asked.targets ∙ as_many ss c t
+    count = sym (length-map qs target_in) ∙ ap length asked.targets ∙ category_count ss c t
 
 -- ---- families of each dimension
 
@@ -91,7 +80,7 @@ families_next ss qs i all next new s q l x y n made a before j m = elim (below_s
     here = subst (AreFamilies (slice_index_or ss i no_schema) (slice_index_or qs i no_question))
         (sym (ap (λ w. slice_index_or w i []) made ∙ get_or_push all new [] i n))
         (subst (λ w. AreFamilies w (slice_index_or qs i no_question) new) x
-        (subst (λ w. AreFamilies s w new) (y ∙ same_item qs i q no_question l) a))
+        (subst (λ w. AreFamilies s w new) (y ∙ get_or_inside qs i q no_question l) a))
 
 -- one schema more that is valid
 pub valid_next : (ss : List Schema) (i : ℕ) (s : Schema) → s ≡ slice_index_or ss i no_schema → IsValidSchema s
@@ -105,7 +94,7 @@ valid_next ss i s e v before j l = elim (below_suc j i (omega arith)) [
 -- after the last all are
 pub all_valid : (ss : List Schema) (i : ℕ) → length ss ≤ i
     → ((j : ℕ) → j < i → IsValidSchema (slice_index_or ss j no_schema)) → All IsValidSchema ss
-all_valid ss i n v k d l = subst IsValidSchema (same_item ss k no_schema d l) (v k (omega arith))
+all_valid ss i n v k d l = subst IsValidSchema (get_or_inside ss k no_schema d l) (v k (omega arith))
 
 -- graphs of valid schemas are hierarchies
 pub hierarchies : (ss : List Schema) → All IsValidSchema ss → All IsHierarchy (graphs_of ss)
@@ -121,7 +110,7 @@ kinded ss v k d l = has_kinds (get_or ss k d) 0 Truth (v k d l).formulas tt
 pub all_ordered : (ss : List Schema) (qs : List Question) (fss : List (List Family)) → AreFamiliesOf ss qs fss
     → All IsOrdered fss
 all_ordered ss qs fss f k d l =
-    subst IsOrdered (same_item fss k [] d l) (f.each k (subst (λ w. k < w) f.count l)).ordered
+    subst IsOrdered (get_or_inside fss k [] d l) (f.each k (subst (λ w. k < w) f.count l)).ordered
 
 -- ---- where no choice is bad
 

@@ -1,16 +1,15 @@
 -- What one fact at the roots of a choice comes to.
-use Rattle.std.proofs.Common.{◌≡◌, ◌≢◌, ℕ, zero, suc, List, [], ◌∷◌, ◌++◌, map, ℤ, pos, Option, Some, None, refl, sym, ap, ◌∙◌, subst}
+use Rattle.std.proofs.Common.{◌≡◌, ℕ, List, [], ◌∷◌, ◌++◌, map, ℤ, pos, Option, Some, refl, sym, ap, ◌∙◌, subst}
 use Rattle.std.specs.Prelude.{All}
 use Rattle.std.specs.List.{cons_option}
 use Rattle.std.proofs.lemmas.List.Elements.{All-head, All-tail}
 use Rattle.olap_base.specs.Graph.{IsHierarchy}
 use Rattle.olap_base.specs.Instance.{Instance}
 use Rattle.olap_base.specs.OneFact.{HoldsTimes, ones}
-use Rattle.olap_base.specs.Views.{ExactlyOne}
+use Rattle.olap_base.specs.Views.{ExactlyOne, only_sum, row_at}
 use Rattle.olap_ast.specs.Frozen.{chosen, name_in}
 use Rattle.olap_ast.specs.Schema.{Schema}
-use Rattle.olap_cube.specs.CubeSummarizable.{BadChoicesHaveTwoSums, Chosen, IsChosen, bottoms_of, graphs_of, instances_of, only_cube_sum}
-use Rattle.olap_cube.specs.CubeViews.{cube_row_at}
+use Rattle.olap_cube.specs.CubeSummarizable.{BadChoicesHaveTwoSums, Chosen, IsChosen, bottoms_of, graphs_of, instances_of}
 use Rattle.olap_cube.specs.Tuples.{AllZip3, IsTupleOf, TupleReachesVia}
 use Rattle.olap_cube.proofs.ChoiceLemmas.{chosen_legal, chosen_up, lawful_from_legal}
 use Rattle.olap_cube.proofs.CubeLemmas.{one_cube_facts_views}
@@ -48,20 +47,11 @@ only_roots (s ∷ ss) (c ∷ cs) (p ∷ ps) h a (x ∷ xs) m =
 
 -- ---- sums of ones
 
--- no ones give no row, so there is no sum
-pub no_ones : (y : List ℕ) (n : ℕ) → n ≡ 0 → only_cube_sum (cons_option (cube_row_at y (ones n)) []) ≡ None
-no_ones y n e = ap (λ m. only_cube_sum (cons_option (cube_row_at y (ones m)) [])) e
-
--- the sum of some ones is their number
-pub some_ones : (y : List ℕ) (n : ℕ) → n ≢ 0 → only_cube_sum (cons_option (cube_row_at y (ones n)) []) ≡ Some (pos n)
-some_ones y zero z = absurd (z refl)
-some_ones y (suc n) z = refl
-
 -- the sums of the fact at the roots, where the roots reach the target by n of the sources
 pub record HasSums (is : List Instance) (x c : List ℕ) (sources : List (List ℕ)) (n : ℕ) : Type 0 where
   pub row : List ℕ
   pub direct : cube_direct_sum is x c ≡ Some (pos 1)
-  pub views : cube_views_sum is x c sources ≡ only_cube_sum (cons_option (cube_row_at row (ones n)) [])
+  pub views : cube_views_sum is x c sources ≡ only_sum (cons_option (row_at row (ones n)) [])
 
 -- both sums of one fact, by the number of sources that are ways
 pub sums_are : (ss : List Schema) (c : List ℕ) (ps : List Chosen) → AllZip3 IsChosen ss c ps → (x : List ℕ)
@@ -72,15 +62,15 @@ sums_are ss c ps a x m sources n ways =
     let up = chosen_up ss c ps a x m in
     let views = one_cube_facts_views (graphs_of ss) (instances_of ss ps)
     (lawful_from_legal ss (instances_of ss ps) (chosen_legal ss c ps a)) c x up.0 up.1 up.2 sources n ways in
-    record { row = up.0; direct = ap only_cube_sum views.0; views = ap only_cube_sum views.1 }
+    record { row = up.0; direct = ap only_sum views.0; views = ap only_sum views.1 }
 
 -- ---- the text
 
--- the lines of a counterexample's choice, with the sum of so many ones, are its text
+-- the lines of a counterexample's choice, with the sum of this many ones, are its text
 pub text_is : (ss : List Schema) (cs : List ℕ) (sources : List (List ℕ)) (fs : List Found) (rooms : List Room)
     → IsCubeCounterexampleFound ss cs sources fs → AreDrawn ss fs rooms → (n : ℕ)
     → HoldsTimes (λ t. ReachBy ss fs t cs) sources n → (views : Option ℤ)
-    → ((row : List ℕ) → views ≡ only_cube_sum (cons_option (cube_row_at row (ones n)) []))
+    → ((row : List ℕ) → views ≡ only_sum (cons_option (row_at row (ones n)) []))
     → dimensions_text 1 ss (map chosen_of fs)
     ++ cube_sums_text (graphs_of ss) (bottoms_of (map chosen_of fs)) cs (Some (pos 1)) views
     ≡ cube_counterexample_text ss (map chosen_of fs) cs sources

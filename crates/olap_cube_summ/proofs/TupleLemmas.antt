@@ -1,5 +1,5 @@
 -- Tuples of categories, and the questions that are made of them.
-use Rattle.std.proofs.Common.{◌≡◌, ℕ, zero, suc, ◌+◌, ◌<◌, List, [], ◌∷◌, ◌++◌, eqb, length, map, take, get_or, refl, ap, sym, subst, ◌∙◌, arith}
+use Rattle.std.proofs.Common.{◌≡◌, ℕ, ◌+◌, ◌<◌, List, [], ◌∷◌, ◌++◌, eqb, length, map, take, get_or, refl, ap, sym, subst, ◌∙◌}
 use Rattle.std.specs.Prelude.{All, slice_index, slice_index_or}
 use Rattle.std.specs.Bool.{Decides}
 use Rattle.std.proofs.lemmas.Bool.Decides.{Decides-eqb}
@@ -11,6 +11,7 @@ use Rattle.olap_cube.specs.Told.{tuple_of, tuples_in}
 use Rattle.olap_cube.specs.declared.tuples.Tuple.{Tuple}
 use Rattle.olap_cube_summ.specs.Questions.{AreQuestions, IsColumn, no_question, sources_in, target_in}
 use Rattle.olap_cube_summ.specs.declared.questions.Question.{Question}
+use Rattle.olap_base.proofs.ListLemmas.{get_or_inside}
 
 -- ---- tuples
 
@@ -67,12 +68,6 @@ column_is ts i ns e = record {
 
 -- ---- questions
 
--- an item doesn't depend on what would stand where there is none
-same_item : {A : Type 0} (xs : List A) (k : ℕ) (d e : A) → k < length xs → get_or xs k d ≡ get_or xs k e
-same_item [] k d e l = absurd (omega arith)
-same_item (x ∷ xs) zero d e l = refl
-same_item (x ∷ xs) (suc k) d e l = same_item xs k d e (let z : suc k < suc (length xs) = l in omega arith)
-
 -- what they ask together
 pub are_questions : (c : List ℕ) (sources : List (List ℕ)) (n i : ℕ) (qs : List Question) → length c ≡ n
     → All (λ t. length t ≡ n) sources → i ≡ n → length qs ≡ i
@@ -83,7 +78,7 @@ are_questions c sources n i qs lc ls e lq targets columns = record {
       (λ k l. let m : k < length qs = subst (λ w. k < w) (length-map qs target_in) l in
       get_or-map target_in qs k no_question 0 m ∙ targets k (subst (λ w. k < w) lq m));
   counts = λ k d l. let t = columns k (subst (λ w. k < w) lq l) in
-      subst (λ (q : Question). length q.sources ≡ length sources) (same_item qs k no_question d l)
+      subst (λ (q : Question). length q.sources ≡ length sources) (get_or_inside qs k no_question d l)
       (sym (length-map (get_or qs k no_question).sources (λ (x : CatId). x.0)) ∙ t.count);
   rows = λ k l. same_number_lists (map (λ q. slice_index (sources_in q) k) qs) (slice_index_or sources k [])
       (length-map qs (λ q. slice_index (sources_in q) k) ∙ lq ∙ e ∙ sym (ls k [] l))

@@ -9,14 +9,13 @@ use Rattle.std.proofs.lemmas.List.{get_or-map}
 use Rattle.std.proofs.lemmas.Nat.Bits.{bit_at-lt, bit_at_above, bit_at_or, bit_at-pow_other, bit_at-pow_same}
 use Rattle.olap_ast.specs.Formula.{Formula.Reach, Formula.Via}
 use Rattle.olap_ast.specs.Frozen.{AreCandidates, IsFrozen}
-use Rattle.olap_ast.specs.Schema.{Constraint, Schema}
-use Rattle.olap_base.specs.Graph.{Graph}
+use Rattle.olap_ast.specs.Schema.{Schema}
 use Rattle.olap_base.specs.Instance.{Instance, IsMemberOf, ReachesVia}
 use Rattle.olap_ast.proofs.SameAtoms.{candidates_too, frozen_too}
 use Rattle.olap_cube_summ.specs.Found.{chosen_of}
 use Rattle.olap_frozen.specs.declared.founding.Found.{Found}
 use Rattle.olap_frozen.specs.LeastFound.{frozen_of}
-use Rattle.olap_names.specs.Names.{candidates_of, with_graph}
+use Rattle.olap_names.specs.Names.{candidates_of}
 use Rattle.olap_cube_summ.specs.Masks.{Has}
 use Rattle.olap_base.specs.declared.ids.CatId.{CatId}
 use Rattle.olap_ast.specs.Trees.{numbers_of}
@@ -24,10 +23,6 @@ use Rattle.olap_cube_summ.specs.Ways.{HasWaysTo}
 use Rattle.olap_cube_summ.specs.Patterns.{IsFoundFor, shape_of}
 use Rattle.olap_cube_summ.proofs.BelowLemmas.{below_suc}
 use Rattle.olap_cube_summ.proofs.SearchLemmas.{at_root}
-
--- a schema by its parts
-pub whole_is : (s : Schema) (g : Graph) (cs : List Constraint) → g ≡ s.graph → cs ≡ s.constraints → with_graph g cs ≡ s
-whole_is s g cs e f = λ i. record { graph = e i; constraints = f i }
 
 module _ (s : Schema) (c : ℕ) (found : Found) (serves : IsFoundFor s c found) where
   -- the question by way of a source has the same names

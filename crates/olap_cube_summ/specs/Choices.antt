@@ -31,7 +31,7 @@ abbrev pub dimensions_of : List Schema → List Question → List Family → Lis
 dimensions_of (s ∷ ss) (q ∷ qs) (f ∷ fs) = record { schema = s; question = q; family = f } ∷ dimensions_of ss qs fs
 dimensions_of _ _ _ = []
 
--- the question is one of the schema and has so many sources, and the family is one for it
+-- the question is one of the schema and has this many sources, and the family is one for it
 pub record IsDimension (n : ℕ) (d : Dimension) : Type 0 where
   pub question : IsQuestionOf d.schema d.question
   pub count : length d.question.sources ≡ n

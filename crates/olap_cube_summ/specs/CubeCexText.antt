@@ -1,4 +1,4 @@
--- The lines of a cube's counterexample: what is told of each dimension, a fact of value 1 at the roots, and two sums.
+-- The lines of a cube's counterexample: those of each dimension, a fact of value 1 at the roots, and two sums.
 --     tuple_text                  names of categories with commas between them
 --     dimensions_text             of each dimension its number, its frozen dimension and its instance
 --     roots_of                    where the fact stands
@@ -12,8 +12,9 @@ use Rattle.olap_base.specs.Bytes.{comma, line_feed}
 use Rattle.olap_base.specs.Graph.{Graph}
 use Rattle.olap_cex.specs.CexText.{sums_lines}
 use Rattle.olap_cex.specs.FrozenText.{frozen_text}
-use Rattle.olap_cube.specs.CubeSummarizable.{Chosen, bottoms_of, graphs_of, instances_of, only_cube_sum}
-use Rattle.olap_cube.specs.CubeViews.{cube_direct_rows, cube_direct_views, cube_rows_from_views, one_cube_fact}
+use Rattle.olap_base.specs.Views.{direct_rows, direct_views, one_fact, only_sum, rows_from_views}
+use Rattle.olap_cube.specs.CubeSummarizable.{Chosen, bottoms_of, graphs_of, instances_of}
+use Rattle.olap_cube.specs.CubeViews.{tuples}
 use Rattle.olap_graph.specs.Lookups.{name_of_category}
 use Rattle.olap_instance.specs.Printing.{text_of_instance}
 
@@ -42,13 +43,12 @@ dimensions_text _ _ _ = []
 abbrev pub roots_of : List Schema → List Chosen → List ℕ
 roots_of schemas choice = map (λ p. root_place p.0 p.1.bottom p.1.frozen) (zip schemas choice)
 
--- What is told of each dimension of the choice, and what one fact at its roots comes to at c: the SUM of the direct
--- view, and that of the view from the sources' direct views.
+-- What is printed about each dimension of the choice, and what a fact of value 1 at its roots adds up to at c: the SUM
+-- of the direct view, and that of the view from the sources' direct views.
 abbrev pub cube_counterexample_text : List Schema → List Chosen → List ℕ → List (List ℕ) → List ℕ
 cube_counterexample_text schemas choice c sources =
-    let is = instances_of schemas choice in
-    let facts = one_cube_fact (roots_of schemas choice) in
+    let points = tuples (instances_of schemas choice) in
+    let facts = one_fact (roots_of schemas choice) in
     let names = tuple_text (graphs_of schemas) in
     dimensions_text 1 schemas choice ++ sums_lines (names (bottoms_of choice)) (names c)
-    (only_cube_sum (cube_direct_rows is c facts))
-    (only_cube_sum (cube_rows_from_views is c (cube_direct_views is facts sources)))
+    (only_sum (direct_rows points c facts)) (only_sum (rows_from_views points c (direct_views points facts sources)))

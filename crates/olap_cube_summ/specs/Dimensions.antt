@@ -8,7 +8,7 @@ use Rattle.olap_base.specs.Graph.{IsCategory}
 use Rattle.olap_schema.specs.Schemas.{schema_of}
 use Rattle.olap_schema.specs.Shown.{Shown}
 
--- the schemas of a cube's dimensions, of which a contract sees what each holds
+-- the schemas of a cube's dimensions; a contract sees what each holds
 abbrev pub schemas_of : List Shown → List Schema
 schemas_of cube = map schema_of cube
 

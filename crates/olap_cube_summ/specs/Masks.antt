@@ -1,6 +1,6 @@
 -- Masks over the sources of a question, a bit a source, and sets of masks.
 --     IsIn        a set of masks has it
---     IsBad       not exactly one of so many sources has its bit in the mask
+--     IsBad       not exactly one of this many sources has its bit in the mask
 --     all_of      the mask of all sources
 --     CanBeBad    a pattern of each set can be met with the mask so that it becomes bad
 use Rattle.std.specs.Prelude.{◌≡◌, ◌<◌, ℕ, ◌-◌, ◌^◌, List, [], ◌∷◌, true}

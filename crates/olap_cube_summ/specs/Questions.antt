@@ -49,7 +49,7 @@ pub record IsColumn (i : ℕ) (tuples : List (List ℕ)) (column : List ℕ) : T
 abbrev pub row : ℕ → List Question → List ℕ
 row k questions = map (λ q. slice_index (sources_in q) k) questions
 
--- they ask by way of which of these sources this target is reached
+-- they ask through which of these sources the target is reached
 pub record AreQuestions (c : List ℕ) (sources : List (List ℕ)) (questions : List Question) : Type 0 where
   pub targets : map target_in questions ≡ c
   pub counts : All (λ q. length q.sources ≡ length sources) questions

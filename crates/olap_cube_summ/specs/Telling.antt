@@ -9,8 +9,8 @@ use Rattle.olap_base.specs.Bytes.{line_feed}
 use Rattle.olap_base.specs.Graph.{Graph}
 use Rattle.olap_base.specs.Instance.{Instance}
 use Rattle.olap_cex.specs.CexText.{sums_lines}
-use Rattle.olap_cube.specs.CubeSummarizable.{only_cube_sum}
-use Rattle.olap_cube.specs.CubeViews.{cube_direct_rows, cube_direct_views, cube_rows_from_views, one_cube_fact}
+use Rattle.olap_base.specs.Views.{direct_rows, direct_views, one_fact, only_sum, rows_from_views}
+use Rattle.olap_cube.specs.CubeViews.{tuples}
 use Rattle.olap_cube_summ.specs.CubeCexText.{tuple_text}
 use Rattle.olap_graph.specs.Lookups.{name_of_category}
 
@@ -24,12 +24,12 @@ number_line n = codes "dimension " ++ (decimal n ++ line_feed ∷ [])
 
 -- the SUM of the direct view of c, for one fact of value 1 at x
 abbrev pub cube_direct_sum : List Instance → List ℕ → List ℕ → Option ℤ
-cube_direct_sum is x c = only_cube_sum (cube_direct_rows is c (one_cube_fact x))
+cube_direct_sum is x c = only_sum (direct_rows (tuples is) c (one_fact x))
 
 -- the SUM of the view of c from the sources' direct views, for that fact
 abbrev pub cube_views_sum : List Instance → List ℕ → List ℕ → List (List ℕ) → Option ℤ
 cube_views_sum is x c sources =
-    only_cube_sum (cube_rows_from_views is c (cube_direct_views is (one_cube_fact x) sources))
+    only_sum (rows_from_views (tuples is) c (direct_views (tuples is) (one_fact x) sources))
 
 -- the fact of value 1 at the roots b, the direct SUM of c, and the SUM from the sources
 abbrev pub cube_sums_text : List Graph → List ℕ → List ℕ → Option ℤ → Option ℤ → List ℕ

@@ -3,7 +3,8 @@
 --     HasWaysIn      of one of the patterns of a set
 --     IsAboutWays    a formula without names and numbers says that
 use Rattle.std.specs.Prelude.{◌≡◌, ◌<◌, ◌↔◌, ℕ, List, [], Bool, true, false, All, length, map, slice_index}
-use Rattle.olap_ast.specs.Formula.{Formula, Formula.Not, Formula.Via, Holds, comparisons, equalities}
+use Rattle.olap_ast.specs.Atoms.{comparisons, equalities}
+use Rattle.olap_ast.specs.Formula.{Formula, Formula.Not, Formula.Via, Holds}
 use Rattle.olap_ast.specs.Valid.{IsFormulaAt}
 use Rattle.olap_base.specs.Graph.{Graph, IsCategory}
 use Rattle.olap_base.specs.Instance.{Instance, ReachesCategory, ReachesVia}

@@ -14,7 +14,7 @@ use olap_frozen::Found;
 use olap_schema::Schema;
 use std::alloc::Global;
 
-/// A frozen dimension of the root that reaches the target, and by none of the patterns. None only where there is none.
+/// A frozen dimension of the root that reaches the target, and by none of the patterns. None only if there is none.
 pub(crate) fn other_found(
     alloc: Global,
     schema: &Schema,

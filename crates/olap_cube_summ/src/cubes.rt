@@ -40,7 +40,8 @@ impl Cube {
         }
     }
 
-    /// Adds the schema of one dimension more. Out of memory it comes back with the refusal, and the others stay.
+    /// Adds the schema of a further dimension. If memory runs out, it is handed back with the refusal, and the others
+    /// stay.
     pub fn push(&mut self, schema: Schema) -> Result<(), AllocFailed<Schema>>
         requires { length (schemas_of self.old) < most_dimensions }
         ensures ok { OnOk result (schemas_of self.new ≡ schemas_of self.old ++ schema_of schema ∷ []) }

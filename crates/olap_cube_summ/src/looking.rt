@@ -166,8 +166,8 @@ impl Lookout {
     }
 }
 
-/// Patterns of frozen dimensions with this root that are soon found, by one search that is told which sources are to be
-/// ways to the target.
+/// Patterns of frozen dimensions with this root that are soon found, by one search that is given which sources are to
+/// be ways to the target.
 pub(crate) fn soon_found(
     alloc: Global,
     schema: &Schema,

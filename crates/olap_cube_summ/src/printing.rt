@@ -2,10 +2,10 @@
 ghost use Rattle.std.specs.Prelude.{◌≡◌, ◌∷◌, ◌++◌, ℕ, List as Items, [], All, IfOk, OnOk, Some, codes, if◌then◌else◌, map, pos};
 ghost use Rattle.std.specs.List.{cons_option};
 ghost use Rattle.std.specs.Option.{option_map};
+ghost use Rattle.olap_base.specs.Views.{only_sum, row_at};
 ghost use Rattle.olap_base.specs.OneFact.{ones};
 ghost use Rattle.olap_cex.specs.CexText.{sum_line};
-ghost use Rattle.olap_cube.specs.CubeSummarizable.{bottoms_of, graphs_of, only_cube_sum};
-ghost use Rattle.olap_cube.specs.CubeViews.{cube_row_at};
+ghost use Rattle.olap_cube.specs.CubeSummarizable.{bottoms_of, graphs_of};
 ghost use Rattle.olap_cube.specs.Told.{tuple_of, tuples_in};
 ghost use Rattle.olap_cube_summ.specs.CubeCexText.{cube_counterexample_text, dimensions_text, tuple_text};
 ghost use Rattle.olap_cube_summ.specs.Telling.{cube_sums_text};
@@ -69,9 +69,9 @@ fn root_names(alloc: Global, cube: &Cube, founds: &[Found]) -> Result<Vec<u8>, M
     Ok(names)
 }
 
-/// The SUM of so many ones, if there are any.
+/// The SUM of this many ones, if there are any.
 fn sum_of(ways: u64) -> Option<u64>
-    ensures { (row : Items ℕ) → option_map pos result ≡ only_cube_sum (cons_option (cube_row_at row (ones ways)) []) }
+    ensures { (row : Items ℕ) → option_map pos result ≡ only_sum (cons_option (row_at row (ones ways)) []) }
 {
     if ways == 0 {
         return None;

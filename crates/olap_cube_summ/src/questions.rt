@@ -35,7 +35,7 @@ fn column(alloc: Global, sources: &[Tuple], i: usize) -> Result<List<CatId>, Mem
     Ok(List::from_vec(column))
 }
 
-/// The question of each of so many dimensions.
+/// The question of each of this many dimensions.
 pub(crate) fn questions(
     alloc: Global,
     dimensions: usize,

@@ -77,11 +77,11 @@ fn counterexample(
 }
 
 /// The counterexample to summarizability of a cube: of the first tuple of bottom categories that has a bad choice of
-/// frozen dimensions the one whose list of codes is least. None exactly where the target is summarizable from the
+/// frozen dimensions the one whose list of codes is least. None exactly if the target is summarizable from the
 /// sources: for all legal instances of the schemas and all fact tables its view from the sources' views is its direct
 /// view.
 ///
-/// `DuplicateSource`: exactly where a source stands twice. `Memory`: out of memory. The target may be a source.
+/// `DuplicateSource`: exactly if a source stands twice. `Memory`: out of memory. The target may be a source.
 ///
 /// It makes two searches for each bottom category of each dimension, one more for each pattern that the first of them
 /// passes over, and one for each dimension; one stands at a time.

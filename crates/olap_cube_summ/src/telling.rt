@@ -1,4 +1,4 @@
-// What is told of each dimension.
+// What is printed about each dimension.
 ghost use Rattle.std.specs.Prelude.{◌≡◌, ◌++◌, IfOk, OnOk, map};
 ghost use Rattle.olap_ast.specs.Frozen.{thawed};
 ghost use Rattle.olap_instance.specs.Printing.{text_of_instance};
@@ -63,7 +63,7 @@ fn push_dimension(
     Ok(())
 }
 
-/// Appends what is told of each dimension, numbered from 1.
+/// Appends what is printed about each dimension, numbered from 1.
 pub(crate) fn push_dimensions(
     alloc: Global,
     out: &mut Vec<u8>,

@@ -9,13 +9,13 @@ use Rattle.olap_base.specs.Limits.{most_facts}
 use Rattle.olap_records.specs.Faults.{first_fault, or_after}
 use Rattle.olap_facts.specs.declared.kinds.FactKind.{FactKind}
 use Rattle.olap_facts.specs.declared.kinds.FactKind.TheVariants as kind
-use Rattle.olap_cube.specs.CubeViews.{CubeFact}
+use Rattle.olap_base.specs.Views.{Fact}
 use Rattle.olap_cube_views.specs.CubeFactText.{cube_fact_fault_within, cube_fact_read, cube_facts_read_within, header}
 use Rattle.olap_cube_views.specs.CubeFeeding.{Counted, IsFresh, IsGoing}
 use Rattle.olap_cube_views.proofs.CubeReadingLemmas.{header_is}
 use Rattle.olap_records.specs.Tables.{begins_with, or_read}
 
-module _ (gs : List Graph) (is : List Instance) (done : List (List (List ℕ))) (facts : List CubeFact)
+module _ (gs : List Graph) (is : List Instance) (done : List (List (List ℕ))) (facts : List (Fact (List ℕ)))
     (row : List (List ℕ)) where
   abbrev fault : List (List (List ℕ)) → List (List ℕ) → Option FactKind
   fault = cube_fact_fault_within most_facts gs is
@@ -54,7 +54,7 @@ module _ (gs : List Graph) (is : List Instance) (done : List (List (List ℕ))) 
     one-on left = h.faults (row ∷ left)
 
     -- one fact more
-    pub counted-fact : (f : CubeFact) → fault h.rows row ≡ None → f ≡ cube_fact_read is row
+    pub counted-fact : (f : Fact (List ℕ)) → fault h.rows row ≡ None → f ≡ cube_fact_read is row
         → Counted gs is true (done ++ row ∷ []) (facts ++ f ∷ [])
     counted-fact f none e = record {
       fresh = λ f. cc f;
@@ -64,7 +64,7 @@ module _ (gs : List Graph) (is : List Instance) (done : List (List (List ℕ))) 
         parts = ap (λ d. d ++ row ∷ []) h.parts;
         header_is = h.header_is;
         facts_are = ap (λ fs. fs ++ f ∷ []) h.facts_are
-            ∙ ap (λ (x : CubeFact). map (cube_fact_read is) h.rows ++ x ∷ []) e
+            ∙ ap (λ (x : Fact (List ℕ)). map (cube_fact_read is) h.rows ++ x ∷ []) e
             ∙ sym (map-append (cube_fact_read is) h.rows (row ∷ []));
         faults = λ left.
             ap (first_fault fault []) (append_assoc h.rows (row ∷ []) left)
@@ -84,7 +84,7 @@ module _ (gs : List Graph) (is : List Instance) (done : List (List (List ℕ))) 
         ∙ rw h.header_is (ap (λ o. or_read o (Ok (map (cube_fact_read is) (h.rows ++ row ∷ left)))) first
         ∙ ap (λ m. Err (record { at = m + 2; kind = k })) size)
 
-module _ (gs : List Graph) (is : List Instance) (done : List (List (List ℕ))) (facts : List CubeFact) where
+module _ (gs : List Graph) (is : List Instance) (done : List (List (List ℕ))) (facts : List (Fact (List ℕ))) where
   -- at the end of the text, these are its facts
   pub all-counted : IsGoing gs is done facts → cube_facts_read_within most_facts gs is done ≡ Ok facts
   all-counted h =

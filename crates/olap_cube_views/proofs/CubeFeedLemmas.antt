@@ -1,13 +1,11 @@
 -- A roller of a cube's facts after a part of a piece, and at the end of its text.
---     stands-on          a record more, or none
---     whole-is           a text in two parts
 --     no-cut, one-cut    what the splitter says of the rest of a piece
 --     taken-none, taken-one   the facts after it
 --     own, back          what the text is taken against
 --     last-taken         the last record, which the text's end ends
-use Rattle.std.proofs.Common.{◌≡◌, ◌+◌, ◌-◌, ◌∷◌, ◌++◌, ◌∙◌, Bool, true, false, ℕ, List, [], length, take, drop, refl, sym, ap, subst, append_assoc, take-add}
+use Rattle.std.proofs.Common.{◌≡◌, ◌+◌, ◌-◌, ◌∷◌, ◌++◌, ◌∙◌, Bool, true, false, ℕ, List, [], length, take, drop, refl, sym, ap, subst}
 use Rattle.std.specs.Prelude.{MatchResult, Result, Ok, Err, ⊤}
-use Rattle.std.proofs.lemmas.List.{append-nil, take-append-drop}
+use Rattle.std.proofs.lemmas.List.{append-nil}
 use Rattle.olap_base.proofs.ListLemmas.{rest_is}
 use Rattle.olap_base.specs.Graph.{Graph}
 use Rattle.olap_base.specs.Instance.{Instance}
@@ -16,30 +14,11 @@ use Rattle.olap_base.specs.Refusing.{IsRefusedBy}
 use Rattle.olap_base.specs.declared.refusals.Fault.{Fault}
 use Rattle.olap_base.specs.declared.refusals.Refusal.{Refusal}
 use Rattle.olap_records.specs.Standing.{Standing, at_start, behind, records_fed, records_if, standing}
-use Rattle.olap_records.proofs.JoinLemmas.{fed-more}
 use Rattle.olap_facts.specs.declared.kinds.FactKind.{FactKind}
 use Rattle.olap_cube_views.specs.CubeFactText.{cube_facts_read_within}
 use Rattle.olap_cube_views.specs.CubeFeeding.{CubeRolling, HasCounted, HasTakenFacts, cube_fed_read, cube_rolling}
 use Rattle.olap_cube_views.specs.CubeTallies.{CubeTallied, HasTallied}
 use Rattle.olap_cube_views.proofs.CubeCountingLemmas.{all-counted}
-
--- some records more
-pub stands-on : (fed piece : List ℕ) (at n : ℕ) (done rs : List (List (List ℕ))) (s new : Standing)
-    → standing at_start (fed ++ take at piece) ≡ behind done s
-    → standing s (take n (drop at piece)) ≡ behind rs new
-    → standing at_start (fed ++ take (at + n) piece) ≡ behind (done ++ rs) new
-stands-on fed piece at n done rs s new a b =
-    ap (λ xs. standing at_start (fed ++ xs)) (take-add at n piece)
-    ∙ ap (standing at_start) (sym (append_assoc fed (take at piece) (take n (drop at piece))))
-    ∙ fed-more (fed ++ take at piece) (take n (drop at piece)) done rs s new a b
-
--- a text in two parts
-pub whole-is : (fed piece more : List ℕ) (m : ℕ)
-    → (fed ++ piece) ++ more ≡ (fed ++ take m piece) ++ (drop m piece ++ more)
-whole-is fed piece more m =
-    ap (λ xs. (fed ++ xs) ++ more) (sym (take-append-drop m piece))
-    ∙ ap (λ xs. xs ++ more) (sym (append_assoc fed (take m piece) (drop m piece)))
-    ∙ append_assoc (fed ++ take m piece) (drop m piece) more
 
 -- what the splitter says of the rest of a piece, without or with a record
 module _ (piece : List ℕ) (at n : ℕ) (found : Bool) (row : List (List ℕ)) (s new : Standing)

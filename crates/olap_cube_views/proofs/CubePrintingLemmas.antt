@@ -10,7 +10,7 @@ use Rattle.std.specs.Prelude.{All}
 use Rattle.std.proofs.lemmas.List.Elements.{All-map}
 use Rattle.std.proofs.lemmas.List.{drop_all, get_or-map, length-map, map-append, take_more}
 use Rattle.olap_base.specs.Instance.{Instance, IsMember, member_at}
-use Rattle.olap_cube.specs.CubeViews.{CubeRow, CubeView}
+use Rattle.olap_base.specs.Views.{Row, View}
 use Rattle.olap_view.specs.Seen.{summary_of}
 use Rattle.olap_records.specs.Records.{records_of}
 use Rattle.olap_records.specs.Texts.{text_of_row, text_of_rows}
@@ -21,6 +21,7 @@ use Rattle.olap_view.specs.ViewText.{numbers_of}
 use Rattle.olap_cube_views.specs.Seen.{cube_row_of, cube_rows_of}
 use Rattle.olap_cube_views.specs.declared.views.CubeRow as told
 use Rattle.olap_cube_views.proofs.AncestorLemmas.{members_length}
+use Rattle.olap_instance.proofs.Passing.{all-full}
 
 -- ---- the ids of a row's members
 
@@ -72,11 +73,11 @@ same_take n k ys e = sym (back n ys) ∙ ap (λ m. take m ys) e
 
 -- the rows stand at members
 module _ (is : List Instance) (n : ℕ) (rows : List told.CubeRow) (k : ℕ) (d : told.CubeRow) (l : k < length rows)
-    (a : All (λ (r : CubeRow). AreMembers is r.members) (cube_rows_of n rows)) where
+    (a : All (λ (r : Row (List ℕ)). AreMembers is r.at) (cube_rows_of n rows)) where
   at_members : AreMembers is (take n (get_or rows k d).members.places)
   at_members =
       let e = length-map rows (cube_row_of n) in
-      subst (λ (r : CubeRow). AreMembers is r.members) (get_or-map (cube_row_of n) rows k d (cube_row_of n d) l)
+      subst (λ (r : Row (List ℕ)). AreMembers is r.at) (get_or-map (cube_row_of n) rows k d (cube_row_of n d) l)
       (a k (cube_row_of n d) (omega arith))
 
   -- as many as there are instances
@@ -93,7 +94,7 @@ module _ (is : List Instance) (n : ℕ) (rows : List told.CubeRow) (k : ℕ) (d 
   pub row_fields : fields_in is (cube_row_of (length is) (get_or rows k d))
       ≡ fields_in is (cube_row_of n (get_or rows k d))
   row_fields = ap (λ (ys : List ℕ). fields_in is
-      (record { members = ys; summary = summary_of (get_or rows k d).summary }))
+      (record { at = ys; summary = summary_of (get_or rows k d).summary }))
       (sym same_members)
 
 -- four items after others, each the same as another
@@ -104,7 +105,8 @@ four_same xs a b c d p q r s e f g h = λ i. xs ++ (e i ∷ f i ∷ g i ∷ h i 
 -- ---- rows
 
 -- one row more
-pub cube_view_more : (top : List (List ℕ)) (fields : CubeRow → List (List ℕ)) (n : ℕ) (rows : List told.CubeRow) (k : ℕ)
+pub cube_view_more : (top : List (List ℕ)) (fields : Row (List ℕ) → List (List ℕ)) (n : ℕ)
+    (rows : List told.CubeRow) (k : ℕ)
     (d : told.CubeRow) (out new : List ℕ) → k < length rows
     → out ≡ text_of_rows (top ∷ map fields (cube_rows_of n (take k rows)))
     → new ≡ out ++ text_of_row (fields (cube_row_of n (get_or rows k d)))
@@ -120,12 +122,6 @@ cube_view_more top fields n rows k d out new l eo en =
     ∙ sym (texts-push (top ∷ before) (fields (cube_row_of n row)))
     ∙ ap (λ (t : List (List (List ℕ))). text_of_rows (top ∷ t)) (sym more)
 
--- each record has a field, where the first has and those after it have
-all-full : (top : List (List ℕ)) (rows : List (List (List ℕ))) → 0 < length top → All (λ r. 0 < length r) rows
-    → All (λ r. 0 < length r) (top ∷ rows)
-all-full top rows h t zero d l = h
-all-full top rows h t (suc k) d l = t k d (omega arith)
-
 -- the header has a field, and the text doesn't begin as a byte order mark does
 header-full : (k : ℕ) → 0 < length (header k)
 header-full zero = omega arith
@@ -137,11 +133,11 @@ no-mark zero rows e = absurd (omega arith)
 no-mark (suc k) rows e = absurd (omega arith)
 
 -- each record has a field
-fields-full : (is : List Instance) (r : CubeRow) → 0 < length (fields_in is r)
-fields-full is r = omega (arith, length-append (ids_in is r.members) (numbers_of r.summary))
+fields-full : (is : List Instance) (r : Row (List ℕ)) → 0 < length (fields_in is r)
+fields-full is r = omega (arith, length-append (ids_in is r.at) (numbers_of r.summary))
 
 -- the text of a view reads back
-pub cube_view_reads : (is : List Instance) (v : CubeView)
+pub cube_view_reads : (is : List Instance) (v : View (List ℕ) (List ℕ))
     → records_of (cube_view_text is v) ≡ records_of_cube_view is v
 cube_view_reads is v =
     text-back (records_of_cube_view is v)

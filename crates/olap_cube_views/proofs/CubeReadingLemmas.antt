@@ -27,7 +27,8 @@ use Rattle.olap_base.specs.Refusing.{IsRefusedBy}
 use Rattle.olap_base.specs.declared.refusals.Fault.{Fault}
 use Rattle.olap_base.specs.declared.refusals.Refusal.{Refusal}
 use Rattle.olap_base.specs.declared.refusals.Refusal.TheVariants as refusal
-use Rattle.olap_cube.specs.CubeViews.{CubeFact, IsCubeFactTable}
+use Rattle.olap_base.specs.Views.{Fact}
+use Rattle.olap_cube.specs.CubeViews.{IsCubeFactTable}
 use Rattle.olap_cube.specs.Tuples.{IsBottomTuple}
 use Rattle.olap_cube_views.specs.CubeFactText.{cube_fact_fault, cube_fact_read, cube_facts_read, header, member_fault, members_fault, members_read}
 use Rattle.olap_instance.specs.Members.{member_number}
@@ -51,7 +52,7 @@ bottom_members [] [] (x ∷ xs) b = absurd b
 bottom_members [] (i ∷ is) xs b = absurd b
 bottom_members (g ∷ gs) [] xs b = absurd b
 bottom_members (g ∷ gs) (i ∷ is) [] b = absurd b
-bottom_members (g ∷ gs) (i ∷ is) (x ∷ xs) b = (b.0, bottom_members gs is xs b.2)
+bottom_members (g ∷ gs) (i ∷ is) (x ∷ xs) b = (b.0.0, bottom_members gs is xs b.1)
 
 -- ---- the members of a record
 
@@ -97,7 +98,7 @@ module _ (gs : List Graph) (is : List Instance) (row : List (List ℕ)) where
           ∙ sym (append_assoc xs (x ∷ []) (members_read (drop (k + 1) is) (drop (k + 1) row)));
       bottom = λ ys b. subst (IsBottomTuple gs is) (sym (append_assoc xs (x ∷ []) ys))
           (h.bottom (x ∷ ys) (subst (λ t. IsBottomTuple t (drop k is) (x ∷ ys)) (sym dg)
-          (subst (λ t. IsBottomTuple (g ∷ drop (k + 1) gs) t (x ∷ ys)) (sym di) (inside, bottom, b))));
+          (subst (λ t. IsBottomTuple (g ∷ drop (k + 1) gs) t (x ∷ ys)) (sym di) ((inside, bottom), b))));
       made = made_next.1;
     }
 
@@ -146,8 +147,8 @@ pub cube_facts_more : (is : List Instance) (seen : List (List (List ℕ))) (r : 
     (f : told.CubeFact) → map cube_fact_of fs ≡ map (cube_fact_read is) seen → cube_fact_of f ≡ cube_fact_read is r
     → map cube_fact_of (fs ++ f ∷ []) ≡ map (cube_fact_read is) (seen ++ r ∷ [])
 cube_facts_more is seen r fs f e q =
-    map-append cube_fact_of fs (f ∷ []) ∙ ap (λ (t : List CubeFact). t ++ cube_fact_of f ∷ []) e
-    ∙ ap (λ (t : CubeFact). map (cube_fact_read is) seen ++ t ∷ []) q
+    map-append cube_fact_of fs (f ∷ []) ∙ ap (λ (t : List (Fact (List ℕ))). t ++ cube_fact_of f ∷ []) e
+    ∙ ap (λ (t : Fact (List ℕ)). map (cube_fact_read is) seen ++ t ∷ []) q
     ∙ sym (map-append (cube_fact_read is) seen (r ∷ []))
 
 -- no facts are a fact table
@@ -155,11 +156,11 @@ pub cube_table_none : (gs : List Graph) (is : List Instance) → IsCubeFactTable
 cube_table_none gs is f c = absurd (Contains-nil f c)
 
 -- a fact table with one fact more
-pub cube_table_more : (gs : List Graph) (is : List Instance) (fs : List CubeFact) (f : CubeFact)
-    → IsCubeFactTable gs is fs → IsBottomTuple gs is f.members → IsCubeFactTable gs is (fs ++ f ∷ [])
+pub cube_table_more : (gs : List Graph) (is : List Instance) (fs : List (Fact (List ℕ))) (f : Fact (List ℕ))
+    → IsCubeFactTable gs is fs → IsBottomTuple gs is f.at → IsCubeFactTable gs is (fs ++ f ∷ [])
 cube_table_more gs is fs f t b q c = elim (Contains-push_cases fs f q c) [
   | inl h ↦ t q h
-  | inr e ↦ subst (λ (p : CubeFact). IsBottomTuple gs is p.members) e b
+  | inr e ↦ subst (λ (p : Fact (List ℕ)). IsBottomTuple gs is p.at) e b
 ]
 
 -- each fact of a fact table stands at members

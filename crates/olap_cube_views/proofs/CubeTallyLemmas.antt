@@ -24,14 +24,14 @@ use Rattle.olap_base.specs.Deciding.{contains_cons}
 use Rattle.olap_base.specs.Instance.{Instance}
 use Rattle.olap_base.specs.Limits.{most_count}
 use Rattle.olap_base.specs.Summaries.{Summary, of_value, total, ◌⊕◌}
-use Rattle.olap_base.proofs.ListLemmas.{contains_head}
+use Rattle.olap_base.proofs.ListLemmas.{contains_head, filter_map_same}
 use Rattle.olap_base.proofs.TotalLemmas.{total_push, ⊕_none}
-use Rattle.olap_cube.specs.CubeViews.{CubeFact, CubeRow, cube_direct_rows, cube_row_at, cube_values_at, total_of_cube_facts}
+use Rattle.olap_base.specs.Views.{Fact, Row, direct_rows, row_at, total_of_facts, values_at}
+use Rattle.olap_cube.specs.CubeViews.{tuples}
 use Rattle.olap_cube.specs.Tuples.{IsTupleOf, TupleReaches, tuple_reaches, tuples_of}
 use Rattle.olap_cube.proofs.TupleLemmas.{is_tuple_of, tuple_reaches_is, tuples_of_is}
 use Rattle.olap_view.specs.Columns.{Ascent}
 use Rattle.olap_view.specs.Tables.{when}
-use Rattle.olap_view.proofs.ViewingLemmas.{filter_map_same}
 use Rattle.olap_cube_views.specs.CubeTallies.{AreMembers, CubeStandsFor, CubeTallied, Entry, IsCubeTally, IsKeyOf, IsOwn, IsTupleAncestor, IsWithin, ReachesNone, entries_of, is_key, key_cmp, key_of, row_of_entry, summary_at, tallied}
 use Rattle.olap_cube_views.specs.Dimensions.{categories_in, instances_in}
 use Rattle.olap_cube.specs.Limits.{most_dimensions}
@@ -46,33 +46,33 @@ use Rattle.olap_cube_views.proofs.SumLemmas.{summary_found, summary_push}
 -- ---- totals
 
 -- the values at a tuple, with one fact more
-values_push : (is : List Instance) (fs : List CubeFact) (f : CubeFact) (y : List ℕ)
-    → cube_values_at is (fs ++ f ∷ []) y
-    ≡ cube_values_at is fs y ++ cond (tuple_reaches is f.members y) (f.value ∷ []) []
+values_push : (is : List Instance) (fs : List (Fact (List ℕ))) (f : Fact (List ℕ)) (y : List ℕ)
+    → values_at (tuples is) (fs ++ f ∷ []) y
+    ≡ values_at (tuples is) fs y ++ cond (tuple_reaches is f.at y) (f.value ∷ []) []
 values_push is fs f y =
-    ap (map (λ (g : CubeFact). g.value)) (filter-append (λ g. tuple_reaches is g.members y) fs (f ∷ []))
-    ∙ map-append (λ (g : CubeFact). g.value) (filter (λ g. tuple_reaches is g.members y) fs)
-    (filter (λ g. tuple_reaches is g.members y) (f ∷ []))
-    ∙ ap (λ t. map (λ (g : CubeFact). g.value) (filter (λ g. tuple_reaches is g.members y) fs) ++ t)
-    (last (tuple_reaches is f.members y))
+    ap (map (λ (g : Fact (List ℕ)). g.value)) (filter-append (λ g. tuple_reaches is g.at y) fs (f ∷ []))
+    ∙ map-append (λ (g : Fact (List ℕ)). g.value) (filter (λ g. tuple_reaches is g.at y) fs)
+    (filter (λ g. tuple_reaches is g.at y) (f ∷ []))
+    ∙ ap (λ t. map (λ (g : Fact (List ℕ)). g.value) (filter (λ g. tuple_reaches is g.at y) fs) ++ t)
+    (last (tuple_reaches is f.at y))
   where
-    last : (b : Bool) → map (λ (g : CubeFact). g.value) (cond b (f ∷ []) []) ≡ cond b (f.value ∷ []) []
+    last : (b : Bool) → map (λ (g : Fact (List ℕ)). g.value) (cond b (f ∷ []) []) ≡ cond b (f.value ∷ []) []
     last true = refl
     last false = refl
 
 -- what they come to, with one fact more
-total_more : (is : List Instance) (fs : List CubeFact) (f : CubeFact) (y : List ℕ)
-    → total_of_cube_facts is (fs ++ f ∷ []) y
-    ≡ total_of_cube_facts is fs y ⊕ when (tuple_reaches is f.members y) (of_value f.value)
+total_more : (is : List Instance) (fs : List (Fact (List ℕ))) (f : Fact (List ℕ)) (y : List ℕ)
+    → total_of_facts (tuples is) (fs ++ f ∷ []) y
+    ≡ total_of_facts (tuples is) fs y ⊕ when (tuple_reaches is f.at y) (of_value f.value)
 total_more is fs f y =
-    ap (λ vs. total (map of_value vs)) (values_push is fs f y) ∙ go (tuple_reaches is f.members y)
+    ap (λ vs. total (map of_value vs)) (values_push is fs f y) ∙ go (tuple_reaches is f.at y)
   where
-    go : (b : Bool) → total (map of_value (cube_values_at is fs y ++ cond b (f.value ∷ []) []))
-        ≡ total_of_cube_facts is fs y ⊕ when b (of_value f.value)
-    go true = ap total (map-append of_value (cube_values_at is fs y) (f.value ∷ []))
-        ∙ total_push (map of_value (cube_values_at is fs y)) (of_value f.value)
-    go false = ap (λ vs. total (map of_value vs)) (append-nil (cube_values_at is fs y))
-        ∙ sym (⊕_none (total_of_cube_facts is fs y))
+    go : (b : Bool) → total (map of_value (values_at (tuples is) fs y ++ cond b (f.value ∷ []) []))
+        ≡ total_of_facts (tuples is) fs y ⊕ when b (of_value f.value)
+    go true = ap total (map-append of_value (values_at (tuples is) fs y) (f.value ∷ []))
+        ∙ total_push (map of_value (values_at (tuples is) fs y)) (of_value f.value)
+    go false = ap (λ vs. total (map of_value vs)) (append-nil (values_at (tuples is) fs y))
+        ∙ sym (⊕_none (total_of_facts (tuples is) fs y))
 
 -- ---- keys
 
@@ -117,35 +117,35 @@ pushed es p v q = summary_push es (p, v) q ∙ go (is_key p q) refl
 abbrev pub with_entries : CubeTallied → List Entry → CubeTallied
 with_entries t entries = record { instances = t.instances; target = t.target; added = t.added + 1; entries = entries }
 
-module _ (t : CubeTallied) (facts : List CubeFact) (f : CubeFact) (s : CubeStandsFor t facts) where
+module _ (t : CubeTallied) (facts : List (Fact (List ℕ))) (f : Fact (List ℕ)) (s : CubeStandsFor t facts) where
   -- one fact more is added
   one_more : t.added + 1 ≡ length (facts ++ f ∷ [])
-  one_more = let a = s.added in omega (arith, length-append {A = CubeFact})
+  one_more = let a = s.added in omega (arith, length-append {A = Fact (List ℕ)})
 
   -- a fact that reaches no tuple of the target
-  pub stands_apart : ReachesNone t.instances f.members t.target
+  pub stands_apart : ReachesNone t.instances f.at t.target
       → CubeStandsFor (with_entries t t.entries) (facts ++ f ∷ [])
   stands_apart n = record {
     added = one_more;
     at = λ y m. s.at y m ∙ sym (total_more t.instances facts f y
-        ∙ same y (tuple_reaches t.instances f.members y) (apart y m));
+        ∙ same y (tuple_reaches t.instances f.at y) (apart y m));
     keys = s.keys;
   }
     where
-      apart : (y : List ℕ) → IsTupleOf t.instances t.target y → tuple_reaches t.instances f.members y ≡ false
-      apart y m = go (tuple_reaches t.instances f.members y) refl
+      apart : (y : List ℕ) → IsTupleOf t.instances t.target y → tuple_reaches t.instances f.at y ≡ false
+      apart y m = go (tuple_reaches t.instances f.at y) refl
         where
-          go : (b : Bool) → tuple_reaches t.instances f.members y ≡ b → b ≡ false
-          go true e = absurd (n y m ((tuple_reaches_is t.instances f.members y).0 e))
+          go : (b : Bool) → tuple_reaches t.instances f.at y ≡ b → b ≡ false
+          go true e = absurd (n y m ((tuple_reaches_is t.instances f.at y).0 e))
           go false e = refl
 
       same : (y : List ℕ) (b : Bool) → b ≡ false
-          → total_of_cube_facts t.instances facts y ⊕ when b (of_value f.value)
-          ≡ total_of_cube_facts t.instances facts y
+          → total_of_facts (tuples t.instances) facts y ⊕ when b (of_value f.value)
+          ≡ total_of_facts (tuples t.instances) facts y
       same y true e = absurd (cc)
-      same y false e = ⊕_none (total_of_cube_facts t.instances facts y)
+      same y false e = ⊕_none (total_of_facts (tuples t.instances) facts y)
 
-  module _ (entries : List Entry) (y : List ℕ) (p : List ℕ) (r : IsTupleAncestor t.instances f.members t.target y)
+  module _ (entries : List Entry) (y : List ℕ) (p : List ℕ) (r : IsTupleAncestor t.instances f.at t.target y)
       (k : p ≡ key_of y) (few : length t.instances ≤ most_dimensions)
       (at : (q : List ℕ) → summary_at entries q
       ≡ (if is_key p q then summary_at t.entries p ⊕ Some (of_value f.value) else summary_at t.entries q)) where
@@ -158,13 +158,13 @@ module _ (t : CubeTallied) (facts : List CubeFact) (f : CubeFact) (s : CubeStand
 
     -- what stands at a tuple's key is what the facts and this one come to there
     at_tuple : (z : List ℕ) → IsTupleOf t.instances t.target z
-        → summary_at entries (key_of z) ≡ total_of_cube_facts t.instances (facts ++ f ∷ []) z
-    at_tuple z m = go (tuple_reaches t.instances f.members z) refl
+        → summary_at entries (key_of z) ≡ total_of_facts (tuples t.instances) (facts ++ f ∷ []) z
+    at_tuple z m = go (tuple_reaches t.instances f.at z) refl
       where
-        go : (b : Bool) → tuple_reaches t.instances f.members z ≡ b
-            → summary_at entries (key_of z) ≡ total_of_cube_facts t.instances (facts ++ f ∷ []) z
+        go : (b : Bool) → tuple_reaches t.instances f.at z ≡ b
+            → summary_at entries (key_of z) ≡ total_of_facts (tuples t.instances) (facts ++ f ∷ []) z
         go true e =
-            let same : z ≡ y = r.only z m ((tuple_reaches_is t.instances f.members z).0 e) in
+            let same : z ≡ y = r.only z m ((tuple_reaches_is t.instances f.at z).0 e) in
             let own : p ≡ key_of z = k ∙ ap key_of (sym same) in
             at (key_of z)
             ∙ ap (λ b. if b then summary_at t.entries p ⊕ Some (of_value f.value) else summary_at t.entries (key_of z))
@@ -172,19 +172,19 @@ module _ (t : CubeTallied) (facts : List CubeFact) (f : CubeFact) (s : CubeStand
             ∙ ap (λ q. summary_at t.entries q ⊕ Some (of_value f.value)) own
             ∙ ap (λ o. o ⊕ Some (of_value f.value)) (s.at z m)
             ∙ sym (total_more t.instances facts f z
-            ∙ ap (λ b. total_of_cube_facts t.instances facts z ⊕ when b (of_value f.value)) e)
+            ∙ ap (λ b. total_of_facts (tuples t.instances) facts z ⊕ when b (of_value f.value)) e)
         go false e =
             at (key_of z)
             ∙ ap (λ b. if b then summary_at t.entries p ⊕ Some (of_value f.value) else summary_at t.entries (key_of z))
             (not_here (is_key p (key_of z)) refl)
             ∙ s.at z m ∙ sym (total_more t.instances facts f z
-            ∙ ap (λ b. total_of_cube_facts t.instances facts z ⊕ when b (of_value f.value)) e
-            ∙ ⊕_none (total_of_cube_facts t.instances facts z))
+            ∙ ap (λ b. total_of_facts (tuples t.instances) facts z ⊕ when b (of_value f.value)) e
+            ∙ ⊕_none (total_of_facts (tuples t.instances) facts z))
           where
             not_here : (b : Bool) → is_key p (key_of z) ≡ b → b ≡ false
             not_here true h =
-                let reached = (tuple_reaches_is t.instances f.members z).1
-                (subst (λ w. TupleReaches t.instances f.members w) (sym (here z m h)) r.reached) in
+                let reached = (tuple_reaches_is t.instances f.at z).1
+                (subst (λ w. TupleReaches t.instances f.at w) (sym (here z m h)) r.reached) in
                 absurd (cc (reached, e))
             not_here false h = refl
 
@@ -202,12 +202,13 @@ module _ (t : CubeTallied) (facts : List CubeFact) (f : CubeFact) (s : CubeStand
     stands_joined = record { added = one_more; at = at_tuple; keys = at_key }
 
 -- the same of rows, where the row of the fact's value is added
-pub fact_joined : (columns : List Ascent) (old new : List told_row.CubeRow) (f : CubeFact) (y p : List ℕ) (e : Entry)
+pub fact_joined : (columns : List Ascent) (old new : List told_row.CubeRow) (f : Fact (List ℕ)) (y p : List ℕ)
+    (e : Entry)
     → length columns ≤ most_dimensions
-    → IsTupleAncestor (instances_in columns) f.members (categories_in columns) y → p ≡ key_of y
+    → IsTupleAncestor (instances_in columns) f.at (categories_in columns) y → p ≡ key_of y
     → e ≡ (p, of_value f.value)
     → ((q : List ℕ) → summary_at (entries_of new) q ≡ summary_at (entries_of old ++ e ∷ []) q)
-    → (n : ℕ) (facts : List CubeFact) → CubeStandsFor (tallied columns old n) facts
+    → (n : ℕ) (facts : List (Fact (List ℕ))) → CubeStandsFor (tallied columns old n) facts
     → CubeStandsFor (tallied columns new (n + 1)) (facts ++ f ∷ [])
 fact_joined columns old new f y p e few r k is h = λ n facts s.
     let l = length-map columns (λ (a : Ascent). a.instance) in
@@ -216,15 +217,15 @@ fact_joined columns old new f y p e few r k is h = λ n facts s.
     ∙ pushed (entries_of old) p (of_value f.value) q)
 
 -- and where the fact reaches none
-pub fact_apart : (columns : List Ascent) (rows : List told_row.CubeRow) (f : CubeFact)
-    → ReachesNone (instances_in columns) f.members (categories_in columns) → (n : ℕ) (facts : List CubeFact)
+pub fact_apart : (columns : List Ascent) (rows : List told_row.CubeRow) (f : Fact (List ℕ))
+    → ReachesNone (instances_in columns) f.at (categories_in columns) → (n : ℕ) (facts : List (Fact (List ℕ)))
     → CubeStandsFor (tallied columns rows n) facts → CubeStandsFor (tallied columns rows (n + 1)) (facts ++ f ∷ [])
 fact_apart columns rows f none n facts s = stands_apart (tallied columns rows n) facts f s none
 
 -- where the same stands at each key, a tally stands for the same facts
 pub stands_same : (t : CubeTallied) (entries : List Entry)
     → ((q : List ℕ) → summary_at entries q ≡ summary_at t.entries q)
-    → (facts : List CubeFact) → CubeStandsFor t facts → CubeStandsFor (record t { entries = entries }) facts
+    → (facts : List (Fact (List ℕ))) → CubeStandsFor t facts → CubeStandsFor (record t { entries = entries }) facts
 stands_same t entries h facts s = record {
   added = s.added;
   at = λ y m. h (key_of y) ∙ s.at y m;
@@ -247,7 +248,8 @@ tally_same t i entries h w = record {
 -- ---- every tally
 
 -- a tally with one fact more is one
-pub tally_more : (t : CubeTallied) (q : IsCubeTally t) (f : CubeFact) (entries : List Entry) → t.added + 1 ≤ most_count
+pub tally_more : (t : CubeTallied) (q : IsCubeTally t) (f : Fact (List ℕ)) (entries : List Entry)
+    → t.added + 1 ≤ most_count
     → SFits w64 f.value → IsWithin (t.added + 1) entries → CubeStandsFor (with_entries t entries) (q.facts ++ f ∷ [])
     → IsCubeTally (with_entries t entries)
 tally_more t q f entries h v w s = record {
@@ -255,7 +257,7 @@ tally_more t q f entries h v w s = record {
   few = h;
   within = w;
   facts = q.facts ++ f ∷ [];
-  values = All-push (λ (f : CubeFact). SFits w64 f.value) q.facts f q.values v;
+  values = All-push (λ (f : Fact (List ℕ)). SFits w64 f.value) q.facts f q.values v;
   stands = s;
 }
 
@@ -272,30 +274,30 @@ tally_start is c few = record {
   few = omega arith;
   within = record { each = All-nil IsOwn; all = omega arith };
   facts = [];
-  values = All-nil (λ (f : CubeFact). SFits w64 f.value);
+  values = All-nil (λ (f : Fact (List ℕ)). SFits w64 f.value);
   stands = stands_start is c;
 }
 
 -- ---- rows
 
 -- the entries, in order, are the rows of the direct view
-pub direct_rows_are : (t : CubeTallied) (facts : List CubeFact) → length t.instances ≤ most_dimensions
+pub direct_rows_are : (t : CubeTallied) (facts : List (Fact (List ℕ))) → length t.instances ≤ most_dimensions
     → CubeStandsFor t facts → IsStrictlySortedBy key_cmp (keys_of t.entries)
-    → map (row_of_entry (length t.instances)) t.entries ≡ cube_direct_rows t.instances t.target facts
+    → map (row_of_entry (length t.instances)) t.entries ≡ direct_rows (tuples t.instances) t.target facts
 direct_rows_are t facts few s o =
-    rows_are key_cmp nat_list_cmp_total exact_bytes key_of (λ y x. record { members = y; summary = x })
+    rows_are key_cmp nat_list_cmp_total exact_bytes key_of (λ y x. record { at = y; summary = x })
     (row_of_entry (length t.instances)) (tuples_of t.instances t.target) t.entries reads
     (keys-ascend t.instances t.target few) o keys
-    ∙ filter_map_same (λ y. cube_row_at y (lookup (is_at (key_cmp (key_of y))) t.entries))
-    (λ y. cube_row_at y (total_of_cube_facts t.instances facts y)) (tuples_of t.instances t.target)
-    (λ y c. ap (cube_row_at y)
+    ∙ filter_map_same (λ y. row_at y (lookup (is_at (key_cmp (key_of y))) t.entries))
+    (λ y. row_at y (total_of_facts (tuples t.instances) facts y)) (tuples_of t.instances t.target)
+    (λ y c. ap (row_at y)
     (sym (summary_found t.entries o (key_of y)) ∙ s.at y (tuples_of_is t.instances t.target y c)))
   where
     reads : (y : List ℕ) → Contains (tuples_of t.instances t.target) y → (x : Summary)
-        → row_of_entry (length t.instances) (key_of y, x) ≡ record { members = y; summary = x }
+        → row_of_entry (length t.instances) (key_of y, x) ≡ record { at = y; summary = x }
     reads y c x =
         let n = tuple_length t.instances t.target y (tuples_of_is t.instances t.target y c) in
-        ap (λ ys. record { members = ys; summary = x })
+        ap (λ ys. record { at = ys; summary = x })
         (ap (λ j. take j (key_of y)) (sym n) ∙ take-filled most_dimensions y (omega arith))
 
     keys : (q : List ℕ) → IsSome (lookup (is_at (key_cmp q)) t.entries)
@@ -306,25 +308,25 @@ direct_rows_are t facts few s o =
 -- each row of a direct view stands at members
 rows_members : (is : List Instance) (h : List ℕ → Option Summary) (ts : List (List ℕ))
     → ((y : List ℕ) → Contains ts y → AreMembers is y)
-    → All (λ (r : CubeRow). AreMembers is r.members) (filter_map (λ y. cube_row_at y (h y)) ts)
-rows_members is h [] f = All-nil (λ (r : CubeRow). AreMembers is r.members)
+    → All (λ (r : Row (List ℕ)). AreMembers is r.at) (filter_map (λ y. row_at y (h y)) ts)
+rows_members is h [] f = All-nil (λ (r : Row (List ℕ)). AreMembers is r.at)
 rows_members is h (y ∷ ys) f =
     cons (h y) (f y (contains_head y ys)) (rows_members is h ys (λ z c. f z (contains_cons z ys y c)))
   where
     cons : (o : Option Summary) → AreMembers is y
-        → All (λ (r : CubeRow). AreMembers is r.members) (filter_map (λ y. cube_row_at y (h y)) ys)
-        → All (λ (r : CubeRow). AreMembers is r.members)
-        (cons_option (cube_row_at y o) (filter_map (λ y. cube_row_at y (h y)) ys))
+        → All (λ (r : Row (List ℕ)). AreMembers is r.at) (filter_map (λ y. row_at y (h y)) ys)
+        → All (λ (r : Row (List ℕ)). AreMembers is r.at)
+        (cons_option (row_at y o) (filter_map (λ y. row_at y (h y)) ys))
     cons None m a = a
-    cons (Some s) m a = All-cons (λ (r : CubeRow). AreMembers is r.members) (record { members = y; summary = s })
-        (filter_map (λ y. cube_row_at y (h y)) ys) m a
+    cons (Some s) m a = All-cons (λ (r : Row (List ℕ)). AreMembers is r.at) (record { at = y; summary = s })
+        (filter_map (λ y. row_at y (h y)) ys) m a
 
 -- the rows of a direct view stand at members
-pub direct_members : (is : List Instance) (c : List ℕ) (facts : List CubeFact) (rows : List CubeRow)
-    → rows ≡ cube_direct_rows is c facts → All (λ r. AreMembers is r.members) rows
+pub direct_members : (is : List Instance) (c : List ℕ) (facts : List (Fact (List ℕ))) (rows : List (Row (List ℕ)))
+    → rows ≡ direct_rows (tuples is) c facts → All (λ r. AreMembers is r.at) rows
 direct_members is c facts rows e =
-    subst (All (λ (r : CubeRow). AreMembers is r.members)) (sym e)
-    (rows_members is (total_of_cube_facts is facts) (tuples_of is c)
+    subst (All (λ (r : Row (List ℕ)). AreMembers is r.at)) (sym e)
+    (rows_members is (total_of_facts (tuples is) facts) (tuples_of is c)
     (λ y m. tuple_members is c y (tuples_of_is is c y m)))
 
 -- the rows that structs stand for are those of their entries
@@ -334,11 +336,11 @@ rows_of_entries k [] = refl
 rows_of_entries k (r ∷ rows) = ap (λ t. cube_row_of k r ∷ t) (rows_of_entries k rows)
 
 -- joined rows, in order, are those of the direct view
-pub told_rows : (t : CubeTallied) (facts : List CubeFact) (rows : List told_row.CubeRow)
+pub told_rows : (t : CubeTallied) (facts : List (Fact (List ℕ))) (rows : List told_row.CubeRow)
     → length t.instances ≤ most_dimensions → CubeStandsFor t facts
     → ((q : List ℕ) → summary_at (entries_of rows) q ≡ summary_at t.entries q)
     → IsStrictlySortedBy key_cmp (keys_of (entries_of rows))
-    → cube_rows_of (length t.instances) rows ≡ cube_direct_rows t.instances t.target facts
+    → cube_rows_of (length t.instances) rows ≡ direct_rows (tuples t.instances) t.target facts
 told_rows t facts rows few s h o =
     rows_of_entries (length t.instances) rows
     ∙ direct_rows_are (record t { entries = entries_of rows }) facts few (stands_same t (entries_of rows) h facts s) o

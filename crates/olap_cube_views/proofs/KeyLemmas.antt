@@ -1,4 +1,4 @@
--- Keys of tuples: their numbers, and zeros up to so many.
+-- Keys of tuples: their numbers, and zeros up to this many.
 --     filled_more     one number more
 --     filled_same     of as many numbers, equal keys are of one tuple
 --     filled_order    keys ascend as the tuples do
@@ -10,7 +10,7 @@ use Rattle.std.specs.Cmp.Lexicographic.{lists_total, slice_cmp}
 use Rattle.std.specs.Ordering.{nat_cmp, ordering_then}
 use Rattle.olap_cube_views.specs.CubeTallies.{filled}
 
--- a key has so many numbers
+-- a key has this many numbers
 pub length-filled : (n : ℕ) (ys : List ℕ) → length (filled n ys) ≡ n
 length-filled zero ys = refl
 length-filled (suc n) [] = ap suc (length-filled n [])

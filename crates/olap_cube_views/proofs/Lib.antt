@@ -7,7 +7,8 @@ mod AncestorLemmas
 mod OrderLemmas
 mod CubeTallyLemmas
 mod ReferenceLemmas
-mod CubeReadingLemmas
+pub mod CubeReadingLemmas
+pub mod CubeMeaningLemmas
 mod CubePrintingLemmas
 mod CubeCountingLemmas
 mod CubeFeedLemmas

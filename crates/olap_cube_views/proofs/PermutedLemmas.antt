@@ -5,22 +5,18 @@ use Rattle.std.specs.List.Sorted.{IsPermutation}
 use Rattle.std.proofs.lemmas.List.Edits.{swap_is}
 use Rattle.std.proofs.lemmas.List.Sorted.{IsPermutation-keeps}
 use Rattle.olap_base.specs.Summaries.{Summary, ◌⊕◌}
-use Rattle.olap_base.proofs.TotalLemmas.{total_by, ⊕_assoc, ⊕_comm}
-
--- one before another is the other before the one
-passed : (a b c : Option Summary) → a ⊕ (b ⊕ c) ≡ b ⊕ (a ⊕ c)
-passed a b c = sym (⊕_assoc a b c) ∙ ap (λ t. t ⊕ c) (⊕_comm a b) ∙ ⊕_assoc b a c
+use Rattle.olap_base.proofs.TotalLemmas.{total_by, ⊕_assoc, ⊕_comm, totals_exchanged}
 
 module _ {A : Type 0} (f : A → Option Summary) where
   -- the item at j before the list that has another in its place
   traded : (x : A) (xs : List A) (j : ℕ) (d : A) → j < length xs
       → f (get_or xs j d) ⊕ total_by f (set xs j x) ≡ f x ⊕ total_by f xs
   traded x [] j d h = absurd (omega arith)
-  traded x (y ∷ ys) zero d h = passed (f y) (f x) (total_by f ys)
+  traded x (y ∷ ys) zero d h = totals_exchanged (f y) (f x) (total_by f ys)
   traded x (y ∷ ys) (suc j) d h =
-      passed (f (get_or ys j d)) (f y) (total_by f (set ys j x))
+      totals_exchanged (f (get_or ys j d)) (f y) (total_by f (set ys j x))
       ∙ ap (λ t. f y ⊕ t) (traded x ys j d (omega arith))
-      ∙ passed (f y) (f x) (total_by f ys)
+      ∙ totals_exchanged (f y) (f x) (total_by f ys)
 
   -- two items that change places leave the total as it is
   swapped : (xs : List A) (j k : ℕ) (d : A) → j < length xs → k < length xs

@@ -18,8 +18,7 @@ use Rattle.std.proofs.lemmas.Map.Entries.{lookup_head, lookup_tail, none_below_h
 use Rattle.std.proofs.lemmas.Map.Keys.{IsDistinct-from_sorted, sorted_tail}
 use Rattle.std.proofs.lemmas.Map.Lookups.{CmpEqualImpliesEq}
 use Rattle.olap_base.specs.Deciding.{contains_cases, contains_cons}
-use Rattle.olap_base.proofs.ListLemmas.{Contains-nil, contains_head}
-use Rattle.olap_view.proofs.ViewingLemmas.{filter_map_same}
+use Rattle.olap_base.proofs.ListLemmas.{Contains-nil, contains_head, filter_map_same}
 
 -- each is below those after it
 abbrev pub Ascends : {T : Type 0} → (T → T → Ordering) → List T → Type 0

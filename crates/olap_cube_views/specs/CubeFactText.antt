@@ -17,13 +17,13 @@ use Rattle.olap_numerals.specs.Values.{value_of}
 use Rattle.olap_facts.specs.FactText.{is_bottom}
 use Rattle.olap_facts.specs.declared.kinds.FactKind.{FactKind}
 use Rattle.olap_facts.specs.declared.kinds.FactKind.TheVariants as kind
-use Rattle.olap_cube.specs.CubeViews.{CubeFact}
+use Rattle.olap_base.specs.Views.{Fact}
 
--- the names of the columns of members, one for each of so many dimensions
+-- the names of the columns of members, one for each of this many dimensions
 abbrev pub member_columns : ℕ → List (List ℕ)
 member_columns k = take k (codes "m1" ∷ codes "m2" ∷ codes "m3" ∷ codes "m4" ∷ [])
 
--- the fields of the first record, where there are so many dimensions
+-- the fields of the first record, if there are this many dimensions
 abbrev pub header : ℕ → List (List ℕ)
 header k = member_columns k ++ codes "value" ∷ []
 
@@ -46,15 +46,15 @@ abbrev pub members_read : List Instance → List (List ℕ) → List ℕ
 members_read (i ∷ is) (f ∷ fields) = member_number i f ∷ members_read is fields
 members_read _ _ = []
 
--- the fault of a record whose members have none, where there may be so many facts: the last field spells no value, or
--- there are as many before
+-- the fault of a record whose members have none, if at most this many facts may come: the last field spells no value,
+-- or there are as many before
 abbrev pub value_fault_within : ℕ → List (List (List ℕ)) → List ℕ → Option FactKind
 value_fault_within most before f =
     if is_none (value_of f) then Some kind.BadNumber
     else if nat_le most (length before) then Some kind.TooManyFacts
     else None
 
--- the first check that a record fails, after the records before it, where there may be so many facts
+-- the first check that a record fails, after the records before it, if at most this many facts may come
 abbrev pub cube_fact_fault_within : ℕ → List Graph → List Instance → List (List (List ℕ)) → List (List ℕ)
     → Option FactKind
 cube_fact_fault_within most gs is before r =
@@ -66,20 +66,20 @@ abbrev pub cube_fact_fault : List Graph → List Instance → List (List (List �
 cube_fact_fault = cube_fact_fault_within most_listed_facts
 
 -- a record's fact: the members that it names, and the value that it spells
-abbrev pub cube_fact_read : List Instance → List (List ℕ) → CubeFact
+abbrev pub cube_fact_read : List Instance → List (List ℕ) → Fact (List ℕ)
 cube_fact_read is r =
-    record { members = members_read is r; value = unwrap_or (value_of (field r (length is))) (pos 0) }
+    record { at = members_read is r; value = unwrap_or (value_of (field r (length is))) (pos 0) }
 
 -- ---- all of them
 
--- what the records of a text stand for, where there may be so many facts
+-- what the records of a text stand for, if at most this many facts may come
 abbrev pub cube_facts_read_within : ℕ → List Graph → List Instance → List (List (List ℕ))
-    → Result (List CubeFact) (Fault FactKind)
+    → Result (List (Fact (List ℕ))) (Fault FactKind)
 cube_facts_read_within most gs is records = table_read (header (length is)) kind.BadHeader
     (λ rows. or_read (first_fault (cube_fact_fault_within most gs is) [] rows) (Ok (map (cube_fact_read is) rows)))
     records
 
 -- the same for a file that is read into a list
 abbrev pub cube_facts_read : List Graph → List Instance → List (List (List ℕ))
-    → Result (List CubeFact) (Fault FactKind)
+    → Result (List (Fact (List ℕ))) (Fault FactKind)
 cube_facts_read = cube_facts_read_within most_listed_facts

@@ -12,13 +12,13 @@ use Rattle.olap_base.specs.declared.refusals.Fault.{Fault}
 use Rattle.olap_records.specs.Faults.{first_fault}
 use Rattle.olap_records.specs.Standing.{Standing, at_start, behind, records_fed, standing}
 use Rattle.olap_facts.specs.declared.kinds.FactKind.{FactKind}
-use Rattle.olap_cube.specs.CubeViews.{CubeFact}
+use Rattle.olap_base.specs.Views.{Fact}
 use Rattle.olap_cube.specs.Limits.{most_dimensions}
 use Rattle.olap_cube_views.specs.CubeFactText.{cube_fact_fault_within, cube_fact_read, cube_facts_read_within, header}
 use Rattle.olap_cube_views.specs.CubeTallies.{CubeStandsFor, CubeTallied}
 use Rattle.olap_cube_views.specs.Dimensions.{AreMadeFor}
 
--- the dimensions' graphs, whether the header was found, where its text stands, and what the facts so far come to
+-- the dimensions' graphs, whether the header was found, where its text stands, and the totals of the facts so far
 pub record CubeRolling : Type 0 where
   pub graphs : List Graph
   pub begun : Bool
@@ -26,18 +26,19 @@ pub record CubeRolling : Type 0 where
   pub tally : CubeTallied
 
 -- what a text stands for that was handed on without its byte order mark
-abbrev pub cube_fed_read : List Graph → List Instance → List ℕ → Result (List CubeFact) (Fault FactKind)
+abbrev pub cube_fed_read : List Graph → List Instance → List ℕ → Result (List (Fact (List ℕ))) (Fault FactKind)
 cube_fed_read gs is text = cube_facts_read_within most_facts gs is (records_fed text)
 
 -- ---- the records so far
 
 -- before the header there is no record
-pub record IsFresh (done : List (List (List ℕ))) (facts : List CubeFact) : Type 0 where
+pub record IsFresh (done : List (List (List ℕ))) (facts : List (Fact (List ℕ))) : Type 0 where
   pub none : done ≡ []
   pub no_facts : facts ≡ []
 
 -- the header came and then some records that have no fault, whatever comes after them, and these are their facts
-pub record IsGoing (gs : List Graph) (is : List Instance) (done : List (List (List ℕ))) (facts : List CubeFact) : Type 0
+pub record IsGoing (gs : List Graph) (is : List Instance) (done : List (List (List ℕ)))
+    (facts : List (Fact (List ℕ))) : Type 0
   where
     pub top : List (List ℕ)
     pub rows : List (List (List ℕ))
@@ -49,7 +50,7 @@ pub record IsGoing (gs : List Graph) (is : List Instance) (done : List (List (Li
 
 -- these are the records so far, of which the header was found or not, and these their facts
 pub record Counted (gs : List Graph) (is : List Instance) (begun : Bool) (done : List (List (List ℕ)))
-    (facts : List CubeFact) : Type 0 where
+    (facts : List (Fact (List ℕ))) : Type 0 where
   pub fresh : begun ≡ false → IsFresh done facts
   pub going : begun ≡ true → IsGoing gs is done facts
 
@@ -57,7 +58,7 @@ pub record Counted (gs : List Graph) (is : List Instance) (begun : Bool) (done :
 pub record HasCounted (gs : List Graph) (is : List Instance) (done : List (List (List ℕ))) (tally : CubeTallied)
     : Type 0
   where
-    pub facts : List CubeFact
+    pub facts : List (Fact (List ℕ))
     pub counted : Counted gs is true done facts
     pub stands_for : CubeStandsFor tally facts
 
@@ -67,7 +68,7 @@ pub record HasTakenFacts (gs : List Graph) (is : List Instance) (target fed : Li
   pub instances : r.tally.instances ≡ is
   pub target_is : r.tally.target ≡ target
   pub done : List (List (List ℕ))
-  pub facts : List CubeFact
+  pub facts : List (Fact (List ℕ))
   pub stands_at : standing at_start fed ≡ behind done r.stands
   pub counted : Counted gs is r.begun done facts
   pub stands_for : CubeStandsFor r.tally facts

@@ -1,8 +1,8 @@
--- A tally of a cube's facts: what the values come to, by tuples of the target's members.
+-- A tally of a cube's facts: the totals of the values, by tuples of the target's members.
 --     key_of           the key of a tuple: its members, and zeros up to four numbers
 --     IsTupleAncestor  the one tuple of the target that a tuple reaches
 --     summary_at       what stands at a key
---     IsWithin         the entries are of so many values at most
+--     IsWithin         the entries are of at most n values
 --     CubeTallied      what a tally has counted
 --     CubeStandsFor    it stands for a fact table
 --     IsCubeTally      what is true of every tally
@@ -16,7 +16,8 @@ use Rattle.olap_base.specs.Graph.{Graph}
 use Rattle.olap_base.specs.Instance.{Instance, IsMember}
 use Rattle.olap_base.specs.Limits.{most_count, most_facts}
 use Rattle.olap_base.specs.Summaries.{Summary, total}
-use Rattle.olap_cube.specs.CubeViews.{CubeFact, CubeRow, total_of_cube_facts}
+use Rattle.olap_base.specs.Views.{Fact, Row, total_of_facts}
+use Rattle.olap_cube.specs.CubeViews.{tuples}
 use Rattle.olap_cube.specs.Tuples.{IsTupleOf, TupleReaches}
 use Rattle.olap_view.specs.Columns.{Ascent}
 use Rattle.olap_view.specs.Bounds.{IsUpTo}
@@ -72,7 +73,7 @@ Entry = List ℕ × Summary
 abbrev pub entries_of : List told_row.CubeRow → List Entry
 entries_of rows = map entry_of rows
 
--- what stands at a key: all that its entries come to
+-- what stands at a key: the total of its entries
 abbrev pub summary_at : List Entry → List ℕ → Option Summary
 summary_at entries q = total (map (λ e. e.1) (filter (λ e. is_key q e.0) entries))
 
@@ -80,18 +81,18 @@ summary_at entries q = total (map (λ e. e.1) (filter (λ e. is_key q e.0) entri
 abbrev pub IsOwn : Entry → Type 0
 IsOwn e = IsUpTo e.1.count (e.1.count * 2 ^ 63) e.1
 
--- the entries' summaries are of so many values of 64 bits at most, all together
+-- the entries' summaries are of at most n values of 64 bits, all together
 pub record IsWithin (n : ℕ) (entries : List Entry) : Type 0 where
   pub each : All IsOwn entries
   pub all : sum_by (λ e. e.1.count) entries ≤ n
 
--- the row of an entry, where there are so many dimensions
-abbrev pub row_of_entry : ℕ → Entry → CubeRow
-row_of_entry k e = record { members = take k e.0; summary = e.1 }
+-- the row of an entry, if there are this many dimensions
+abbrev pub row_of_entry : ℕ → Entry → Row (List ℕ)
+row_of_entry k e = record { at = take k e.0; summary = e.1 }
 
 -- ---- tallies
 
--- how many facts were added on some instances, and what their values come to at tuples of members of the target
+-- how many facts were added on some instances, and the totals of their values at tuples of members of the target
 pub record CubeTallied : Type 0 where
   pub instances : List Instance
   pub target : List ℕ
@@ -102,18 +103,18 @@ pub record CubeTallied : Type 0 where
 abbrev pub IsKeyOf : List Instance → List ℕ → List ℕ → Type 0
 IsKeyOf is c q = (y : List ℕ) × IsTupleOf is c y × (q ≡ key_of y)
 
--- as many facts were added as the table has, and at each tuple of the target stands what the values of the facts that
--- reach it come to, and nothing at any other key
-pub record CubeStandsFor (t : CubeTallied) (facts : List CubeFact) : Type 0 where
+-- as many facts were added as the table has, at each tuple of the target stands the total of the values of the facts
+-- that reach it, and nothing stands at any other key
+pub record CubeStandsFor (t : CubeTallied) (facts : List (Fact (List ℕ))) : Type 0 where
   pub added : t.added ≡ length facts
   pub at : (y : List ℕ) → IsTupleOf t.instances t.target y
-      → summary_at t.entries (key_of y) ≡ total_of_cube_facts t.instances facts y
+      → summary_at t.entries (key_of y) ≡ total_of_facts (tuples t.instances) facts y
   pub keys : (q : List ℕ) → IsSome (summary_at t.entries q) → IsKeyOf t.instances t.target q
 
 -- the records stand for facts, and it stands for those
 pub record HasTallied (gs : List Graph) (is : List Instance) (records : List (List (List ℕ))) (t : CubeTallied)
     : Type 0 where
-  pub facts : List CubeFact
+  pub facts : List (Fact (List ℕ))
   pub read : cube_facts_read_within most_facts gs is records ≡ Ok facts
   pub stands : CubeStandsFor t facts
 
@@ -122,7 +123,7 @@ pub record IsCubeTally (t : CubeTallied) : Type 0 where
   pub dimensions : length t.instances ≤ most_dimensions
   pub few : t.added ≤ most_count
   pub within : IsWithin t.added t.entries
-  pub facts : List CubeFact
+  pub facts : List (Fact (List ℕ))
   pub values : All (λ f. FitsSigned w64 f.value) facts
   pub stands : CubeStandsFor t facts
 

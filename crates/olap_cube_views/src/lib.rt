@@ -7,6 +7,7 @@
 //! Nothing here knows how an instance is read or checked, or when such a view may be taken from others.
 #![tactic(auto)]
 
+mod laws;
 mod legals;
 mod printing;
 mod reading;
@@ -18,6 +19,7 @@ mod target_columns;
 mod viewing;
 mod views;
 
+pub use laws::cube_facts_are_meant;
 pub use legals::Legals;
 pub use printing::{print_cube_view, print_rolled_up};
 pub use reading::read_cube_facts;

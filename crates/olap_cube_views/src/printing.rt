@@ -15,7 +15,7 @@ use olap_instance::Instance;
 use olap_records::Printer;
 use std::alloc::Global;
 
-/// Prints the header for so many dimensions.
+/// Prints the header for this many dimensions.
 fn print_header(out: &mut Printer, dimensions: usize) -> Result<(), Memory>
     requires few { dimensions ≤ most_dimensions }
     requires width { out.old.width ≡ dimensions + 4 }
@@ -78,7 +78,7 @@ fn print_row(
 fn print(alloc: Global, instances: &[&Instance], view: &CubeView) -> Result<Vec<u8>, Memory>
     requires few { length instances.now ≤ most_dimensions }
     requires at_members { All (λ r.
-        AreMembers (instances_of instances.now) r.members) (cube_view_of view.now).rows }
+        AreMembers (instances_of instances.now) r.at) (cube_view_of view.now).rows }
     ensures { IfOk result
         (λ bytes. bytes.items ≡ cube_view_text (instances_of instances.now) (cube_view_of view.now)) }
 {
@@ -94,7 +94,7 @@ fn print(alloc: Global, instances: &[&Instance], view: &CubeView) -> Result<Vec<
 fn text(alloc: Global, instances: &[&Instance], view: &CubeView) -> Result<Text, Memory>
     requires few { length instances.now ≤ most_dimensions }
     requires at_members { All (λ r.
-        AreMembers (instances_of instances.now) r.members) (cube_view_of view.now).rows }
+        AreMembers (instances_of instances.now) r.at) (cube_view_of view.now).rows }
     ensures text { IfOk result
         (λ text. text ≡ cube_view_text (instances_of instances.now) (cube_view_of view.now)) }
     ensures reads { IfOk result (λ text.
@@ -107,7 +107,7 @@ fn text(alloc: Global, instances: &[&Instance], view: &CubeView) -> Result<Text,
 /// the members' ids and the four numbers in decimal. Its records read back as the header and these fields. `Memory`:
 /// out of memory.
 pub fn print_cube_view(alloc: Global, legals: &Legals, view: &CubeView) -> Result<Text, Memory>
-    requires at_members { All (λ r. AreMembers legals.now r.members) (cube_view_of view.now).rows }
+    requires at_members { All (λ r. AreMembers legals.now r.at) (cube_view_of view.now).rows }
 
     ensures text { IfOk result (λ text. text ≡ cube_view_text legals.now (cube_view_of view.now)) }
     ensures reads { IfOk result
@@ -124,7 +124,7 @@ pub fn print_rolled_up(
     view: &CubeView,
 ) -> Result<Text, Memory>
     requires at_members { All (λ r.
-        AreMembers (instances_in columns.now) r.members) (cube_view_of view.now).rows }
+        AreMembers (instances_in columns.now) r.at) (cube_view_of view.now).rows }
 
     ensures text { IfOk result
         (λ text. text ≡ cube_view_text (instances_in columns.now) (cube_view_of view.now)) }

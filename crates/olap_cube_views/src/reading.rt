@@ -27,7 +27,7 @@ use olap_numerals::value;
 use olap_records::Rows;
 use std::alloc::Global;
 
-/// Reads the first record, and says whether it is the header for so many dimensions.
+/// Reads the first record, and says whether it is the header for this many dimensions.
 fn begins(rows: &mut Rows, dimensions: usize) -> Result<bool, Memory>
     requires few { dimensions ≤ most_dimensions }
     ensures header { IfOk result (λ b. b ≡ begins_with (header dimensions) rows.old.left) }
@@ -37,7 +37,7 @@ fn begins(rows: &mut Rows, dimensions: usize) -> Result<bool, Memory>
     Ok(found && is_header(rows, dimensions))
 }
 
-/// Whether the record that was read last is the header for so many dimensions.
+/// Whether the record that was read last is the header for this many dimensions.
 fn is_header(rows: &Rows, dimensions: usize) -> bool
     requires few { dimensions ≤ most_dimensions }
     ensures { IsTrue result ↔ (rows.now.row ≡ header dimensions) }
@@ -70,8 +70,8 @@ pub(crate) fn member(graph: &Graph, instance: &Instance, field: &[u8]) -> Result
     Ok(member)
 }
 
-/// The members that the first fields of the record that was read last name, one of each dimension. A fault is told at
-/// the record of this number.
+/// The members that the first fields of the record that was read last name, one of each dimension. A fault is reported
+/// at the record of this number.
 fn members(
     alloc: Global,
     graphs: &[&Graph],
@@ -234,7 +234,7 @@ fn read(
 /// record takes a look-up of an id for each dimension.
 ///
 /// Of a record the first of these is its fault: `FieldCount`; for each member from left to right `UnknownMember`,
-/// `NotBottom`; `BadNumber`; `TooManyFacts` where it is one more than `MOST_LISTED_FACTS`. `Memory`: out of memory.
+/// `NotBottom`; `BadNumber`; `TooManyFacts` if it is one more than `MOST_LISTED_FACTS`. `Memory`: out of memory.
 pub fn read_cube_facts(
     alloc: Global,
     graphs: &[&Graph],

@@ -4,7 +4,7 @@ ghost use Rattle.olap_base.specs.Graph.{Graph as TheGraph};
 ghost use Rattle.olap_base.specs.Instance.{Instance as Members};
 ghost use Rattle.olap_base.specs.Limits.{most_facts};
 ghost use Rattle.olap_base.specs.Refusing.{IsRefusedBy};
-ghost use Rattle.olap_cube.specs.CubeViews.{CubeFact as TheFact};
+ghost use Rattle.olap_base.specs.Views.{Fact as TheFact};
 ghost use Rattle.olap_cube.specs.Limits.{most_dimensions};
 ghost use Rattle.olap_cube.specs.Tuples.{IsBottomTuple};
 ghost use Rattle.olap_records.specs.Standing.{records_fed};
@@ -35,7 +35,7 @@ struct FactAt {
     value: i64,
 }
 
-/// Whether the record that was found last is the header for so many dimensions.
+/// Whether the record that was found last is the header for this many dimensions.
 fn is_header(row: &Splitter, dimensions: usize) -> bool
     requires few { dimensions ≤ most_dimensions }
     ensures { IsTrue result ↔ (row.now.row ≡ header dimensions) }
@@ -116,7 +116,7 @@ fn add_record(
     requires made { AreMadeFor (graphs_of graphs.now) (instances_in columns.now) }
     requires instances { tally.old.instances ≡ instances_in columns.now }
     ensures counts { let gs = graphs_of graphs.now in let is = instances_in columns.now in
-        (done : Items (Items (Items ℕ))) (facts : Items TheFact) → Counted gs is begun done facts
+        (done : Items (Items (Items ℕ))) (facts : Items (TheFact (Items ℕ))) → Counted gs is begun done facts
         → CubeStandsFor tally.old facts → MatchResult result
         (λ _. HasCounted gs is (done ++ row.now.row ∷ []) tally.new)
         (λ e. (left : Items (Items (Items ℕ))) → IsRefusedBy e
@@ -144,7 +144,7 @@ fn add_record(
     }
 }
 
-/// How far a text was read: its records so far, whether the header was found, and what the facts come to.
+/// How far a text was read: its records so far, whether the header was found, and the totals of the facts.
 #[derive(Drop)]
 struct Front<'a> {
     splitter: Splitter,
@@ -215,7 +215,7 @@ impl<'a> Front<'a> {
 }
 
 /// Rolls up the facts of a text that comes in pieces, without its byte order mark (`olap_records::without_mark`). Each
-/// fact is added and forgotten: beside what they come to stands one record.
+/// fact is added and forgotten: beside the totals, one record is kept.
 #[derive(Drop)]
 pub struct CubeRoller<'a> {
     graphs: &'a [&'a Graph],
@@ -262,7 +262,7 @@ impl<'a> CubeRoller<'a> {
     /// piece.
     ///
     /// Of a record the first of these is its fault: `FieldCount`; for each member from left to right `UnknownMember`,
-    /// `NotBottom`; `BadNumber`; `TooManyFacts` where it is one more than `MOST_FACTS`.
+    /// `NotBottom`; `BadNumber`; `TooManyFacts` if it is one more than `MOST_FACTS`.
     pub fn take(self, piece: &[u8]) -> Result<CubeRoller<'a>, Refusal<Fault<FactKind>>>
         ensures takes { (gs : Items TheGraph) (is : Items Members) (target fed : Items ℕ)
             → HasTakenFacts gs is target fed self.entry → MatchResult result
@@ -287,7 +287,7 @@ impl<'a> CubeRoller<'a> {
             (λ v. IsCubeRolledUp gs is (records_fed fed) target (cube_view_of v))
             (λ e. IsRefusedBy e (cube_fed_read gs is fed)) }
         ensures members { IfOk result (λ v.
-            All (λ r. AreMembers self.entry.tally.instances r.members) (cube_view_of v).rows) }
+            All (λ r. AreMembers self.entry.tally.instances r.at) (cube_view_of v).rows) }
     {
         let mut front = self.front;
         let target = self.columns.target(alloc)?;

@@ -1,7 +1,8 @@
-// A tally of a cube's facts: what the values come to, at each tuple of the target's members that some fact reaches.
+// A tally of a cube's facts: the total of the values at each tuple of the target's members that some fact reaches.
 ghost use Rattle.std.specs.Prelude.{◌≡◌, ◌+◌, ◌++◌, ◌∷◌, ◌<◌, ◌≤◌, ℕ, All, IfOk, IfSome, IsNone, List as Items, OnErr, OnOk, [], length};
 ghost use Rattle.olap_base.specs.Limits.{most_count};
-ghost use Rattle.olap_cube.specs.CubeViews.{CubeFact as TheFact, cube_direct_rows};
+ghost use Rattle.olap_base.specs.Views.{Fact as TheFact, direct_rows};
+ghost use Rattle.olap_cube.specs.CubeViews.{tuples};
 ghost use Rattle.olap_view.specs.Seen.{ids};
 ghost use Rattle.olap_cube_views.specs.CubeTallies.{AreMembers, CubeStandsFor, IsTupleAncestor, IsWithin, ReachesNone, entries_of, key_of, summary_at, tallied};
 ghost use Rattle.olap_cube.specs.Limits.{most_dimensions};
@@ -16,7 +17,7 @@ use olap_view::Column;
 use std::alloc::Global;
 use std::marker::Model;
 
-/// What the values of the facts that were added come to, at each tuple of members of a target.
+/// The total of the values of the facts that were added, at each tuple of members of a target.
 #[derive(Drop)]
 pub(crate) struct CubeTally<'a> {
     // For each dimension the member of the target's category that each member reaches.
@@ -84,7 +85,7 @@ fn add_fact(
     requires few { length columns.now ≤ most_dimensions }
     requires members { AreMembers (instances_in columns.now) (members_of members.now) }
     requires within { IsWithin most_count (entries_of sums.old.rows.items) }
-    ensures stands { OnOk result ((n : ℕ) (facts : Items TheFact)
+    ensures stands { OnOk result ((n : ℕ) (facts : Items (TheFact (Items ℕ)))
         → CubeStandsFor (tallied columns.now sums.old.rows.items n) facts
         → CubeStandsFor (tallied columns.now sums.new.rows.items (n + 1))
         (facts ++ fact_at members.now value ∷ [])) }
@@ -132,7 +133,7 @@ impl<'a> CubeTally<'a> {
         ensures instances { self.new.instances ≡ self.old.instances }
         ensures target { self.new.target ≡ self.old.target }
         ensures added { OnOk result (self.new.added ≡ self.old.added + 1) }
-        ensures stands { OnOk result ((facts : Items TheFact) → CubeStandsFor self.old facts
+        ensures stands { OnOk result ((facts : Items (TheFact (Items ℕ))) → CubeStandsFor self.old facts
             → CubeStandsFor self.new (facts ++ fact_at members.now value ∷ [])) }
     {
         add_fact(&self.columns, &mut self.sums, members, value)?;
@@ -142,10 +143,10 @@ impl<'a> CubeTally<'a> {
 
     /// The rows of the direct view.
     pub(crate) fn into_rows(self) -> Vec<CubeRow>
-        ensures rows { (facts : Items TheFact) → CubeStandsFor self.entry facts
+        ensures rows { (facts : Items (TheFact (Items ℕ))) → CubeStandsFor self.entry facts
             → cube_rows_of (length self.entry.instances) result.items
-            ≡ cube_direct_rows self.entry.instances self.entry.target facts }
-        ensures members { All (λ r. AreMembers self.entry.instances r.members)
+            ≡ direct_rows (tuples self.entry.instances) self.entry.target facts }
+        ensures members { All (λ r. AreMembers self.entry.instances r.at)
             (cube_rows_of (length self.entry.instances) result.items) }
         ensures width { length self.entry.target ≡ length self.entry.instances }
     {

@@ -1,7 +1,8 @@
 // The direct view of a cube's target from facts.
-ghost use Rattle.std.specs.Prelude.{◌≡◌, ◌≤◌, All, IfOk, List as Items, OnOk, [], length};
+ghost use Rattle.std.specs.Prelude.{◌≡◌, ℕ, ◌≤◌, All, IfOk, List as Items, OnOk, [], length};
 ghost use Rattle.olap_base.specs.Limits.{most_count};
-ghost use Rattle.olap_cube.specs.CubeViews.{CubeFact as TheFact, cube_direct_view};
+ghost use Rattle.olap_base.specs.Views.{Fact as TheFact, direct_view};
+ghost use Rattle.olap_cube.specs.CubeViews.{tuples};
 ghost use Rattle.olap_view.specs.Seen.{ids};
 ghost use Rattle.olap_cube_views.specs.CubeTallies.{AreMembers, CubeStandsFor};
 ghost use Rattle.olap_cube_views.specs.Seen.{cube_facts_of, cube_view_of, members_of};
@@ -18,10 +19,10 @@ pub(crate) fn view(
     tally: CubeTally<'_>,
 ) -> Result<CubeView, Memory>
     requires { tally.target ≡ ids target.now }
-    ensures view { IfOk result (λ v. (facts : Items TheFact) → CubeStandsFor tally.entry facts
-        → cube_view_of v ≡ cube_direct_view tally.entry.instances facts (ids target.now)) }
+    ensures view { IfOk result (λ v. (facts : Items (TheFact (Items ℕ))) → CubeStandsFor tally.entry facts
+        → cube_view_of v ≡ direct_view (tuples tally.entry.instances) facts (ids target.now)) }
     ensures members { IfOk result (λ v.
-        All (λ r. AreMembers tally.entry.instances r.members) (cube_view_of v).rows) }
+        All (λ r. AreMembers tally.entry.instances r.at) (cube_view_of v).rows) }
 {
     let mut categories = Vec::new(alloc);
     categories.extend_from_slice(target)?;
@@ -64,8 +65,8 @@ pub fn cube_direct(
 
     ensures view { IfOk result
         (λ v. cube_view_of v
-        ≡ cube_direct_view legals.now (cube_facts_of facts.now) (ids target.now)) }
-    ensures members { IfOk result (λ v. All (λ r. AreMembers legals.now r.members) (cube_view_of v).rows) }
+        ≡ direct_view (tuples legals.now) (cube_facts_of facts.now) (ids target.now)) }
+    ensures members { IfOk result (λ v. All (λ r. AreMembers legals.now r.at) (cube_view_of v).rows) }
 {
     let mut tally = CubeTally::new(alloc, columns(alloc, legals, target)?);
     add_facts(facts, &mut tally)?;

@@ -22,7 +22,7 @@ impl Members {
     }
 }
 
-/// Members, one of each dimension, with what the values of the facts below them come to.
+/// Members, one of each dimension, with the total of the values of the facts below them.
 #[derive(Clone, Copy)]
 pub struct CubeRow {
     /// The members, in order of the dimensions.

@@ -21,8 +21,8 @@ use Rattle.olap_cube.specs.CubeSummarizable.{Chosen, IsChosen, bottoms_of, insta
 use Rattle.olap_exists.specs.Existing.{FrozenAreListed}
 use Rattle.olap_exists.proofs.Counterexamples.{dec_bottom}
 use Rattle.olap_exists.proofs.FindingsListed.{truth_kinds}
-use Rattle.olap_exists.proofs.Finite.{below_suc}
 use Rattle.olap_exists.proofs.Listed.{from_either, in_left, in_right}
+use Rattle.olap_base.proofs.GeneralLemmas.{same_or_below_suc}
 
 -- ---- the same frozen dimension, whichever candidates it has
 
@@ -107,7 +107,7 @@ pub record AreAll (ss : List Schema) (cs : List ℕ) (all : List (List Chosen)) 
   pub complete : (qs : List Chosen) → AllZip3 IsChosen ss cs qs
       → (ps : List Chosen) × Contains all ps × AreSame ss ps qs
 
--- where there is none
+-- if there is none
 no_choice : (ss : List Schema) (cs : List ℕ) → ((qs : List Chosen) → AllZip3 IsChosen ss cs qs → ⊥)
     → (all : List (List Chosen)) × AreAll ss cs all
 no_choice ss cs f = (
@@ -142,7 +142,7 @@ module _ (lists : FrozenAreListed) (exist : CandidatesExist) where
         t.0,
         record {
           sound = t.1.sound;
-          complete = λ q l h. elim (below_suc q.bottom n l) [
+          complete = λ q l h. elim (same_or_below_suc q.bottom n l) [
             | inl e ↦ absurd (m (subst (λ b. IsBottom s.graph b) e h.bottom))
             | inr less ↦ t.1.complete q less h
           ];
@@ -157,7 +157,7 @@ module _ (lists : FrozenAreListed) (exist : CandidatesExist) where
                 (record { bottom = b; candidates = are; is_one = u.1.sound w.0 w.1 })
             | inr h ↦ t.1.sound p h
           ];
-          complete = λ q l h. elim (below_suc q.bottom n l) [
+          complete = λ q l h. elim (same_or_below_suc q.bottom n l) [
             | inl e ↦ (
               record { bottom = n; candidates = k; frozen = q.frozen },
               in_left (map (λ f. record { bottom = n; candidates = k; frozen = f }) u.0) t.0

@@ -13,7 +13,8 @@ use Rattle.olap_cubes.specs.Cut.{schema_files_from}
 use Rattle.olap_cubes.specs.Existing.{IsAsked}
 use Rattle.olap_cubes.specs.Questions.{ByCube, Question}
 use Rattle.olap_cubes.specs.Steps.{cube_facts_file, different_tuples, legal_files, numbered, schema_files, tuple_word}
-use Rattle.olap_cube.specs.CubeViews.{cube_direct_view}
+use Rattle.olap_base.specs.Views.{direct_view}
+use Rattle.olap_cube.specs.CubeViews.{tuples}
 use Rattle.olap_cube_views.specs.CubeViewText.{cube_view_text}
 use Rattle.olap_order.specs.Arguments.{between, exactly, word}
 use Rattle.olap_order.specs.Order.{Done, Order, Told, and_then}
@@ -37,19 +38,19 @@ of_cubeview k words =
     and_then (tuple_word ss (2 * k + 4) target) (λ c.
     and_then (legal_files ss instances) (λ is.
     and_then (cube_facts_file ss is facts) (λ table.
-    Told Yes (cube_view_text is (cube_direct_view is table c)))))) (λ ss.
+    Told Yes (cube_view_text is (direct_view (tuples is) table c)))))) (λ ss.
     pass IsAsked (tuple_word ss (2 * k + 4) target) (λ c.
     and_then (legal_files ss instances) (λ is.
     and_then (cube_facts_file ss is facts) (λ table.
-    Told Yes (cube_view_text is (cube_direct_view is table c))))) (λ c.
+    Told Yes (cube_view_text is (direct_view (tuples is) table c))))) (λ c.
     pass IsAsked (legal_files ss instances) (λ is.
     and_then (cube_facts_file ss is facts) (λ table.
-    Told Yes (cube_view_text is (cube_direct_view is table c)))) (λ is.
+    Told Yes (cube_view_text is (direct_view (tuples is) table c)))) (λ is.
     pass IsAsked (cube_facts_file ss is facts) (λ table.
-    Told Yes (cube_view_text is (cube_direct_view is table c)))
-    (λ table. told IsAsked Yes (cube_view_text is (cube_direct_view is table c))))))
+    Told Yes (cube_view_text is (direct_view (tuples is) table c)))
+    (λ table. told IsAsked Yes (cube_view_text is (direct_view (tuples is) table c))))))
 
--- by so many dimensions
+-- by this many dimensions
 dimensions_come : (order : ℕ → List (List ℕ) → Option (Order Question)) (words : List (List ℕ))
     → ((k : ℕ) → MayCome IsAsked (order k words)) → MayCome IsAsked (by_dimensions order words)
 dimensions_come order words f = go (dimensions_said (word 2 words))

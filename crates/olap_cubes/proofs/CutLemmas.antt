@@ -6,7 +6,8 @@ use Rattle.std.proofs.lemmas.List.{drop-drop, get_or-drop, length-drop, length-t
 use Rattle.std.specs.Prelude.{codes, option_and_then}
 use Rattle.std.specs.Str.{bytes_eq}
 use Rattle.olap_base.specs.Limits.{most_views}
-use Rattle.olap_cube.specs.CubeViews.{cube_direct_view}
+use Rattle.olap_base.specs.Views.{direct_view}
+use Rattle.olap_cube.specs.CubeViews.{tuples}
 use Rattle.olap_cube_views.specs.CubeViewText.{cube_view_text}
 use Rattle.olap_order.specs.Arguments.{between, exactly}
 use Rattle.olap_order.specs.Behind.{by_two}
@@ -21,7 +22,7 @@ use Rattle.olap_cubes.specs.Steps.{cube_facts_file, tuple_word}
 abbrev by_test : Bool → Order Question → Option (Order Question)
 by_test b order = cond b (Some order) None
 
--- ---- words by their numbers: those behind the first one, and k others
+-- ---- words by their numbers: those after the first one, and k others
 
 -- the word of a number, of the words that are left
 word_there : (k j n : ℕ) (w : List ℕ) (rest left : List (List ℕ)) → drop k rest ≡ left → n ≡ k + j + 3
@@ -43,7 +44,7 @@ left_count k rest left d = sym (length-drop k rest) ∙ ap length d
 
 -- ---- `cube`
 
--- so many schemas, and the words of these numbers
+-- this many schemas, and the words of these numbers
 abbrev cube_with : List (List ℕ) → ℕ → ℕ → List ℕ → List (List ℕ) → Order Question
 cube_with schemas n m target sources =
     and_then (schema_files_from 1 [] schemas) (λ ss.
@@ -60,6 +61,7 @@ just_few : (k n m : ℕ) → n - k ≡ suc m
     → nat_le m most_views ≡ (nat_le (k + 2) (suc n) && nat_le (suc n) (k + most_views + 2))
 just_few k n m e = grind (arith, nat_tests)
 
+-- the words of `cube`, cut from the left, give the order by their numbers
 cube_is : (k : ℕ) (w : List ℕ) (rest : List (List ℕ))
     → cube_by k rest ≡ between (k + 2) (k + most_views + 2) (cube_order k) (w ∷ rest)
 cube_is k w rest = go (drop k rest) refl
@@ -83,14 +85,14 @@ cube_is k w rest = go (drop k rest) refl
 
 -- ---- `cubeview`
 
--- so many schemas and instances, and the words of these numbers
+-- this many schemas and instances, and the words of these numbers
 abbrev view_with : List (List ℕ) → List (List ℕ) → ℕ → List ℕ → List ℕ → Order Question
 view_with schemas instances n facts target =
     and_then (schema_files_from 1 [] schemas) (λ ss.
     and_then (tuple_word ss n target) (λ c.
     and_then (legal_files_from 1 [] ss instances) (λ is.
     and_then (cube_facts_file ss is facts) (λ table.
-    Told Yes (cube_view_text is (cube_direct_view is table c))))))
+    Told Yes (cube_view_text is (direct_view (tuples is) table c))))))
 
 -- fewer than two words are left
 fewer : (k n m : ℕ) → n - (k + k) ≡ m → m < 2 → (suc n == 2 * k + 3) ≡ false
@@ -104,6 +106,7 @@ more k n m e l = grind (arith, nat_tests)
 just_two : (k n : ℕ) → n - (k + k) ≡ 2 → true ≡ (suc n == 2 * k + 3)
 just_two k n e = grind (arith, nat_tests)
 
+-- the words of `cubeview`, cut from the left, give the order by their numbers
 view_is : (k : ℕ) (w : List ℕ) (rest : List (List ℕ))
     → cubeview_by k rest ≡ exactly (2 * k + 3) (cubeview_order k) (w ∷ rest)
 view_is k w rest = go (drop k (drop k rest)) refl

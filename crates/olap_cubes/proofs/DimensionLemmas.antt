@@ -1,17 +1,13 @@
 -- One dimension after the other.
 --     schemas_from, legals_from   the files from one of them on: the step of this one, and the files after it
 --     schemas_end, legals_end     no file is left
---     made_more, made_all         instances that were made for the graphs of so many dimensions
---     graphs_more, graphs_all     graphs of so many dimensions
---     file_is                     the bytes of a file's name
+--     made_more, made_all         instances that were made for the graphs of this many dimensions
+--     graphs_more, graphs_all     graphs of this many dimensions
 --     target_fits                 there are as many categories as dimensions
 --     ids_more                    the numbers of one category more
 use Rattle.std.proofs.Common.{◌≡◌, ◌+◌, ◌<◌, ◌≤◌, ℕ, zero, suc, List, [], ◌∷◌, ◌++◌, length, get_or, drop, take, ap, refl, subst, sym, arith, ◌∙◌}
 use Rattle.std.specs.Prelude.{codes}
 use Rattle.std.proofs.lemmas.List.{drop_all, drop_more, get_or-map, length-map, map-append, take_all, take_more}
-use Rattle.std.specs.String.{string_bytes}
-use Rattle.std.specs.declared.string.String.{String}
-use Rattle.std.specs.declared.alloc.Global.{Global}
 use Rattle.olap_base.specs.Graph.{Graph}
 use Rattle.olap_base.specs.Instance.{Instance}
 use Rattle.olap_ast.specs.Schema.{Schema}
@@ -23,16 +19,10 @@ use Rattle.olap_instance.specs.Made.{IsMadeFor}
 use Rattle.olap_order.specs.Order.{Done, and_then}
 use Rattle.olap_order.specs.Steps.{schema_file}
 use Rattle.olap_ast.specs.Trees.{numbers_of}
-use Rattle.olap_order.specs.Words.{texts}
 use Rattle.olap_reading.specs.Steps.{legal_file}
 use Rattle.olap_view.specs.Seen.{ids}
 use Rattle.olap_cubes.specs.Cut.{legal_files_from, schema_files_from}
 use Rattle.olap_cubes.specs.Steps.{numbered}
-
--- the bytes of a file's name
-pub file_is : (files : List (String Global)) (k : ℕ) (file : String Global) → k < length files
-    → file ≡ get_or files k file → string_bytes file ≡ get_or (texts files) k []
-file_is files k file h e = ap string_bytes e ∙ sym (get_or-map string_bytes files k file [] h)
 
 -- the schemas from a file on: this one, and those of the files after it
 pub schemas_from : (files : List (List ℕ)) (k : ℕ) (read : List Schema) → k < length files

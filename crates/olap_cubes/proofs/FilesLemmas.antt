@@ -4,7 +4,7 @@
 --     no_memory                   a step that runs out of memory
 --     ran_out, no_memory_yet, judged_no_memory   the same, as the code hands it on
 --     AreReadTo                   what is read of the files that are left is read of all
-use Rattle.std.proofs.Common.{◌≡◌, ◌+◌, ℕ, List, [], ◌∷◌, ◌++◌, Option, None, Some, Result, Ok, Err, MatchOption, ap, subst, sym, refl, arith, ◌∙◌}
+use Rattle.std.proofs.Common.{◌≡◌, ◌+◌, ℕ, List, [], ◌∷◌, ◌++◌, Option, None, Some, Result, Ok, Err, MatchOption, ap, subst, sym, refl, ◌∙◌}
 use Rattle.std.specs.Prelude.{IfOk}
 use Rattle.std.specs.Result.{IsErrAnd}
 use Rattle.olap_base.specs.declared.ids.Memory.{Memory}
@@ -18,15 +18,7 @@ use Rattle.olap_order.specs.declared.replies.Reply.{Reply}
 use Rattle.olap_order.specs.declared.replies.Stop.{Stop}
 use Rattle.olap_order.specs.declared.replies.Stop.TheVariants as stops
 use Rattle.olap_order.specs.declared.status.Status.{Status}
-use Rattle.olap_order.proofs.Stepping.{ended, followed, step_reads_none}
-
--- later than later is later
-after : {D : Type 0} {L : Library D} {old mid new : D} → IsLater L old mid → IsLater L mid new → IsLater L old new
-after a b = let m = a.faults in let n = b.faults in record { faults = omega (arith, m, n); sure = b.sure ∙ a.sure }
-
--- a library that wasn't asked
-same_state : {D : Type 0} {L : Library D} {old : D} → IsLater L old old
-same_state = record { faults = omega arith; sure = refl }
+use Rattle.olap_order.proofs.Stepping.{ended, followed, step_reads_none, same_state, after}
 
 module _ {T Q : Type 0} (next : T → Order Q) where
   -- what a step comes to, and then what the step after it comes to
@@ -101,7 +93,7 @@ module _ {D T X : Type 0} {L : Library D} {old new : D} {step : Order T} {meanin
 
 -- ---- out of memory, as the code hands it on
 
--- where there is an error, nothing is said of a value
+-- if there is an error, nothing is said of a value
 pub no_value : {X E : Type 0} (P : X → Type 0) (R : E → Type 0) (result : Result X E) → IsErrAnd result R
     → IfOk result P
 no_value P R (Ok x) is = absurd is
@@ -141,7 +133,7 @@ module _ {D T X : Type 0} {L : Library D} {old new : D} {step : Order T} {meanin
       → FileStep L old new step meaning (Err stop)
   ended_so s = record { comes_out = tt; ends = s.ends; same = s.same; later = s.later }
 
--- ---- one file after the other: `behind` is what comes when so many are read, and what they came to
+-- ---- one file after the other: `behind` is the order that is left once this many are read, given their values
 
 module _ {D T : Type 0} (L : Library D) (start : D) (order : Order (List T))
     (behind : ℕ → List T → Order (List T)) where

@@ -1,33 +1,25 @@
--- The least of the elements of a list that have a property, in a total order; and that lists of numbers have one.
---     same_list, total, after   of lists of numbers
+-- The least of the elements of a list that have a property, in a total cases_order; and that lists of numbers have one.
+--     not_after_itself, total, not_after_again   of lists of numbers
 --     all_total, all_after      of lists of those
 --     least_of                  the least of a list, or none has the property
-use Rattle.std.proofs.Common.{◌≡◌, ℕ, ◌<◌, List, [], ◌∷◌, refl, sym, subst, ◌∙◌, inl, inr, arith}
+use Rattle.std.proofs.Common.{◌≡◌, ℕ, ◌<◌, List, [], ◌∷◌, sym, subst, ◌∙◌, inl, inr}
 use Rattle.std.specs.Prelude.{◌⊎◌, Contains}
 use native.Mathlib.Decide.{ℕ_discrete}
 use mathlib.Core.List.{List-discrete}
 use Rattle.olap_base.specs.Deciding.{contains_cases, contains_cons}
 use Rattle.olap_base.proofs.ListLemmas.{Contains-nil, contains_head}
 use Rattle.olap_base.specs.Ranks.{IsNotAfter}
-use Rattle.olap_ast.proofs.Uniqueness.{not_after_both}
 use Rattle.olap_cube.specs.Codes.{AreNotAfter}
+use Rattle.olap_base.proofs.RankLemmas.{not_after_itself, not_after_both, not_after_again}
+use Rattle.std.proofs.lemmas.Bool.{cases_order}
 
 -- ---- lists of numbers
 
--- of two numbers
-order : (m n : ℕ) → (m ≡ n) ⊎ ((m < n) ⊎ (n < m))
-order m n = grind arith
-
--- a list comes not after itself
-pub same_list : (xs : List ℕ) → IsNotAfter xs xs
-same_list [] = tt
-same_list (x ∷ xs) = inr (refl, same_list xs)
-
--- of two lists one comes not after the other
+-- of two lists one comes not not_after_again the other
 pub total : (xs ys : List ℕ) → IsNotAfter xs ys ⊎ IsNotAfter ys xs
 total [] ys = inl tt
 total (x ∷ xs) [] = inr tt
-total (x ∷ xs) (y ∷ ys) = go (order x y) (total xs ys)
+total (x ∷ xs) (y ∷ ys) = go (cases_order x y) (total xs ys)
   where
     go : (x ≡ y) ⊎ ((x < y) ⊎ (y < x)) → IsNotAfter xs ys ⊎ IsNotAfter ys xs
         → IsNotAfter (x ∷ xs) (y ∷ ys) ⊎ IsNotAfter (y ∷ ys) (x ∷ xs)
@@ -36,19 +28,9 @@ total (x ∷ xs) (y ∷ ys) = go (order x y) (total xs ys)
     go (inr (inl l)) r = inl (inl l)
     go (inr (inr l)) r = inr (inl l)
 
--- nor after what comes after that
-pub after : (xs ys zs : List ℕ) → IsNotAfter xs ys → IsNotAfter ys zs → IsNotAfter xs zs
-after [] ys zs a b = tt
-after (x ∷ xs) [] zs a b = absurd a
-after (x ∷ xs) (y ∷ ys) [] a b = absurd b
-after (x ∷ xs) (y ∷ ys) (z ∷ zs) (inl l) (inl m) = inl (omega arith)
-after (x ∷ xs) (y ∷ ys) (z ∷ zs) (inl l) (inr m) = let e = m.0 in inl (omega arith)
-after (x ∷ xs) (y ∷ ys) (z ∷ zs) (inr l) (inl m) = let e = l.0 in inl (omega arith)
-after (x ∷ xs) (y ∷ ys) (z ∷ zs) (inr l) (inr m) = inr (l.0 ∙ m.0, after xs ys zs l.1 m.1)
-
 -- ---- lists of codes
 
--- of two lists of lists one comes not after the other
+-- of two lists of lists one comes not not_after_again the other
 pub all_total : (xs ys : List (List ℕ)) → AreNotAfter xs ys ⊎ AreNotAfter ys xs
 all_total [] ys = inl tt
 all_total (x ∷ xs) [] = inr tt
@@ -56,17 +38,17 @@ all_total (x ∷ xs) (y ∷ ys) = go (List-discrete ℕ_discrete x y) (total x y
   where
     go : Dec (x ≡ y) → IsNotAfter x y ⊎ IsNotAfter y x → AreNotAfter xs ys ⊎ AreNotAfter ys xs
         → AreNotAfter (x ∷ xs) (y ∷ ys) ⊎ AreNotAfter (y ∷ ys) (x ∷ xs)
-    go (yes e) t (inl a) = inl (subst (λ w. IsNotAfter x w) e (same_list x), λ q. a)
-    go (yes e) t (inr b) = inr (subst (λ w. IsNotAfter w x) e (same_list x), λ q. b)
+    go (yes e) t (inl a) = inl (subst (λ w. IsNotAfter x w) e (not_after_itself x), λ q. a)
+    go (yes e) t (inr b) = inr (subst (λ w. IsNotAfter w x) e (not_after_itself x), λ q. b)
     go (no n) (inl a) r = inl (a, λ e. absurd (n e))
     go (no n) (inr b) r = inr (b, λ e. absurd (n (sym e)))
 
--- nor after what comes after that
+-- nor not_after_again what comes not_after_again that
 pub all_after : (xs ys zs : List (List ℕ)) → AreNotAfter xs ys → AreNotAfter ys zs → AreNotAfter xs zs
 all_after [] ys zs a b = tt
 all_after (x ∷ xs) [] zs a b = absurd a
 all_after (x ∷ xs) (y ∷ ys) [] a b = absurd b
-all_after (x ∷ xs) (y ∷ ys) (z ∷ zs) a b = (after x y z a.0 b.0, rest (all_after xs ys zs))
+all_after (x ∷ xs) (y ∷ ys) (z ∷ zs) a b = (not_after_again x y z a.0 b.0, rest (all_after xs ys zs))
   where
     rest : (AreNotAfter xs ys → AreNotAfter ys zs → AreNotAfter xs zs) → x ≡ z → AreNotAfter xs zs
     rest again e =
@@ -81,7 +63,7 @@ module _ {X : Type 0} (R : X → X → Type 0) (tot : (x y : X) → R x y ⊎ R 
   abbrev pub LeastOf : List X → Type 0
   LeastOf xs = ((x : X) × P x × ((y : X) → Contains xs y → P y → R x y)) ⊎ ((y : X) → Contains xs y → P y → ⊥)
 
-  -- each comes not after itself
+  -- each comes not not_after_again itself
   itself : (x : X) → R x x
   itself x = elim (tot x x) [ inl a ↦ a | inr b ↦ b ]
 

@@ -20,7 +20,7 @@ so : (b : Bool) → T b → b ≡ true
 so true t = refl
 so false t = absurd t
 
--- the names one after the other are all names at once, behind what was read
+-- the names one after the other are all names at once, after what was read
 in_turn_is : (schemas : List Schema) (names : List (List ℕ)) (at k : ℕ) (read : List ℕ)
     → in_turn (λ k read p. category_word p.0.graph at p.1) k read (zip schemas names)
     ≡ and_then (ok_or (categories_named schemas names) (fault_text (codes "word") at (codes "UnknownCategory")))

@@ -2,8 +2,8 @@
 use Rattle.std.proofs.Common.{◌++◌, ◌∙◌, ℕ, List, ap, sym, inl, inr}
 use Rattle.std.specs.Prelude.{codes}
 use Rattle.olap_ast.specs.Schema.{Schema}
-use Rattle.olap_cube.specs.CubeSummarizable.{BadChoicesHaveTwoSums, Chosen, IsCubeCounterexample, IsCubeSummarizable, TheCubeCounterexampleIsOne, instances_of, only_cube_sum}
-use Rattle.olap_cube.specs.CubeViews.{one_cube_fact}
+use Rattle.olap_base.specs.Views.{one_fact, only_sum}
+use Rattle.olap_cube.specs.CubeSummarizable.{BadChoicesHaveTwoSums, Chosen, IsCubeCounterexample, IsCubeSummarizable, TheCubeCounterexampleIsOne, instances_of}
 use Rattle.olap_cube_summ.specs.Laws.{OneChoiceHasOneText}
 use Rattle.olap_order.specs.Outputs.{line}
 use Rattle.olap_cubes.specs.Laws.{AnswersAreOne}
@@ -16,8 +16,8 @@ module _ (one : TheCubeCounterexampleIsOne) (text : OneChoiceHasOneText) (sums :
   never schemas c sources summarizable choice x =
       let roots = x.is_one.roots in
       let h = sums schemas c sources choice x.is_one in
-      let agree = summarizable (instances_of schemas choice) h.legal (one_cube_fact roots) h.facts in
-      h.views (sym (ap only_cube_sum agree) ∙ h.direct)
+      let agree = summarizable (instances_of schemas choice) h.legal (one_fact roots) h.facts in
+      h.views (sym (ap only_sum agree) ∙ h.direct)
 
   -- a question about a cube has one status and one text at most
   pub answers_are_one : AnswersAreOne

@@ -2,7 +2,8 @@
 --     IsSoFar     a roller has taken the bytes so far
 --     no-memory   out of memory
 --     fault-out   the first fault of the facts in a file
-use Rattle.std.proofs.Common.{◌≡◌, ◌≤◌, ℕ, List, Option, None, Some, Result, [], length, refl, ap}
+--     facts-out   the facts in a file, and a view of them
+use Rattle.std.proofs.Common.{◌≡◌, ◌≤◌, ◌∙◌, ℕ, List, Option, None, Some, Result, [], length, refl, ap}
 use Rattle.std.specs.Prelude.{IfErr, Ok, Err, codes}
 use Rattle.std.specs.Result.{IsErrAnd}
 use Rattle.std.specs.Io.KnownBytes.{Consumes}
@@ -15,9 +16,16 @@ use Rattle.olap_base.specs.declared.refusals.Refusal.TheVariants as refusal
 use Rattle.olap_ast.specs.Schema.{Schema}
 use Rattle.olap_records.specs.Records.{records_of}
 use Rattle.olap_records.specs.Standing.{unmarked}
+use Rattle.olap_records.specs.Tables.{named}
 use Rattle.olap_cube.specs.CubeSummarizable.{graphs_of}
+use Rattle.olap_base.specs.Views.{View}
+use Rattle.olap_cube_views.specs.CubeFactMeaning.{cube_facts_meant}
 use Rattle.olap_cube_views.specs.CubeFactText.{cube_facts_read_within}
 use Rattle.olap_cube_views.specs.CubeFeeding.{CubeRolling, HasTakenFacts}
+use Rattle.olap_cube_views.specs.CubeRollingUp.{IsCubeRolledUp}
+use Rattle.olap_cube_views.specs.Dimensions.{AreMadeFor}
+use Rattle.olap_cube_views.proofs.CubeMeaningLemmas.{cube-facts-named, meant-cube-facts}
+use Rattle.olap_cube_views.proofs.CubeReadingLemmas.{made_length}
 use Rattle.olap_facts.specs.Kinds.{name_of_kind}
 use Rattle.olap_facts.specs.declared.kinds.FactKind.{FactKind}
 use Rattle.olap_outside.specs.Files.{Opens}
@@ -28,14 +36,15 @@ use Rattle.olap_order.specs.Steps.{meaning_or_fault}
 use Rattle.olap_order.specs.Taken.{FileStep}
 use Rattle.olap_order.specs.declared.replies.Stop.{Stop}
 use Rattle.olap_reading.specs.Rest.{IsOfRest}
-use Rattle.olap_reading.proofs.ReadingLemmas.{fault_read}
+use Rattle.olap_reading.proofs.ReadingLemmas.{content_read, fault_read}
 use Rattle.olap_reading.proofs.RollingLemmas.{content}
+use Rattle.olap_cubes.specs.OfFacts.{IsOfFacts}
 use Rattle.olap_cubes.specs.Rest.{IsOutOfMemory, IsWhyUnrolled}
 use Rattle.olap_cubes.specs.Steps.{cube_facts_file}
 use Rattle.olap_cubes.specs.declared.rolling.Unrolled.{Unrolled}
 use Rattle.olap_cubes.specs.declared.rolling.Unrolled.TheVariants as unrolled
 
--- these bytes were taken off the front of what was left, the last so many at once, and the roller has taken them
+-- these bytes were taken off the front of what was left, the last this many at once, and the roller has taken them
 pub record IsSoFar (old new : Option (List ℕ)) (count : ℕ) (gs : List Graph) (is : List Instance) (target : List ℕ)
     (r : CubeRolling) : Type 0 where
   pub text : List ℕ
@@ -49,6 +58,7 @@ memory-at : (gs : List Graph) (is : List Instance) (rest : Option (List ℕ)) (m
 memory-at gs is None m = record { text = []; told = tt; so = tt }
 memory-at gs is (Some whole) m = record { text = whole; told = refl; so = tt }
 
+-- a refusal that is out of memory says why no facts were rolled up
 pub no-memory : {X : Type 0} (gs : List Graph) (is : List Instance) (rest : Option (List ℕ))
     (result : Result X Unrolled) → IsErrAnd result IsOutOfMemory → IfErr result (IsWhyUnrolled gs is rest)
 no-memory gs is rest (Ok x) e = absurd e
@@ -60,13 +70,30 @@ module _ {D : Type 0} {L : Library D} {old new : D} (schemas : List Schema) (is 
     (rest : Option (List ℕ)) (opens : Opens (L.contents old) file rest) (same : L.contents new ≡ L.contents old)
     (later : IsLater L old new) where
   -- the first fault of the facts in the file
-  pub fault-out : (fault : Fault FactKind)
+  pub fault-out : AreMadeFor (graphs_of schemas) is → (fault : Fault FactKind)
       → IsOfRest rest (λ text. cube_facts_read_within most_facts (graphs_of schemas) is (records_of text) ≡ Err fault)
       → (stop : Stop) → IsRefusal (part_text (codes "facts") (codes "record") fault.at (name_of_kind fault.kind)) stop
       → FileStep L old new (cube_facts_file schemas is file) (λ facts. facts) (Err stop)
-  fault-out fault h stop e =
-      fault_read file (λ t. meaning_or_fault (codes "facts") (codes "record") name_of_kind
-      (cube_facts_read_within most_facts (graphs_of schemas) is (records_of t))) h.text
+  fault-out made fault h stop e =
+      fault_read file (λ t. meaning_or_fault (codes "facts") (codes "record")
+      (cube_facts_meant most_facts (graphs_of schemas) is (records_of t))) h.text
       (part_text (codes "facts") (codes "record") fault.at (name_of_kind fault.kind))
-      (ap (meaning_or_fault (codes "facts") (codes "record") name_of_kind) h.so)
+      (ap (meaning_or_fault (codes "facts") (codes "record"))
+      (cube-facts-named most_facts (graphs_of schemas) is (made_length (graphs_of schemas) is made) (records_of h.text)
+      ∙ ap (named name_of_kind) h.so))
       (content (L.contents old) file rest h.text opens h.told) later same stop e
+
+  -- the facts in the file, and a view of them
+  pub facts-out : AreMadeFor (graphs_of schemas) is → (target : List ℕ) (view : View (List ℕ) (List ℕ))
+      → IsOfRest rest (λ text. IsCubeRolledUp (graphs_of schemas) is (records_of text) target view)
+      → IsOfFacts L old new schemas is target file view
+  facts-out made target view h = record {
+    facts = h.so.facts;
+    direct = h.so.direct;
+    step = content_read file (λ t. meaning_or_fault (codes "facts") (codes "record")
+        (cube_facts_meant most_facts (graphs_of schemas) is (records_of t))) h.text h.so.facts
+        (ap (meaning_or_fault (codes "facts") (codes "record"))
+        (meant-cube-facts most_facts (graphs_of schemas) is (made_length (graphs_of schemas) is made)
+        (records_of h.text) h.so.facts h.so.read))
+        (content (L.contents old) file rest h.text opens h.told) later same;
+  }

@@ -11,7 +11,6 @@ use Rattle.olap_base.specs.Views.{ExactlyOne}
 use Rattle.olap_ast.specs.Frozen.{CandidatesExist}
 use Rattle.olap_ast.specs.Schema.{Schema}
 use Rattle.olap_ast.specs.Valid.{IsValidSchema}
-use Rattle.olap_ast.proofs.Uniqueness.{not_after_both}
 use Rattle.olap_cube.specs.Tuples.{AllZip3, IsTupleOf, TupleReachesVia}
 use Rattle.olap_cube.proofs.RankLemmas.{from_least}
 use Rattle.olap_cube.specs.Codes.{AreNotAfter, codes_of}
@@ -21,12 +20,13 @@ use Rattle.olap_cube_summ.specs.CubeCexText.{cube_counterexample_text}
 use Rattle.olap_cubes.specs.Existing.{AnswersExist}
 use Rattle.olap_cubes.specs.Questions.{ByCube, IsAnswer}
 use Rattle.olap_cubes.proofs.AllChoicesLemmas.{AreAll, AreSame, all_choices, same_bottoms, same_codes, same_instances}
-use Rattle.olap_cubes.proofs.LeastLemmas.{after, all_after, all_total, least_of, same_list, total}
+use Rattle.olap_cubes.proofs.LeastLemmas.{all_after, all_total, least_of, total}
 use Rattle.olap_exists.specs.Existing.{FrozenAreListed}
 use Rattle.olap_exists.proofs.FindingsListed.{truth_kinds}
 use Rattle.olap_order.specs.Outputs.{line}
 use Rattle.olap_order.specs.declared.status.Status.{Status}
 use Rattle.olap_order.specs.declared.status.Status.TheVariants.{Yes, No}
+use Rattle.olap_base.proofs.RankLemmas.{not_after_itself, not_after_both, not_after_again}
 
 -- ---- roots
 
@@ -90,12 +90,12 @@ module _ (lists : FrozenAreListed) (exist : CandidatesExist) (summarizable : Cub
 
     -- ---- the order of choices
 
-    -- the first choice comes not after the second
+    -- the first choice comes not not_after_again the second
     abbrev Before : List Chosen → List Chosen → Type 0
     Before ps qs = IsNotAfter (bottoms_of ps) (bottoms_of qs)
         × (bottoms_of qs ≡ bottoms_of ps → AreNotAfter (codes_of ps) (codes_of qs))
 
-    -- of two choices one comes not after the other
+    -- of two choices one comes not not_after_again the other
     one_before : (ps qs : List Chosen) → Before ps qs ⊎ Before qs ps
     one_before ps qs = go (List-discrete ℕ_discrete (bottoms_of ps) (bottoms_of qs))
         (total (bottoms_of ps) (bottoms_of qs)) (all_total (codes_of ps) (codes_of qs))
@@ -104,15 +104,17 @@ module _ (lists : FrozenAreListed) (exist : CandidatesExist) (summarizable : Cub
             → IsNotAfter (bottoms_of ps) (bottoms_of qs) ⊎ IsNotAfter (bottoms_of qs) (bottoms_of ps)
             → AreNotAfter (codes_of ps) (codes_of qs) ⊎ AreNotAfter (codes_of qs) (codes_of ps)
             → Before ps qs ⊎ Before qs ps
-        go (yes e) t (inl a) = inl (subst (λ w. IsNotAfter (bottoms_of ps) w) e (same_list (bottoms_of ps)), λ q. a)
-        go (yes e) t (inr b) = inr (subst (λ w. IsNotAfter w (bottoms_of ps)) e (same_list (bottoms_of ps)), λ q. b)
+        go (yes e) t (inl a) = inl
+            (subst (λ w. IsNotAfter (bottoms_of ps) w) e (not_after_itself (bottoms_of ps)), λ q. a)
+        go (yes e) t (inr b) = inr
+            (subst (λ w. IsNotAfter w (bottoms_of ps)) e (not_after_itself (bottoms_of ps)), λ q. b)
         go (no n) (inl a) r = inl (a, λ e. absurd (n (sym e)))
         go (no n) (inr b) r = inr (b, λ e. absurd (n e))
 
-    -- nor after what comes after that
+    -- nor not_after_again what comes not_after_again that
     before_on : (ps qs rs : List Chosen) → Before ps qs → Before qs rs → Before ps rs
     before_on ps qs rs a b = (
-      after (bottoms_of ps) (bottoms_of qs) (bottoms_of rs) a.0 b.0,
+      not_after_again (bottoms_of ps) (bottoms_of qs) (bottoms_of rs) a.0 b.0,
       λ e. let q : bottoms_of ps ≡ bottoms_of qs = not_after_both (bottoms_of ps) (bottoms_of qs) a.0
           (subst (λ w. IsNotAfter (bottoms_of qs) w) e b.0) in
           all_after (codes_of ps) (codes_of qs) (codes_of rs) (a.1 (sym q)) (b.1 (e ∙ q)),

@@ -1,8 +1,8 @@
 -- The words of a command over several dimensions, cut as the code takes them, and the files and tuples from one of them
 -- on.
---     schema_files_from, legal_files_from       of this dimension and those after it, behind what was read
+--     schema_files_from, legal_files_from       of this dimension and those after it, added to those that were read
 --     categories_named                          the categories of names
---     another_tuple, different_tuples_from      tuples that differ, behind these
+--     another_tuple, different_tuples_from      tuples that differ from one another and from the earlier ones
 --     cube_of, cubeview_of                      the orders by their files and words
 --     by_count, by_target, cube_by, cubeview_by, cut_named    and by the words that are left
 use Rattle.std.specs.Prelude.{ℕ, nat_eq, nat_le, ◌+◌, ◌*◌, List, [], ◌∷◌, codes, drop, length, take, zip, if◌then◌else◌, Option, None, Some, option_and_then, option_map}
@@ -11,7 +11,8 @@ use Rattle.std.specs.Str.{bytes_eq}
 use Rattle.olap_base.specs.Instance.{Instance}
 use Rattle.olap_base.specs.Limits.{most_views}
 use Rattle.olap_ast.specs.Schema.{Schema}
-use Rattle.olap_cube.specs.CubeViews.{cube_direct_view}
+use Rattle.olap_base.specs.Views.{direct_view}
+use Rattle.olap_cube.specs.CubeViews.{tuples}
 use Rattle.olap_cube_views.specs.CubeViewText.{cube_view_text}
 use Rattle.olap_graph.specs.Lookups.{category_named}
 use Rattle.olap_order.specs.Behind.{by_two}
@@ -68,14 +69,14 @@ cubeview_of schemas instances facts target =
     and_then (tuple_word ss (2 * length schemas + 4) target) (λ c.
     and_then (legal_files_from 1 [] ss instances) (λ is.
     and_then (cube_facts_file ss is facts) (λ table.
-    Told Yes (cube_view_text is (cube_direct_view is table c))))))
+    Told Yes (cube_view_text is (direct_view (tuples is) table c))))))
 
--- by the number of dimensions, and the words after it
+-- an order for the number of dimensions that the first word says, and the words after it
 abbrev pub by_count : {Q : Type 0} → (ℕ → List (List ℕ) → Option (Order Q)) → List (List ℕ) → Option (Order Q)
 by_count order [] = None
 by_count order (word ∷ words) = option_and_then (λ k. order k words) (dimensions_said word)
 
--- by a target and no more sources than there may be
+-- an order for a target and its sources, if there are no more sources than a command may have
 abbrev pub by_target : {Q : Type 0} → (List ℕ → List (List ℕ) → Order Q) → List (List ℕ) → Option (Order Q)
 by_target order [] = None
 by_target order (target ∷ sources) =
@@ -89,7 +90,7 @@ cube_by k words = by_target (cube_of (take k words)) (drop k words)
 abbrev pub cubeview_by : ℕ → List (List ℕ) → Option (Order Question)
 cubeview_by k words = by_two (cubeview_of (take k words) (take k (drop k words))) (drop k (drop k words))
 
--- of the command of that name
+-- the order of the command of that name with these words, if there is one
 abbrev pub cut_named : List ℕ → List (List ℕ) → Option (Order Question)
 cut_named name words =
     if bytes_eq name (codes "cube") then by_count cube_by words

@@ -21,7 +21,7 @@ abbrev pub ShowsCubeDifference : List Schema → List ℕ → List (List ℕ) �
 ShowsCubeDifference schemas c sources bytes = (choice : List Chosen) × IsCubeCounterexample schemas c sources choice
     × (bytes ≡ line (codes "no") ++ cube_counterexample_text schemas choice c sources)
 
--- these are the status and the bytes
+-- this status and these bytes answer the question
 abbrev pub IsAnswer : Question → Status → List ℕ → Type 0
 IsAnswer (ByCube schemas c sources) status bytes =
     ((status ≡ Yes) × IsCubeSummarizable schemas c sources × (bytes ≡ line (codes "yes")))

@@ -17,11 +17,12 @@ seen (code.CubeView schemas instances facts target) =
     cubeview_of (texts schemas.now) (texts instances.now) facts.now target.now
 seen (code.Cube schemas target sources) = cube_of (texts schemas.now) target.now (texts sources.now)
 
--- a cube may have so many dimensions: one to four
+-- a cube may have this many dimensions: one to four
 abbrev pub AreDimensions : ℕ → Type 0
 AreDimensions k = (0 < k) × (k ≤ most_dimensions)
 
--- it has a schema of each dimension, and where it has instances, one of each; of sources there are no more than may be
+-- the command has a schema for each dimension, and an instance for each if it has instances; it has no more sources
+-- than a command may have
 abbrev pub HasFiles : Command → Type 0
 HasFiles (code.CubeView schemas instances facts target) =
     AreDimensions (length schemas.now) × (length instances.now ≡ length schemas.now)

@@ -14,10 +14,9 @@ use Rattle.olap_base.specs.Limits.{most_facts}
 use Rattle.olap_ast.specs.Schema.{Schema}
 use Rattle.olap_grammar.specs.Words.{pieces_of}
 use Rattle.olap_records.specs.Records.{records_of}
-use Rattle.olap_facts.specs.Kinds.{name_of_kind as fact_kind}
+use Rattle.olap_base.specs.Views.{Fact}
 use Rattle.olap_cube.specs.CubeSummarizable.{graphs_of}
-use Rattle.olap_cube.specs.CubeViews.{CubeFact}
-use Rattle.olap_cube_views.specs.CubeFactText.{cube_facts_read_within}
+use Rattle.olap_cube_views.specs.CubeFactMeaning.{cube_facts_meant}
 use Rattle.olap_order.specs.Order.{Order, Read, refused}
 use Rattle.olap_order.specs.Steps.{another, category_word, fault_text, in_turn, meaning_or_fault, schema_file}
 use Rattle.olap_reading.specs.Steps.{legal_file}
@@ -38,10 +37,10 @@ legal_files schemas files =
     in_turn (λ k earlier p. legal_file p.0 (numbered (codes "instance") k) p.1) 1 [] (zip schemas files)
 
 -- the facts at tuples of these instances' members in a file of any length
-abbrev pub cube_facts_file : List Schema → List Instance → List ℕ → Order (List CubeFact)
+abbrev pub cube_facts_file : List Schema → List Instance → List ℕ → Order (List (Fact (List ℕ)))
 cube_facts_file schemas is file = Read file (λ text.
-    meaning_or_fault (codes "facts") (codes "record") fact_kind
-    (cube_facts_read_within most_facts (graphs_of schemas) is (records_of text)))
+    meaning_or_fault (codes "facts") (codes "record")
+    (cube_facts_meant most_facts (graphs_of schemas) is (records_of text)))
 
 -- ---- words
 

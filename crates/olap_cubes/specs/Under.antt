@@ -3,7 +3,8 @@
 --     cube_under, cubeview_under    under schemas
 use Rattle.std.specs.Prelude.{ℕ, ◌+◌, List, []}
 use Rattle.olap_ast.specs.Schema.{Schema}
-use Rattle.olap_cube.specs.CubeViews.{cube_direct_view}
+use Rattle.olap_base.specs.Views.{direct_view}
+use Rattle.olap_cube.specs.CubeViews.{tuples}
 use Rattle.olap_cube_views.specs.CubeViewText.{cube_view_text}
 use Rattle.olap_order.specs.Order.{Order, Done, Told, and_then}
 use Rattle.olap_order.specs.declared.status.Status.TheVariants.{Yes}
@@ -15,7 +16,7 @@ use Rattle.olap_cubes.specs.Steps.{cube_facts_file, tuple_word}
 abbrev pub cube_from : List Schema → ℕ → (target : List ℕ) (sources : List (List ℕ)) → Order Question
 cube_from ss at c sources = and_then (different_tuples_from ss at [] sources) (λ cs. Done (ByCube ss c cs))
 
--- the target, which is the word of this number, and the sources behind it
+-- the target, which is the word of this number, and the sources after it
 abbrev pub cube_under : List Schema → ℕ → (target : List ℕ) (sources : List (List ℕ)) → Order Question
 cube_under ss at target sources =
     and_then (tuple_word ss at target) (λ c. cube_from ss (at + 1) c sources)
@@ -26,7 +27,7 @@ abbrev pub cubeview_from : List Schema → (target : List ℕ) (instances : List
 cubeview_from ss c instances facts =
     and_then (legal_files_from 1 [] ss instances) (λ is.
     and_then (cube_facts_file ss is facts) (λ table.
-    Told Yes (cube_view_text is (cube_direct_view is table c))))
+    Told Yes (cube_view_text is (direct_view (tuples is) table c))))
 
 -- the target, which is the word of this number, and then what is left
 abbrev pub cubeview_under : List Schema → ℕ → (instances : List (List ℕ)) (facts target : List ℕ) → Order Question

@@ -73,7 +73,7 @@ fn is_among(tuples: &[Tuple], categories: &[CatId]) -> bool
     false
 }
 
-/// The tuple that the word of this number names, where it is none of these.
+/// The tuple that the word of this number names, if it is none of these.
 fn another_at(
     alloc: Global,
     at: u64,

@@ -77,7 +77,7 @@ fn rolled_up_on<L: Library>(
         IsCubeRolledUp (graphs_at graphs.now) (instances_in columns.now) (records_of text) (categories_in columns.now)
         (cube_view_of v))) }
     ensures members { IfOk result (λ v.
-        All (λ r. AreMembers (instances_in columns.now) r.members) (cube_view_of v).rows) }
+        All (λ r. AreMembers (instances_in columns.now) r.at) (cube_view_of v).rows) }
     ensures fault { IfErr result (IsWhyUnrolled (graphs_at graphs.now) (instances_in columns.now) (L.rest lib.old)) }
     ensures risen { IsErrOf result Unrolled.Failed → Rose (L.faults lib.old) (L.faults lib.new) }
     ensures unready { IsErrOf result Unrolled.Failed → L.ready lib.new ≡ false }
@@ -122,7 +122,7 @@ pub(crate) fn rolled_up<L: Library>(
         IsCubeRolledUp (graphs_of (schemas_of cube.now)) (instances_in columns.now) (records_of text)
         (categories_in columns.now) (cube_view_of v))) }
     ensures members { IfOk result (λ v.
-        All (λ r. AreMembers (instances_in columns.now) r.members) (cube_view_of v).rows) }
+        All (λ r. AreMembers (instances_in columns.now) r.at) (cube_view_of v).rows) }
     ensures fault { IfErr result
         (IsWhyUnrolled (graphs_of (schemas_of cube.now)) (instances_in columns.now) (L.rest lib.old)) }
     ensures risen { IsErrOf result Unrolled.Failed → Rose (L.faults lib.old) (L.faults lib.new) }

@@ -82,7 +82,7 @@ fn of_target(
     told(alloc, cube, target, &sources)
 }
 
-/// Whether the target that the word of this number names is summarizable from the sources that the words behind it
+/// Whether the target that the word of this number names is summarizable from the sources that the words after it
 /// name.
 fn of_cube(
     alloc: Global,

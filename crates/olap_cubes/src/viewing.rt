@@ -1,7 +1,8 @@
 // The command `cubeview`: the direct view of a target, a category of each dimension.
 ghost use Rattle.std.specs.Prelude.{◌≡◌, All, Err, IfOk, MatchResult, length};
+ghost use Rattle.olap_base.specs.Views.{direct_view};
 ghost use Rattle.olap_cube.specs.CubeSummarizable.{graphs_of};
-ghost use Rattle.olap_cube.specs.CubeViews.{cube_direct_view};
+ghost use Rattle.olap_cube.specs.CubeViews.{tuples};
 ghost use Rattle.olap_cube_views.specs.CubeTallies.{AreMembers};
 ghost use Rattle.olap_cube_views.specs.CubeViewText.{cube_view_text};
 ghost use Rattle.olap_cube_views.specs.Dimensions.{AreMadeFor, categories_in, instances_in};
@@ -45,7 +46,7 @@ fn view_in<L: Library>(
         (cube_facts_file (schemas_of cube.now) (instances_in columns.now) file.now)
         (λ facts. facts) (Err stop)) }
     ensures members { IfOk result (λ v.
-        All (λ r. AreMembers (instances_in columns.now) r.members) (cube_view_of v).rows) }
+        All (λ r. AreMembers (instances_in columns.now) r.at) (cube_view_of v).rows) }
 {
     let Ok(()) = lib.open_file(file) else {
         return Err(Stop::Read);
@@ -76,7 +77,7 @@ fn told<L: Library>(
     ensures judged { Judged IsAnswer L.Library lib.old lib.new
         (and_then (cube_facts_file (schemas_of cube.now) (instances_in columns.now) file.now)
         (λ table. Told Status.Yes (cube_view_text (instances_in columns.now)
-        (cube_direct_view (instances_in columns.now) table (categories_in columns.now))))) result }
+        (direct_view (tuples (instances_in columns.now)) table (categories_in columns.now))))) result }
 {
     let view = view_in(alloc, cube, columns, file, lib)?;
     let text = print_rolled_up(alloc, columns, &view)?;

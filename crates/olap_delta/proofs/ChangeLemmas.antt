@@ -14,13 +14,14 @@ use Rattle.olap_base.specs.Reaching.{reaches}
 use Rattle.olap_base.specs.Summaries.{Summary}
 use Rattle.olap_base.specs.Views.{Fact, Row, View, members_of, row_at}
 use Rattle.olap_base.proofs.ListLemmas.{Contains-filter, Contains-from_filter, Contains-nil, Distinct, contains_head}
-use Rattle.olap_base.proofs.ViewLemmas.{Distinct-members_of, eqb_is, members_once}
+use Rattle.olap_base.proofs.ViewLemmas.{Distinct-members_of, members_once}
 use Rattle.olap_view.specs.Stores.{summary_in}
 use Rattle.olap_view.proofs.FileOrderLemmas.{rows_by, view_by}
 use Rattle.olap_delta.specs.Changes.{Step, view_with}
 use Rattle.olap_delta.specs.FactByFact.{view_after_at, view_after_fact, views_after_fact}
 use Rattle.olap_delta.specs.declared.kinds.DeltaKind.{DeltaKind}
 use Rattle.olap_delta.proofs.RowLemmas.{IsSmall}
+use Rattle.std.proofs.lemmas.Bool.{false_from_ne_true, eqb-true, eq-eqb}
 
 -- ---- a row
 
@@ -28,20 +29,16 @@ use Rattle.olap_delta.proofs.RowLemmas.{IsSmall}
 test_false : (x y : ℕ) → (x ≡ y → ⊥) → (x == y) ≡ false
 test_false x y n = grind (arith, nat_tests)
 
--- equal ones pass it
-test_true : (x y : ℕ) → x ≡ y → (x == y) ≡ true
-test_true x y e = grind (arith, nat_tests)
-
 module _ (h : ℕ → Option Summary) (y : ℕ) where
   -- the row of another member is passed over
-  past : (x : ℕ) → (x ≡ y → ⊥) → (rows : List Row)
+  past : (x : ℕ) → (x ≡ y → ⊥) → (rows : List (Row ℕ))
       → summary_in (cons_option (row_at x (h x)) rows) y ≡ summary_in rows y
   past x n rows = go (h x)
     where
       go : (o : Option Summary) → summary_in (cons_option (row_at x o) rows) y ≡ summary_in rows y
       go None = refl
-      go (Some s) = ap (λ b. option_map (λ (r : Row). r.summary)
-          (cond b (Some (record { member = x; summary = s })) (find (λ r. r.member == y) rows))) (test_false x y n)
+      go (Some s) = ap (λ b. option_map (λ (r : Row ℕ). r.summary)
+          (cond b (Some (record { at = x; summary = s })) (find (λ r. r.at == y) rows))) (test_false x y n)
 
   -- no row stands at what isn't among the members
   nothing_at : (xs : List ℕ) → (Contains xs y → ⊥) → summary_in (rows_by h xs) y ≡ None
@@ -60,9 +57,9 @@ module _ (h : ℕ → Option Summary) (y : ℕ) where
     where
       here : (o : Option Summary) → h x ≡ o → x ≡ y → summary_in (cons_option (row_at x o) (rows_by h xs)) y ≡ h y
       here None e q = nothing_at xs (λ k. d.0 (subst (λ z. Contains xs z) (sym q) k)) ∙ sym e ∙ ap h q
-      here (Some s) e q = ap (λ b. option_map (λ (r : Row). r.summary)
-          (cond b (Some (record { member = x; summary = s })) (find (λ r. r.member == y) (rows_by h xs))))
-          (test_true x y q)
+      here (Some s) e q = ap (λ b. option_map (λ (r : Row ℕ). r.summary)
+          (cond b (Some (record { at = x; summary = s })) (find (λ r. r.at == y) (rows_by h xs))))
+          (eq-eqb x y q)
           ∙ sym e ∙ ap h q
 
 -- the row that the view has at a member
@@ -81,7 +78,7 @@ rows_alike h k (y ∷ ys) f =
 -- and the same view
 pub view_alike : (i : Instance) (h k : ℕ → Option Summary) (c : ℕ) → ((y : ℕ) → Contains (members_of i c) y → h y ≡ k y)
     → view_by i h c ≡ view_by i k c
-view_alike i h k c f = ap (λ rows. record { category = c; rows = rows }) (rows_alike h k (members_of i c) f)
+view_alike i h k c f = ap (λ rows. record { target = c; rows = rows }) (rows_alike h k (members_of i c) f)
 
 -- ---- a view
 
@@ -96,55 +93,50 @@ view_with-is i h c y s = view_alike i (λ z. cond (z == y) (Some s) (summary_in 
     (with_at h y s) c (λ z k. ap (λ o. cond (z == y) (Some s) o) (summary_in-rows i h c z k))
 
 -- the view after what the step gave at y
-abbrev pub stepped : Instance → (ℕ → Option Summary) → ℕ → ℕ → Result Summary DeltaKind → Result View DeltaKind
+abbrev pub stepped : Instance → (ℕ → Option Summary) → ℕ → ℕ → Result Summary DeltaKind → Result (View ℕ ℕ) DeltaKind
 stepped i h c y (Ok s) = Ok (view_by i (with_at h y s) c)
 stepped i h c y (Err k) = Err k
 
-module _ (step : Step) (i : Instance) (h : ℕ → Option Summary) (c : ℕ) (f : Fact) where
+module _ (step : Step) (i : Instance) (h : ℕ → Option Summary) (c : ℕ) (f : Fact ℕ) where
   -- no member of c is reached
-  pub view_unreached : ((y : ℕ) → Contains (members_of i c) y → reaches i f.member y ≡ true → ⊥)
+  pub view_unreached : ((y : ℕ) → Contains (members_of i c) y → reaches i f.at y ≡ true → ⊥)
       → view_after_fact step i (view_by i h c) f ≡ Ok (view_by i h c)
-  view_unreached n = go (filter (λ y. reaches i f.member y) (members_of i c)) refl
+  view_unreached n = go (filter (λ y. reaches i f.at y) (members_of i c)) refl
     where
-      go : (ys : List ℕ) → filter (λ y. reaches i f.member y) (members_of i c) ≡ ys
+      go : (ys : List ℕ) → filter (λ y. reaches i f.at y) (members_of i c) ≡ ys
           → view_after_at step i (view_by i h c) f.value ys ≡ Ok (view_by i h c)
       go [] e = refl
       go (y ∷ ys) e =
-          let t = Contains-from_filter (λ y. reaches i f.member y) (members_of i c) y
+          let t = Contains-from_filter (λ y. reaches i f.at y) (members_of i c) y
           (subst (λ xs. Contains xs y) (sym e) (contains_head y ys)) in
           absurd (n y t.0 t.1)
 
   -- y is the one that is reached
-  pub view_reached : (y : ℕ) → Contains (members_of i c) y → reaches i f.member y ≡ true
-      → ((z : ℕ) → Contains (members_of i c) z → reaches i f.member z ≡ true → z ≡ y)
+  pub view_reached : (y : ℕ) → Contains (members_of i c) y → reaches i f.at y ≡ true
+      → ((z : ℕ) → Contains (members_of i c) z → reaches i f.at z ≡ true → z ≡ y)
       → view_after_fact step i (view_by i h c) f ≡ stepped i h c y (step (h y) f.value)
-  view_reached y k r only = go (filter (λ y. reaches i f.member y) (members_of i c)) refl
+  view_reached y k r only = go (filter (λ y. reaches i f.at y) (members_of i c)) refl
     where
       then : (o : Result Summary DeltaKind)
-          → ◌≡◌ {A = Result View DeltaKind} (elim o [
+          → ◌≡◌ {A = Result (View ℕ ℕ) DeltaKind} (elim o [
             | Ok s ↦ Ok (view_with i (view_by i h c) y s)
             | Err k ↦ Err k
           ]) (stepped i h c y o)
       then (Ok s) = ap Ok (view_with-is i h c y s)
       then (Err k) = refl
 
-      go : (ys : List ℕ) → filter (λ y. reaches i f.member y) (members_of i c) ≡ ys
+      go : (ys : List ℕ) → filter (λ y. reaches i f.at y) (members_of i c) ≡ ys
           → view_after_at step i (view_by i h c) f.value ys ≡ stepped i h c y (step (h y) f.value)
       go [] e = absurd (Contains-nil y (subst (λ xs. Contains xs y) e
-          (Contains-filter (λ y. reaches i f.member y) (members_of i c) y r k)))
+          (Contains-filter (λ y. reaches i f.at y) (members_of i c) y r k)))
       go (z ∷ ys) e =
-          let t = Contains-from_filter (λ y. reaches i f.member y) (members_of i c) z
+          let t = Contains-from_filter (λ y. reaches i f.at y) (members_of i c) z
           (subst (λ xs. Contains xs z) (sym e) (contains_head z ys)) in
           ap (λ x. view_after_at step i (view_by i h c) f.value (x ∷ ys)) (only z t.0 t.1)
           ∙ then (step (summary_in (rows_by h (members_of i c)) y) f.value)
           ∙ ap (λ o. stepped i h c y (step o f.value)) (summary_in-rows i h c y k)
 
 -- ---- a view of totals, and several
-
--- what isn't true is false
-not_true : (b : Bool) → (b ≡ true → ⊥) → b ≡ false
-not_true true n = absurd (n refl)
-not_true false n = refl
 
 -- what stands at the members of c is small
 abbrev pub AreSmall : Instance → ℕ → (ℕ → Option Summary) → Type 0
@@ -156,42 +148,42 @@ Makes step kind before v after = MatchResult (step before v) (λ s. (Some s ≡ 
 
 -- on a lawful instance, where the fact's value does so at each member that it reaches, and nothing changes elsewhere
 module _ (step : Step) (kind : DeltaKind) (g : Graph) (i : Instance) (w : IsLawful g i)
-    (before after : ℕ → Option Summary) (f : Fact)
-    (elsewhere : (y : ℕ) → reaches i f.member y ≡ false → before y ≡ after y)
-    (there : (y : ℕ) → reaches i f.member y ≡ true → IfSome (before y) IsSmall
+    (before after : ℕ → Option Summary) (f : Fact ℕ)
+    (elsewhere : (y : ℕ) → reaches i f.at y ≡ false → before y ≡ after y)
+    (there : (y : ℕ) → reaches i f.at y ≡ true → IfSome (before y) IsSmall
     → Makes step kind (before y) f.value (after y)) where
   -- a view of what was before becomes that of what is after, or the step fails in that way
   view_step : (c : ℕ) → AreSmall i c before → MatchResult (view_after_fact step i (view_by i before c) f)
       (λ v. (v ≡ view_by i after c) × AreSmall i c after) (λ k. k ≡ kind)
-  view_step c small = go (filter (λ y. reaches i f.member y) (members_of i c)) refl
+  view_step c small = go (filter (λ y. reaches i f.at y) (members_of i c)) refl
     where
-      go : (ys : List ℕ) → filter (λ y. reaches i f.member y) (members_of i c) ≡ ys
+      go : (ys : List ℕ) → filter (λ y. reaches i f.at y) (members_of i c) ≡ ys
           → MatchResult (view_after_fact step i (view_by i before c) f)
           (λ v. (v ≡ view_by i after c) × AreSmall i c after) (λ k. k ≡ kind)
-      go [] e = subst (λ (r : Result View DeltaKind). MatchResult r
+      go [] e = subst (λ (r : Result (View ℕ ℕ) DeltaKind). MatchResult r
           (λ v. (v ≡ view_by i after c) × AreSmall i c after) (λ k. k ≡ kind))
           (sym (view_unreached step i before c f none)) (
             view_alike i before after c same,
             λ y k. subst (λ (o : Option Summary). IfSome o IsSmall) (same y k) (small y k),
           )
         where
-          none : (y : ℕ) → Contains (members_of i c) y → reaches i f.member y ≡ true → ⊥
+          none : (y : ℕ) → Contains (members_of i c) y → reaches i f.at y ≡ true → ⊥
           none y k r = Contains-nil y (subst (λ xs. Contains xs y) e
-              (Contains-filter (λ y. reaches i f.member y) (members_of i c) y r k))
+              (Contains-filter (λ y. reaches i f.at y) (members_of i c) y r k))
 
           same : (y : ℕ) → Contains (members_of i c) y → before y ≡ after y
-          same y k = elsewhere y (not_true (reaches i f.member y) (none y k))
-      go (y ∷ ys) e = subst (λ (r : Result View DeltaKind). MatchResult r
+          same y k = elsewhere y (false_from_ne_true (reaches i f.at y) (none y k))
+      go (y ∷ ys) e = subst (λ (r : Result (View ℕ ℕ) DeltaKind). MatchResult r
           (λ v. (v ≡ view_by i after c) × AreSmall i c after) (λ k. k ≡ kind))
           (sym (view_reached step i before c f y at.0 at.1 only))
           (then (step (before y) f.value) (there y at.1 (small y at.0)))
         where
-          at : Contains (members_of i c) y × (reaches i f.member y ≡ true)
-          at = Contains-from_filter (λ y. reaches i f.member y) (members_of i c) y
+          at : Contains (members_of i c) y × (reaches i f.at y ≡ true)
+          at = Contains-from_filter (λ y. reaches i f.at y) (members_of i c) y
               (subst (λ xs. Contains xs y) (sym e) (contains_head y ys))
 
-          only : (z : ℕ) → Contains (members_of i c) z → reaches i f.member z ≡ true → z ≡ y
-          only z k r = members_once g i w c f.member z y k at.0 r at.1
+          only : (z : ℕ) → Contains (members_of i c) z → reaches i f.at z ≡ true → z ≡ y
+          only z k r = members_once g i w c f.at z y k at.0 r at.1
 
           then : (o : Result Summary DeltaKind) → MatchResult o (λ s. (Some s ≡ after y) × IsSmall s) (λ k. k ≡ kind)
               → MatchResult (stepped i before c y o) (λ v. (v ≡ view_by i after c) × AreSmall i c after) (λ k. k ≡ kind)
@@ -203,13 +195,13 @@ module _ (step : Step) (kind : DeltaKind) (g : Graph) (i : Instance) (w : IsLawf
             where
               each : (z : ℕ) → Contains (members_of i c) z → (b : Bool) → (z == y) ≡ b
                   → cond b (Some s) (before z) ≡ after z
-              each z k true t = h.0 ∙ ap after (sym (eqb_is z y t))
-              each z k false t = elsewhere z (not_true (reaches i f.member z) (λ r.
-                  let u = test_true z y (only z k r) in let x : true ≡ false = sym u ∙ t in absurd (cc)))
+              each z k true t = h.0 ∙ ap after (sym (eqb-true z y t))
+              each z k false t = elsewhere z (false_from_ne_true (reaches i f.at z) (λ r.
+                  let u = eq-eqb z y (only z k r) in let x : true ≡ false = sym u ∙ t in absurd (cc)))
 
               still : (z : ℕ) → Contains (members_of i c) z → (b : Bool) → (z == y) ≡ b → IfSome (after z) IsSmall
               still z k true t = subst (λ (o : Option Summary). IfSome o IsSmall)
-                  (h.0 ∙ ap after (sym (eqb_is z y t))) h.1
+                  (h.0 ∙ ap after (sym (eqb-true z y t))) h.1
               still z k false t = subst (λ (o : Option Summary). IfSome o IsSmall) (each z k false t) (small z k)
 
   -- so do several views
@@ -221,11 +213,11 @@ module _ (step : Step) (kind : DeltaKind) (g : Graph) (i : Instance) (w : IsLawf
       go (view_after_fact step i (view_by i before c) f) (views_after_fact step i (map (view_by i before) cs) f)
       (view_step c (small c (contains_head c cs))) (views_step cs (λ d k. small d (contains_cons d cs c k)))
     where
-      go : (a : Result View DeltaKind) (b : Result (List View) DeltaKind)
+      go : (a : Result (View ℕ ℕ) DeltaKind) (b : Result (List (View ℕ ℕ)) DeltaKind)
           → MatchResult a (λ v. (v ≡ view_by i after c) × AreSmall i c after) (λ k. k ≡ kind)
           → MatchResult b
           (λ vs. (vs ≡ map (view_by i after) cs) × ((d : ℕ) → Contains cs d → AreSmall i d after)) (λ k. k ≡ kind)
-          → MatchResult {T = List View} {E = DeltaKind} (elim a [
+          → MatchResult {T = List (View ℕ ℕ)} {E = DeltaKind} (elim a [
             | Ok v ↦ elim b [ Ok ws ↦ Ok (v ∷ ws) | Err k ↦ Err k ]
             | Err k ↦ Err k
           ])

@@ -6,7 +6,6 @@
 use Rattle.std.proofs.Common.{◌≡◌, ◌≢◌, ◌+◌, ◌<◌, ◌≤◌, ℕ, suc, List, [], ◌∷◌, ◌++◌, length, get_or, take, drop, map, Bool, true, false, cond, refl, sym, ap, subst, ◌∙◌, inl, inr, Option, Some, IfSome, arith, drop-cons, length-drop}
 use Rattle.std.specs.Prelude.{◌==◌, ◌⊎◌, AllPairs, Contains, Result, Ok, Err}
 use Rattle.std.proofs.Math.Seq.{take_all}
-use Rattle.std.proofs.lemmas.Bool.Decides.{nat_tests}
 use Rattle.std.proofs.lemmas.List.{append-nil, append_assoc, drop_all, get_or-drop, get_or-take, get_or_default, length-take-le, map-append, take_more}
 use Rattle.std.proofs.lemmas.List.Elements.{Contains-get_or}
 use Rattle.olap_base.specs.Instance.{Instance, ReachesCategory, category_of}
@@ -24,6 +23,7 @@ use Rattle.olap_delta.specs.FactByFact.{fact_after, store_after_facts, view_afte
 use Rattle.olap_delta.specs.Changing.{AreStorable, IsStorable}
 use Rattle.olap_delta.specs.declared.kinds.DeltaKind.{DeltaKind}
 use Rattle.olap_delta.proofs.ChangeLemmas.{stepped, view_alike, view_reached, view_unreached, with_at}
+use Rattle.std.proofs.lemmas.Bool.{cases_lt, ne_eqb}
 
 -- a summary was put at y
 pub record IsPut (y : ℕ) (s : Summary) (old new : Summarized) : Type 0 where
@@ -38,10 +38,6 @@ pub among : (t : Summarized) (c z : ℕ) → Contains t.categories c → Contain
 among t c z k m = let q = members_of_is t.instance c z m in
     record { member = q.0; category = subst (Contains t.categories) (sym q.1) k }
 
--- different numbers fail the test
-pub test_false : (x y : ℕ) → x ≢ y → (x == y) ≡ false
-test_false x y n = grind (arith, nat_tests)
-
 module _ (y : ℕ) (s : Summary) (old new : Summarized) (p : IsPut y s old new) where
   -- a view is as before, but for the summary at y
   view_of_put : (c : ℕ) → Contains old.categories c
@@ -55,7 +51,7 @@ module _ (y : ℕ) (s : Summary) (old new : Summarized) (p : IsPut y s old new) 
       ∙ view_alike old.instance (with_at (stands_at old) y s) (stands_at old) c (λ z m.
       let q = members_of_is old.instance c z m in
       ap (λ b. cond b (Some s) (stands_at old z))
-      (test_false z y (λ e. n (ap (category_of old.instance) (sym e) ∙ q.1))))
+      (ne_eqb z y (λ e. n (ap (category_of old.instance) (sym e) ∙ q.1))))
 
   -- what stands in the table may be stored, where the new summary may
   pub put_storable : IsStorable s → AreStorable old → AreStorable new
@@ -69,13 +65,13 @@ module _ (y : ℕ) (s : Summary) (old new : Summarized) (p : IsPut y s old new) 
       go true = q
       go false = a z m2
 
-module _ (step : Step) (old : Summarized) (f : Fact) (c : ℕ) (k : Contains old.categories c) where
-  module _ (y : ℕ) (a : IsAncestor old.instance f.member c y) where
+module _ (step : Step) (old : Summarized) (f : Fact ℕ) (c : ℕ) (k : Contains old.categories c) where
+  module _ (y : ℕ) (a : IsAncestor old.instance f.at c y) where
     reached : view_after_fact step old.instance (view_at old c) f
         ≡ stepped old.instance (stands_at old) c y (step (stands_at old y) f.value)
     reached = view_reached step old.instance (stands_at old) c f y (is_member_of old.instance c y a.is_member)
-        ((reaches_is old.instance f.member y).1 a.reached)
-        (λ z m r. a.only z (members_of_is old.instance c z m) ((reaches_is old.instance f.member z).0 r))
+        ((reaches_is old.instance f.at y).1 a.reached)
+        (λ z m r. a.only z (members_of_is old.instance c z m) ((reaches_is old.instance f.at z).0 r))
 
     -- the view after the step's summary was put at the member that is reached
     pub view_put : (s : Summary) (new : Summarized) → step (stands_at old y) f.value ≡ Ok s → IsPut y s old new
@@ -88,20 +84,20 @@ module _ (step : Step) (old : Summarized) (f : Fact) (c : ℕ) (k : Contains old
     view_refused j e = reached ∙ ap (stepped old.instance (stands_at old) c y) e
 
   -- no member is reached
-  pub view_left : (ReachesCategory old.instance f.member c → ⊥)
+  pub view_left : (ReachesCategory old.instance f.at c → ⊥)
       → view_after_fact step old.instance (view_at old c) f ≡ Ok (view_at old c)
   view_left n = view_unreached step old.instance (stands_at old) c f
-      (λ y m r. n (y, members_of_is old.instance c y m, (reaches_is old.instance f.member y).0 r))
+      (λ y m r. n (y, members_of_is old.instance c y m, (reaches_is old.instance f.at y).0 r))
 
 -- ---- category by category
 
 -- views before those of an answer
-abbrev pub behind : List View → Result (List View) DeltaKind → Result (List View) DeltaKind
+abbrev pub behind : List (View ℕ ℕ) → Result (List (View ℕ ℕ)) DeltaKind → Result (List (View ℕ ℕ)) DeltaKind
 behind vs (Ok ws) = Ok (vs ++ ws)
 behind vs (Err k) = Err k
 
 -- the views of the first k categories are changed, and those of the others aren't yet
-pub record IsSoFar (step : Step) (f : Fact) (k : ℕ) (old now : Summarized) : Type 0 where
+pub record IsSoFar (step : Step) (f : Fact ℕ) (k : ℕ) (old now : Summarized) : Type 0 where
   pub instance : now.instance ≡ old.instance
   pub categories : now.categories ≡ old.categories
   pub storable : AreStorable now
@@ -110,12 +106,12 @@ pub record IsSoFar (step : Step) (f : Fact) (k : ℕ) (old now : Summarized) : T
       (views_after_fact step old.instance (map (view_at now) (drop k old.categories)) f)
 
 -- nothing before leaves the result as it is
-behind_none : (r : Result (List View) DeltaKind) → behind [] r ≡ r
+behind_none : (r : Result (List (View ℕ ℕ)) DeltaKind) → behind [] r ≡ r
 behind_none (Ok vs) = refl
 behind_none (Err k) = refl
 
 -- no category is changed yet
-pub so_far_first : (step : Step) (f : Fact) (t : Summarized) → AreStorable t → IsSoFar step f 0 t t
+pub so_far_first : (step : Step) (f : Fact ℕ) (t : Summarized) → AreStorable t → IsSoFar step f 0 t t
 so_far_first step f t a = record {
   instance = refl;
   categories = refl;
@@ -124,34 +120,31 @@ so_far_first step f t a = record {
 }
 
 -- one view more before the others
-one_more : (vs : List View) (w : View) (r : Result (List View) DeltaKind)
+one_more : (vs : List (View ℕ ℕ)) (w : View ℕ ℕ) (r : Result (List (View ℕ ℕ)) DeltaKind)
     → behind vs (elim r [ Ok ws ↦ Ok (w ∷ ws) | Err k ↦ Err k ]) ≡ behind (vs ++ w ∷ []) r
 one_more vs w (Ok ws) = ap Ok (sym (append_assoc vs (w ∷ []) ws))
 one_more vs w (Err k) = refl
 
--- the one is below the other, or the other below the one
-either_below : (a b : ℕ) → (a < b) ⊎ (b ≤ a)
-either_below a b = grind arith
-
 -- of two different numbers one is less
 less_or : (a b : ℕ) → a ≢ b → (a < b) ⊎ (b < a)
-less_or a b n = elim (either_below a b) [ inl l ↦ inl l | inr g ↦ inr (omega arith) ]
+less_or a b n = elim (cases_lt a b) [ inl l ↦ inl l | inr g ↦ inr (omega arith) ]
 
 -- functions that agree on the items give the same list
-maps_alike : (h k : ℕ → View) (cs : List ℕ) → ((j d : ℕ) → j < length cs → h (get_or cs j d) ≡ k (get_or cs j d))
+maps_alike : (h k : ℕ → View ℕ ℕ) (cs : List ℕ) → ((j d : ℕ) → j < length cs → h (get_or cs j d) ≡ k (get_or cs j d))
     → map h cs ≡ map k cs
 maps_alike h k [] f = refl
 maps_alike h k (c ∷ cs) f = ap (λ v. v ∷ map h cs) (f 0 c (omega arith))
     ∙ ap (λ vs. k c ∷ vs) (maps_alike h k cs (λ j d l. f (suc j) d (omega arith)))
 
-module _ (step : Step) (f : Fact) (k : ℕ) (old now : Summarized) (so : IsSoFar step f k old now)
+module _ (step : Step) (f : Fact ℕ) (k : ℕ) (old now : Summarized) (so : IsSoFar step f k old now)
     (h : k < length old.categories) where
   -- the k-th category, and those after it
   parted : drop k old.categories ≡ get_or old.categories k 0 ∷ drop (suc k) old.categories
   parted = drop-cons old.categories k 0 h
 
   -- the first k views, and then the k-th and those after it; or its fault
-  then : (r : Result View DeltaKind) → view_after_fact step old.instance (view_at now (get_or old.categories k 0)) f ≡ r
+  then : (r : Result (View ℕ ℕ) DeltaKind)
+      → view_after_fact step old.instance (view_at now (get_or old.categories k 0)) f ≡ r
       → views_after_fact step old.instance (views_at old) f
       ≡ behind (map (view_at now) (take k old.categories)) (elim r [
         | Ok w ↦ elim (views_after_fact step old.instance (map (view_at now) (drop (suc k) old.categories)) f) [
@@ -163,7 +156,7 @@ module _ (step : Step) (f : Fact) (k : ℕ) (old now : Summarized) (so : IsSoFar
   then r e = so.views
       ∙ ap (λ cs. behind (map (view_at now) (take k old.categories))
       (views_after_fact step old.instance (map (view_at now) cs) f)) parted
-      ∙ ap (λ (x : Result View DeltaKind). behind (map (view_at now) (take k old.categories)) (elim x [
+      ∙ ap (λ (x : Result (View ℕ ℕ) DeltaKind). behind (map (view_at now) (take k old.categories)) (elim x [
         | Ok w ↦ elim (views_after_fact step old.instance (map (view_at now) (drop (suc k) old.categories)) f) [
           | Ok ws ↦ Ok (w ∷ ws)
           | Err j ↦ Err j
@@ -245,7 +238,7 @@ module _ (step : Step) (f : Fact) (k : ℕ) (old now : Summarized) (so : IsSoFar
           ∙ ap (λ n. map (view_at new) (drop n old.categories)) more
 
 -- all categories are changed, so all views are
-pub so_far_all : (step : Step) (f : Fact) (k : ℕ) (old now : Summarized) → IsSoFar step f k old now
+pub so_far_all : (step : Step) (f : Fact ℕ) (k : ℕ) (old now : Summarized) → IsSoFar step f k old now
     → length old.categories ≤ k → views_after_fact step old.instance (views_at old) f ≡ Ok (views_at now)
 so_far_all step f k old now so h =
     so.views
@@ -258,8 +251,9 @@ so_far_all step f k old now so h =
 -- ---- fact by fact
 
 -- one fact after the others
-pub fact_behind : (step : Step) (i : Instance) (r : Result (List View) (Fault DeltaKind)) (at : ℕ) (facts : List Fact)
-    (f : Fact)
+pub fact_behind : (step : Step) (i : Instance) (r : Result (List (View ℕ ℕ)) (Fault DeltaKind)) (at : ℕ)
+    (facts : List (Fact ℕ))
+    (f : Fact ℕ)
     → store_after_facts step i r at (facts ++ f ∷ [])
     ≡ fact_after step i (at + length facts) f (store_after_facts step i r at facts)
 fact_behind step i r at [] f = let e : at ≡ at + 0 = omega arith in ap (λ n. fact_after step i n f r) e
@@ -269,8 +263,8 @@ fact_behind step i r at (g ∷ facts) f =
     ∙ ap (λ n. fact_after step i n f (store_after_facts step i (fact_after step i at g r) (at + 1) facts)) e
 
 -- some facts after the others
-pub facts_behind : (step : Step) (i : Instance) (r : Result (List View) (Fault DeltaKind)) (at : ℕ)
-    (facts more : List Fact)
+pub facts_behind : (step : Step) (i : Instance) (r : Result (List (View ℕ ℕ)) (Fault DeltaKind)) (at : ℕ)
+    (facts more : List (Fact ℕ))
     → store_after_facts step i r at (facts ++ more)
     ≡ store_after_facts step i (store_after_facts step i r at facts) (at + length facts) more
 facts_behind step i r at [] more =
@@ -281,20 +275,20 @@ facts_behind step i r at (g ∷ facts) more =
     ∙ ap (λ n. store_after_facts step i (store_after_facts step i (fact_after step i at g r) (at + 1) facts) n more) e
 
 -- the views of a table, or its fault, after a fact
-pub taken_ok : (step : Step) (i : Instance) (at : ℕ) (f : Fact) (before after : List View)
+pub taken_ok : (step : Step) (i : Instance) (at : ℕ) (f : Fact ℕ) (before after : List (View ℕ ℕ))
     → views_after_fact step i before f ≡ Ok after → Ok after ≡ fact_after step i at f (Ok before)
 taken_ok step i at f before after e =
-    sym (ap (λ (r : Result (List View) DeltaKind). elim r [
+    sym (ap (λ (r : Result (List (View ℕ ℕ)) DeltaKind). elim r [
       | Ok changed ↦ Ok changed
       | Err k ↦ Err (record { at = at; kind = k })
     ]) e)
 
 -- a fault of the views is that of the fact
-pub taken_err : (step : Step) (i : Instance) (at : ℕ) (f : Fact) (before : List View) (k : DeltaKind)
+pub taken_err : (step : Step) (i : Instance) (at : ℕ) (f : Fact ℕ) (before : List (View ℕ ℕ)) (k : DeltaKind)
     → views_after_fact step i before f ≡ Err k
     → Err (record { at = at; kind = k }) ≡ fact_after step i at f (Ok before)
 taken_err step i at f before k e =
-    sym (ap (λ (r : Result (List View) DeltaKind). elim r [
+    sym (ap (λ (r : Result (List (View ℕ ℕ)) DeltaKind). elim r [
       | Ok changed ↦ Ok changed
       | Err k ↦ Err (record { at = at; kind = k })
     ]) e)

@@ -3,7 +3,7 @@
 --     are_taken_none, are_taken_more, taken_since    the same between two times
 --     handed_out_after, after_text  what is handed out, and what comes of a text
 use Rattle.std.proofs.Common.{◌≡◌, ◌+◌, ◌∷◌, ◌++◌, [], List, length, refl, sym, ap, subst, ◌∙◌, arith, length-append}
-use Rattle.std.specs.Prelude.{All, IfErr, IfOk, OnOk, Result, Ok, Err}
+use Rattle.std.specs.Prelude.{ℕ, All, IfErr, IfOk, OnOk, Result, Ok, Err}
 use Rattle.olap_base.specs.Graph.{Graph}
 use Rattle.olap_base.specs.Instance.{Instance}
 use Rattle.olap_base.specs.Refusing.{IsRefusedBy}
@@ -28,7 +28,8 @@ use Rattle.olap_delta.proofs.ChangingLemmas.{fact_behind, facts_behind}
 use Rattle.olap_delta.proofs.StoreChangedLemmas.{store_is}
 
 -- one fact more was taken
-pub taken_more : (by : Change) (i : Instance) (views : List View) (facts : List Fact) (f : Fact) (d e : Delta)
+pub taken_more : (by : Change) (i : Instance) (views : List (View ℕ ℕ)) (facts : List (Fact ℕ)) (f : Fact ℕ)
+    (d e : Delta)
     → HasTaken by i views facts d → e.change ≡ d.change → e.instance ≡ d.instance → e.categories ≡ d.categories
     → e.taken ≡ d.taken + 1 → e.views ≡ fact_after (step_of d.change) d.instance (d.taken + 2) f d.views
     → HasTaken by i views (facts ++ f ∷ []) e
@@ -36,7 +37,7 @@ taken_more by i views facts f d e h s j c t v = record {
   change = s ∙ h.change;
   instance = j ∙ h.instance;
   categories = c ∙ h.categories;
-  taken = let a = h.taken in omega (arith, length-append {A = Fact});
+  taken = let a = h.taken in omega (arith, length-append {A = Fact ℕ});
   views = v
       ∙ ap (λ p. fact_after (step_of p) d.instance (d.taken + 2) f d.views) h.change
       ∙ ap (λ k. fact_after (step_of by) k (d.taken + 2) f d.views) h.instance
@@ -49,7 +50,7 @@ taken_more by i views facts f d e h s j c t v = record {
     at = let a = h.taken in omega arith
 
 -- no fact was taken yet
-pub taken_none : (by : Change) (i : Instance) (views : List View) (d : Delta) → d.change ≡ by → d.instance ≡ i
+pub taken_none : (by : Change) (i : Instance) (views : List (View ℕ ℕ)) (d : Delta) → d.change ≡ by → d.instance ≡ i
     → d.categories ≡ categories_in views → d.taken ≡ 0 → d.views ≡ Ok views → HasTaken by i views [] d
 taken_none by i views d s j c t v = record { change = s; instance = j; categories = c; taken = t; views = v }
 
@@ -60,14 +61,14 @@ pub are_taken_none : (d : Delta) → AreTaken [] d d
 are_taken_none d = record { change = refl; instance = refl; categories = refl; taken = omega arith; views = refl }
 
 -- one more since the first time
-pub are_taken_more : (facts : List Fact) (f : Fact) (old d e : Delta) → AreTaken facts old d → e.change ≡ d.change
+pub are_taken_more : (facts : List (Fact ℕ)) (f : Fact ℕ) (old d e : Delta) → AreTaken facts old d → e.change ≡ d.change
     → e.instance ≡ d.instance → e.categories ≡ d.categories → e.taken ≡ d.taken + 1
     → e.views ≡ fact_after (step_of d.change) d.instance (d.taken + 2) f d.views → AreTaken (facts ++ f ∷ []) old e
 are_taken_more facts f old d e h s j c t v = record {
   change = s ∙ h.change;
   instance = j ∙ h.instance;
   categories = c ∙ h.categories;
-  taken = let a = h.taken in omega (arith, length-append {A = Fact});
+  taken = let a = h.taken in omega (arith, length-append {A = Fact ℕ});
   views = v
       ∙ ap (λ p. fact_after (step_of p) d.instance (d.taken + 2) f d.views) h.change
       ∙ ap (λ k. fact_after (step_of old.change) k (d.taken + 2) f d.views) h.instance
@@ -80,13 +81,13 @@ are_taken_more facts f old d e h s j c t v = record {
     at = let a = h.taken in omega arith
 
 -- some facts more
-pub taken_since : (by : Change) (i : Instance) (views : List View) (before facts : List Fact) (old d : Delta)
+pub taken_since : (by : Change) (i : Instance) (views : List (View ℕ ℕ)) (before facts : List (Fact ℕ)) (old d : Delta)
     → HasTaken by i views before old → AreTaken facts old d → HasTaken by i views (before ++ facts) d
 taken_since by i views before facts old d h a = record {
   change = a.change ∙ h.change;
   instance = a.instance ∙ h.instance;
   categories = a.categories ∙ h.categories;
-  taken = let n = h.taken in let m = a.taken in omega (arith, length-append {A = Fact});
+  taken = let n = h.taken in let m = a.taken in omega (arith, length-append {A = Fact ℕ});
   views = a.views
       ∙ ap (λ p. store_after_facts (step_of p) old.instance old.views (old.taken + 2) facts) h.change
       ∙ ap (λ j. store_after_facts (step_of by) j old.views (old.taken + 2) facts) h.instance
@@ -101,10 +102,10 @@ taken_since by i views before facts old d h a = record {
 -- ---- what is handed out
 
 -- what is handed out once these facts were taken
-pub handed_out_after : (by : Change) (i : Instance) (views : List View) (facts : List Fact) (d : Delta)
+pub handed_out_after : (by : Change) (i : Instance) (views : List (View ℕ ℕ)) (facts : List (Fact ℕ)) (d : Delta)
     → HasTaken by i views facts d → (r : Result Store (Refusal (Fault DeltaKind)))
     → IfOk r (λ s. d.views ≡ Ok (views_of s))
-    → IfOk r (λ s. (g : Graph) (before : List View) → d.categories ≡ categories_in before
+    → IfOk r (λ s. (g : Graph) (before : List (View ℕ ℕ)) → d.categories ≡ categories_in before
     → IsSoundStore g d.instance before → IsSoundStore g d.instance (views_of s))
     → IfOk r (λ s. All (IsInFileOrder d.instance) (views_of s)) → IfErr r (λ e. IsRefusedBy e d.views)
     → IsStoreAfter by i views facts r
@@ -127,18 +128,18 @@ unless_refused (Ok u) P n h = h
 unless_refused (Err e) P n h = absurd (n e refl)
 
 -- there is none, where the text or a fact is refused
-pub refused_all : (by : Change) (i : Instance) (views : List View) (all : Result (List Fact) (Fault FactKind))
+pub refused_all : (by : Change) (i : Instance) (views : List (View ℕ ℕ)) (all : Result (List (Fact ℕ)) (Fault FactKind))
     (e : Refusal (Fault ChangeKind)) → IsRefusedBy e (views_changed (step_of by) i views all)
     → IsStoreAfterAll by i views all (Err e)
 refused_all by i views all e h = record { ok = tt; sound = tt; order = tt; err = h }
 
 -- the fault of a fact as one of a change
-abbrev or_refused : Result (List View) (Fault DeltaKind) → Result (List View) (Fault ChangeKind)
+abbrev or_refused : Result (List (View ℕ ℕ)) (Fault DeltaKind) → Result (List (View ℕ ℕ)) (Fault ChangeKind)
 or_refused r = result_map_both (λ vs. vs) (λ f. record { at = f.at; kind = change.Fact f.kind }) r
 
 -- the store after the facts that were read
-pub after_all : (by : Change) (i : Instance) (views : List View) (all : Result (List Fact) (Fault FactKind))
-    (facts : List Fact) → all ≡ Ok facts → (s : Store) → IsStoreAfter by i views facts (Ok s)
+pub after_all : (by : Change) (i : Instance) (views : List (View ℕ ℕ)) (all : Result (List (Fact ℕ)) (Fault FactKind))
+    (facts : List (Fact ℕ)) → all ≡ Ok facts → (s : Store) → IsStoreAfter by i views facts (Ok s)
     → IsStoreAfterAll by i views all (Ok s)
 after_all by i views all facts e s a = record {
   ok = ap (views_changed (step_of by) i views) e ∙ ap or_refused a.ok;

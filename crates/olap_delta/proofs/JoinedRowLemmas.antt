@@ -20,7 +20,8 @@ use Rattle.olap_delta.specs.declared.changes.Change.{Change}
 use Rattle.olap_delta.specs.declared.changes.Change.TheVariants as by
 use Rattle.olap_delta.specs.declared.kinds.DeltaKind.{DeltaKind}
 use Rattle.olap_delta.specs.declared.kinds.DeltaKind.TheVariants as kind
-use Rattle.olap_delta.proofs.RowLemmas.{in_bounds}
+use Rattle.olap_view.proofs.StoreLawLemmas.{in-bounds}
+use Rattle.std.proofs.lemmas.Bool.{or_from}
 
 -- a value at the row may come or go, and the row is then as this says
 pub record IsFirst (change : Change) (there : Option Summary) (v : ℤ) (lot : Option Summary) : Type 0 where
@@ -69,18 +70,13 @@ unlike x y n = go (int_eq x y) refl
     go true e = absurd (n ((Decides-int_eq x y).0 e))
     go false e = refl
 
--- neither is true
-neither : (a b : Bool) → a ≡ false → b ≡ false → (a || b) ≡ false
-neither false b p q = q
-neither true b p q = absurd (cc)
-
--- a value that goes, which is neither the least nor the greatest
+-- a value that goes, which is or_from the least nor the greatest
 goes : (s : Summary) (v : ℤ) → s.least <ℤ v → v <ℤ s.greatest → 3 ≤ s.count → is_sum (s.sum -ℤ v) ≡ true
     → retracted (Some s) v ≡ Ok (less s (of_value v))
 goes s v l g n e =
     go (int_lt v s.least || int_lt s.greatest v) (int_eq v s.least || int_eq v s.greatest) (nat_le s.count 2)
     (is_sum (s.sum -ℤ v)) (grind (arith, ints))
-    (neither (int_eq v s.least) (int_eq v s.greatest) (unlike v s.least (λ q. apart s.least v l (sym q)))
+    (or_from (int_eq v s.least) (int_eq v s.greatest) (unlike v s.least (λ q. apart s.least v l (sym q)))
     (unlike v s.greatest (λ q. apart v s.greatest g q)))
     (many s.count n) e
   where
@@ -123,7 +119,7 @@ first_new (Some s) v None f a =
     let n = a.0 in let low = a.1.low in let high = a.1.high in
     record {
       after = joined s (of_value v);
-      step = comes s v (omega arith) (in_bounds (s.sum +ℤ v) (omega (arith, ints)) (omega (arith, ints)));
+      step = comes s v (omega arith) (in-bounds (s.sum +ℤ v) (omega (arith, ints)) (omega (arith, ints)));
       is = refl;
       admits = tt;
       rest = refl;
@@ -132,7 +128,7 @@ first_new (Some s) v (Some t) f a =
     let n = a.0 in let low = a.1.low in let high = a.1.high in
     record {
       after = joined s (of_value v);
-      step = comes s v (omega arith) (in_bounds (s.sum +ℤ v) (omega (arith, ints)) (omega (arith, ints)));
+      step = comes s v (omega arith) (in-bounds (s.sum +ℤ v) (omega (arith, ints)) (omega (arith, ints)));
       is = refl;
       admits = (omega arith, record { low = omega (arith, ints); high = omega (arith, ints) });
       rest = ap Some (joined_assoc s (of_value v) t);
@@ -148,7 +144,7 @@ first_less (Some s) v None f a =
     record {
       after = less s (of_value v);
       step = goes s v a.least a.greatest (omega arith)
-          (in_bounds (s.sum -ℤ v) (omega (arith, ints)) (omega (arith, ints)));
+          (in-bounds (s.sum -ℤ v) (omega (arith, ints)) (omega (arith, ints)));
       is = refl;
       admits = tt;
       rest = refl;
@@ -159,7 +155,7 @@ first_less (Some s) v (Some t) f a =
     let g = below_both s.greatest v t.greatest a.greatest in
     record {
       after = less s (of_value v);
-      step = goes s v l.0 g.0 (omega arith) (in_bounds (s.sum -ℤ v) (omega (arith, ints)) (omega (arith, ints)));
+      step = goes s v l.0 g.0 (omega arith) (in-bounds (s.sum -ℤ v) (omega (arith, ints)) (omega (arith, ints)));
       is = refl;
       admits = record {
         least = l.1;

@@ -5,15 +5,15 @@
 --     IsSoFar, so_far_start, so_far_next, so_far_all   category by category
 --     table_changed                  what the lots make of the views is what their facts make of them
 use Rattle.std.proofs.Common.{◌≡◌, ◌≢◌, ◌+◌, ◌<◌, ◌≤◌, ℕ, List, [], ◌∷◌, ◌++◌, length, get_or, take, map, Bool, true, false, cond, refl, sym, ap, subst, ◌∙◌, inl, inr, Option, Some, None, arith}
-use Rattle.std.specs.Prelude.{All, AllPairs, Contains, ◌==◌, ◌⊎◌, Ok}
+use Rattle.std.specs.Prelude.{All, AllPairs, Contains, ◌==◌, Ok}
 use Rattle.std.proofs.lemmas.Bool.Decides.{nat_tests}
 use Rattle.std.proofs.lemmas.List.{get_or_default, take_more}
 use Rattle.std.proofs.lemmas.List.Elements.{All-contains, All-map, All-weaker}
 use Rattle.olap_base.specs.Instance.{Instance, ReachesCategory, category_of}
 use Rattle.olap_base.specs.Reaching.{reaches, reaches_is}
 use Rattle.olap_base.specs.Summaries.{Summary, ◌⊕◌}
-use Rattle.olap_base.specs.Views.{Fact, total_of_facts}
-use Rattle.olap_base.proofs.ViewLemmas.{eqb_is, members_of_is}
+use Rattle.olap_base.specs.Views.{Fact, total_of_facts, members}
+use Rattle.olap_base.proofs.ViewLemmas.{members_of_is}
 use Rattle.olap_legal.specs.Ancestors.{IsAncestor}
 use Rattle.olap_view.specs.Seen.{summary_of}
 use Rattle.olap_view.specs.SummaryTables.{Summarized, stands_at, view_at, views_at}
@@ -26,10 +26,12 @@ use Rattle.olap_delta.specs.Lots.{StandFor, lots_at}
 use Rattle.olap_delta.specs.declared.changes.Change.{Change}
 use Rattle.olap_delta.specs.declared.lots.Lot.{Lot}
 use Rattle.olap_delta.specs.declared.lots.Lots.{Lots}
-use Rattle.olap_delta.proofs.ChangingLemmas.{IsPut, among, test_false}
+use Rattle.olap_delta.proofs.ChangingLemmas.{IsPut, among}
 use Rattle.olap_delta.proofs.JoinedRowLemmas.{admits_nothing, nothing_more, together}
-use Rattle.olap_delta.proofs.JoiningLemmas.{all_taken, not_true, views_alike}
+use Rattle.olap_delta.proofs.JoiningLemmas.{all_taken, views_alike}
 use Rattle.olap_delta.proofs.LotLemmas.{lots_at-append, members_in}
+use Rattle.std.proofs.lemmas.Bool.{false_from_ne_true, eqb-true, ne_eqb}
+use Rattle.olap_base.proofs.GeneralLemmas.{below_or_same}
 
 -- ---- one lot in one category
 
@@ -58,7 +60,7 @@ module _ (change : Change) (c x : ℕ) (s : Summary) (old : Summarized) where
   pub joined_none : (ReachesCategory old.instance x c → ⊥)
       → IsJoinedIn change c (λ y. when (reaches old.instance x y) s) old old
   joined_none n = record {
-    at = λ y m e. unreached y (stands_at old y) (not_true (reaches old.instance x y) (λ r.
+    at = λ y m e. unreached y (stands_at old y) (false_from_ne_true (reaches old.instance x y) (λ r.
         n (y, (m.member, e), (reaches_is old.instance x y).0 r))) refl;
     others = λ y m e. refl;
   }
@@ -71,13 +73,13 @@ module _ (change : Change) (c x : ℕ) (s : Summary) (old : Summarized) where
     at = λ z m e. go z m e (z == y) refl;
     others = λ z m n. p.at z m
         ∙ ap (λ b. cond b (Some t) (stands_at old z))
-        (test_false z y (λ e. n (ap (category_of old.instance) e ∙ a.is_member.1)));
+        (ne_eqb z y (λ e. n (ap (category_of old.instance) e ∙ a.is_member.1)));
   }
     where
       go : (z : ℕ) → IsAmong old.instance old.categories z → category_of old.instance z ≡ c → (b : Bool) → (z == y) ≡ b
           → IsJoined change (stands_at old z) (when (reaches old.instance x z) s) (stands_at new z)
       go z m e true q =
-          let same = eqb_is z y q in
+          let same = eqb-true z y q in
           let r : reaches old.instance x z ≡ true =
           subst (λ w. reaches old.instance x w ≡ true) (sym same) ((reaches_is old.instance x y).1 a.reached) in
           subst (λ o. IsJoined change (stands_at old z) (when (reaches old.instance x z) s) o)
@@ -85,7 +87,7 @@ module _ (change : Change) (c x : ℕ) (s : Summary) (old : Summarized) where
           (subst (λ b. IsJoined change (stands_at old z) (when b s) (Some t)) (sym r)
           (subst (λ w. IsJoined change (stands_at old w) (Some s) (Some t)) (sym same) j))
       go z m e false q = unreached z (stands_at new z)
-          (not_true (reaches old.instance x z) (λ r.
+          (false_from_ne_true (reaches old.instance x z) (λ r.
           let same = a.only z (m.member, e) ((reaches_is old.instance x z).0 r) in differ z same q))
           (p.at z m ∙ ap (λ b. cond b (Some t) (stands_at old z)) q)
         where
@@ -180,10 +182,6 @@ so_far_start change lots old a = record {
   rest = λ y m n. refl;
 }
 
--- what is below k + 1 is below k, or is k
-below_or : (j k : ℕ) → j < k + 1 → (j < k) ⊎ (j ≡ k)
-below_or j k h = grind arith
-
 -- what the k-th category's lots made of the table, told of the one before all
 record IsHere (change : Change) (lots : List Lot) (k : ℕ) (old now new : Summarized) : Type 0 where
   pub at : (y : ℕ) → IsAmong old.instance old.categories y → category_of old.instance y ≡ get_or old.categories k 0
@@ -202,12 +200,12 @@ so_far_next change lots k old now new so h differ e g a once p = record {
   instance = e ∙ so.instance;
   categories = g ∙ so.categories;
   storable = a;
-  once = λ j l. elim (below_or j k l) [
+  once = λ j l. elim (below_or_same j k l) [
     | inl b ↦ so.once j b
     | inr q ↦ subst (λ n. All (λ (l : Lot). IsOnce old.instance (get_or old.categories n 0) l.member.0) lots) (sym q)
         once_here
   ];
-  done = λ j l y m q. elim (below_or j k l) [
+  done = λ j l y m q. elim (below_or_same j k l) [
     | inl b ↦ subst (λ o. IsJoined change (stands_at old y) (lots_at old.instance lots y) o)
         (sym (here.others y m (λ r. differ j k 0 b h (sym q ∙ r))))
         (so.done j b y m q)
@@ -258,22 +256,23 @@ so_far_all change lots k old now so h = record {
 -- ---- the facts
 
 -- what the lots make of the views is what their facts make of them
-pub table_changed : (change : Change) (facts : List Fact) (g : Lots) (old new : Summarized)
+pub table_changed : (change : Change) (facts : List (Fact ℕ)) (g : Lots) (old new : Summarized)
     → new.instance ≡ old.instance → new.categories ≡ old.categories → StandFor old.instance facts g
     → AreJoined change g.lots.items old new
     → facts_changed (step_of change) old.instance (views_at old) facts ≡ Ok (views_at new)
 table_changed change facts g old new e k s j =
     all_taken change old.instance old.categories facts 2 (stands_at old) (record {
       values = s.values;
-      once = All-weaker (λ (f : Fact). Contains (members_in g) f.member)
-          (λ (f : Fact). (c : ℕ) → Contains old.categories c → IsOnce old.instance c f.member)
-          (λ f m c n. All-contains (λ x. IsOnce old.instance c x) (members_in g) f.member
+      once = All-weaker (λ (f : Fact ℕ). Contains (members_in g) f.at)
+          (λ (f : Fact ℕ). (c : ℕ) → Contains old.categories c → IsOnce old.instance c f.at)
+          (λ f m c n. All-contains (λ x. IsOnce old.instance c x) (members_in g) f.at
           (All-map (λ x. IsOnce old.instance c x) (λ (l : Lot). l.member.0) g.lots.items (j.once c n)) m)
           facts s.members;
       admits = λ c n y m. subst (Admits change (stands_at old y)) (s.at y) (j.at y (among old c y n m)).admits;
     })
     ∙ ap Ok (views_alike change old.instance old.categories
-    (λ y. changed_by change (stands_at old y) (total_of_facts old.instance facts y)) (stands_at new) old.categories
+    (λ y. changed_by change (stands_at old y) (total_of_facts (members old.instance) facts y))
+    (stands_at new) old.categories
     (λ c n y m. sym ((j.at y (among old c y n m)).is ∙ ap (changed_by change (stands_at old y)) (s.at y)))
     ∙ sym (ap (λ (i : Instance). map (view_by i (stands_at new)) old.categories) e)
     ∙ sym (ap (λ (cs : List ℕ). map (view_at new) cs) k))

@@ -2,18 +2,16 @@
 --     view_done, views_done     the views after one fact
 --     all_taken                 the views after facts of which none could be refused
 --     views_alike               the same views where the summaries are the same
-use Rattle.std.proofs.Common.{◌≡◌, ℕ, ◌+◌, List, [], ◌∷◌, map, Bool, true, false, cond, refl, sym, ap, subst, ◌∙◌, Option, Some, None, w64, arith}
+use Rattle.std.proofs.Common.{◌≡◌, ℕ, ◌+◌, List, [], ◌∷◌, map, Bool, true, false, cond, refl, sym, ap, subst, ◌∙◌, Option, Some, None, w64}
 use Rattle.std.specs.Prelude.{All, Contains, filter, ◌==◌, Result, Ok, Err}
 use mir.Val.{SFits}
-use Rattle.std.proofs.lemmas.Bool.Decides.{nat_tests}
 use Rattle.std.proofs.lemmas.List.Elements.{All-head, All-tail}
 use Rattle.olap_base.specs.Deciding.{contains_cons}
 use Rattle.olap_base.specs.Instance.{Instance}
 use Rattle.olap_base.specs.Reaching.{reaches}
 use Rattle.olap_base.specs.Summaries.{Summary, of_value, ◌⊕◌}
-use Rattle.olap_base.specs.Views.{Fact, View, members_of, total_of_facts}
+use Rattle.olap_base.specs.Views.{Fact, View, members, members_of, total_of_facts}
 use Rattle.olap_base.proofs.ListLemmas.{Contains-filter, Contains-from_filter, Contains-nil, contains_head}
-use Rattle.olap_base.proofs.ViewLemmas.{eqb_is}
 use Rattle.olap_view.proofs.FileOrderLemmas.{view_by}
 use Rattle.olap_delta.specs.Changes.{Step}
 use Rattle.olap_delta.specs.FactByFact.{store_after_facts, view_after_fact, views_after_fact}
@@ -25,47 +23,39 @@ use Rattle.olap_delta.proofs.ChangeLemmas.{stepped, view_alike, view_reached, vi
 use Rattle.olap_delta.proofs.ChangingLemmas.{taken_ok}
 use Rattle.olap_delta.proofs.JoinedRowLemmas.{IsFirst, first_of, nothing_more}
 use Rattle.olap_delta.proofs.PermutedLemmas.{added, fact_among}
+use Rattle.std.proofs.lemmas.Bool.{false_from_ne_true, eqb-true, eq-eqb}
 
 -- ---- one fact
 
--- what isn't true is false
-pub not_true : (b : Bool) → (b ≡ true → ⊥) → b ≡ false
-not_true true n = absurd (n refl)
-not_true false n = refl
-
--- equal numbers pass the test
-test_true : (x y : ℕ) → x ≡ y → (x == y) ≡ true
-test_true x y e = grind (arith, nat_tests)
-
 -- the step makes after of before
-pub record IsStep (step : Step) (before after : Option Summary) (f : Fact) : Type 0 where
+pub record IsStep (step : Step) (before after : Option Summary) (f : Fact ℕ) : Type 0 where
   pub summary : Summary
   pub gives : step before f.value ≡ Ok summary
   pub is : Some summary ≡ after
 
 -- where it does so at each member that the fact's member reaches, and nothing changes elsewhere
-module _ (step : Step) (i : Instance) (before after : ℕ → Option Summary) (f : Fact)
-    (elsewhere : (y : ℕ) → reaches i f.member y ≡ false → before y ≡ after y) where
+module _ (step : Step) (i : Instance) (before after : ℕ → Option Summary) (f : Fact ℕ)
+    (elsewhere : (y : ℕ) → reaches i f.at y ≡ false → before y ≡ after y) where
   -- a view of what was before becomes that of what is after
-  pub view_done : (c : ℕ) → IsOnce i c f.member
-      → ((y : ℕ) → Contains (members_of i c) y → reaches i f.member y ≡ true → IsStep step (before y) (after y) f)
+  pub view_done : (c : ℕ) → IsOnce i c f.at
+      → ((y : ℕ) → Contains (members_of i c) y → reaches i f.at y ≡ true → IsStep step (before y) (after y) f)
       → view_after_fact step i (view_by i before c) f ≡ Ok (view_by i after c)
-  view_done c once there = go (filter (λ y. reaches i f.member y) (members_of i c)) refl
+  view_done c once there = go (filter (λ y. reaches i f.at y) (members_of i c)) refl
     where
-      go : (ys : List ℕ) → filter (λ y. reaches i f.member y) (members_of i c) ≡ ys
+      go : (ys : List ℕ) → filter (λ y. reaches i f.at y) (members_of i c) ≡ ys
           → view_after_fact step i (view_by i before c) f ≡ Ok (view_by i after c)
       go [] e = view_unreached step i before c f none
-          ∙ ap Ok (view_alike i before after c (λ y k. elsewhere y (not_true (reaches i f.member y) (none y k))))
+          ∙ ap Ok (view_alike i before after c (λ y k. elsewhere y (false_from_ne_true (reaches i f.at y) (none y k))))
         where
-          none : (y : ℕ) → Contains (members_of i c) y → reaches i f.member y ≡ true → ⊥
+          none : (y : ℕ) → Contains (members_of i c) y → reaches i f.at y ≡ true → ⊥
           none y k r = Contains-nil y (subst (λ xs. Contains xs y) e
-              (Contains-filter (λ y. reaches i f.member y) (members_of i c) y r k))
+              (Contains-filter (λ y. reaches i f.at y) (members_of i c) y r k))
       go (y ∷ ys) e = view_reached step i before c f y at.0 at.1 (λ z k r. once z y k at.0 r at.1)
           ∙ ap (stepped i before c y) done.gives
           ∙ ap Ok (view_alike i (with_at before y done.summary) after c (λ z k. each z k (z == y) refl))
         where
-          at : Contains (members_of i c) y × (reaches i f.member y ≡ true)
-          at = Contains-from_filter (λ y. reaches i f.member y) (members_of i c) y
+          at : Contains (members_of i c) y × (reaches i f.at y ≡ true)
+          at = Contains-from_filter (λ y. reaches i f.at y) (members_of i c) y
               (subst (λ xs. Contains xs y) (sym e) (contains_head y ys))
 
           done : IsStep step (before y) (after y) f
@@ -73,13 +63,13 @@ module _ (step : Step) (i : Instance) (before after : ℕ → Option Summary) (f
 
           each : (z : ℕ) → Contains (members_of i c) z → (b : Bool) → (z == y) ≡ b
               → cond b (Some done.summary) (before z) ≡ after z
-          each z k true t = done.is ∙ ap after (sym (eqb_is z y t))
-          each z k false t = elsewhere z (not_true (reaches i f.member z) (λ r.
-              let u = test_true z y (once z y k at.0 r at.1) in let x : true ≡ false = sym u ∙ t in absurd (cc)))
+          each z k true t = done.is ∙ ap after (sym (eqb-true z y t))
+          each z k false t = elsewhere z (false_from_ne_true (reaches i f.at z) (λ r.
+              let u = eq-eqb z y (once z y k at.0 r at.1) in let x : true ≡ false = sym u ∙ t in absurd (cc)))
 
   -- so do several views
-  pub views_done : (cs : List ℕ) → ((c : ℕ) → Contains cs c → IsOnce i c f.member)
-      → ((c : ℕ) → Contains cs c → (y : ℕ) → Contains (members_of i c) y → reaches i f.member y ≡ true
+  pub views_done : (cs : List ℕ) → ((c : ℕ) → Contains cs c → IsOnce i c f.at)
+      → ((c : ℕ) → Contains cs c → (y : ℕ) → Contains (members_of i c) y → reaches i f.at y ≡ true
       → IsStep step (before y) (after y) f)
       → views_after_fact step i (map (view_by i before) cs) f ≡ Ok (map (view_by i after) cs)
   views_done [] once there = refl
@@ -88,9 +78,9 @@ module _ (step : Step) (i : Instance) (before after : ℕ → Option Summary) (f
       (view_done c (once c (contains_head c cs)) (there c (contains_head c cs)))
       (views_done cs (λ d k. once d (contains_cons d cs c k)) (λ d k. there d (contains_cons d cs c k)))
     where
-      go : (a : Result View DeltaKind) (b : Result (List View) DeltaKind) → a ≡ Ok (view_by i after c)
+      go : (a : Result (View ℕ ℕ) DeltaKind) (b : Result (List (View ℕ ℕ)) DeltaKind) → a ≡ Ok (view_by i after c)
           → b ≡ Ok (map (view_by i after) cs)
-          → ◌≡◌ {A = Result (List View) DeltaKind} (elim a [
+          → ◌≡◌ {A = Result (List (View ℕ ℕ)) DeltaKind} (elim a [
             | Ok v ↦ elim b [ Ok ws ↦ Ok (v ∷ ws) | Err k ↦ Err k ]
             | Err k ↦ Err k
           ]) (Ok (map (view_by i after) (c ∷ cs)))
@@ -102,72 +92,74 @@ module _ (step : Step) (i : Instance) (before after : ℕ → Option Summary) (f
 
 module _ (change : Change) (i : Instance) (cs : List ℕ) where
   -- what is known of facts of which none could be refused
-  pub record AreAdmitted (h : ℕ → Option Summary) (facts : List Fact) : Type 0 where
+  pub record AreAdmitted (h : ℕ → Option Summary) (facts : List (Fact ℕ)) : Type 0 where
     pub values : All (λ f. SFits w64 f.value) facts
-    pub once : All (λ f. (c : ℕ) → Contains cs c → IsOnce i c f.member) facts
+    pub once : All (λ f. (c : ℕ) → Contains cs c → IsOnce i c f.at) facts
     pub admits : (c : ℕ) → Contains cs c → (y : ℕ) → Contains (members_of i c) y
-        → Admits change (h y) (total_of_facts i facts y)
+        → Admits change (h y) (total_of_facts (members i) facts y)
 
-  module _ (h : ℕ → Option Summary) (f : Fact) (facts : List Fact) (a : AreAdmitted h (f ∷ facts)) where
+  module _ (h : ℕ → Option Summary) (f : Fact ℕ) (facts : List (Fact ℕ)) (a : AreAdmitted h (f ∷ facts)) where
     -- what stands at y after the first
     abbrev pub next : ℕ → Option Summary
     next y = changed_by change (h y) (added i y f)
 
-    first : (y : ℕ) → total_of_facts i (f ∷ facts) y ≡ added i y f ⊕ total_of_facts i facts y
+    first : (y : ℕ) → total_of_facts (members i) (f ∷ facts) y ≡ added i y f ⊕ total_of_facts (members i) facts y
     first y = fact_among i y [] f facts
 
     value : SFits w64 f.value
-    value = All-head (λ (f : Fact). SFits w64 f.value) f facts a.values
+    value = All-head (λ (f : Fact ℕ). SFits w64 f.value) f facts a.values
 
-    reached : (c : ℕ) → Contains cs c → (y : ℕ) → Contains (members_of i c) y → reaches i f.member y ≡ true
-        → IsFirst change (h y) f.value (total_of_facts i facts y)
-    reached c k y m r = first_of change (h y) f.value (total_of_facts i facts y) value
+    reached : (c : ℕ) → Contains cs c → (y : ℕ) → Contains (members_of i c) y → reaches i f.at y ≡ true
+        → IsFirst change (h y) f.value (total_of_facts (members i) facts y)
+    reached c k y m r = first_of change (h y) f.value (total_of_facts (members i) facts y) value
         (subst (λ o. Admits change (h y) o)
-        (first y ∙ ap (λ b. cond b (Some (of_value f.value)) None ⊕ total_of_facts i facts y) r) (a.admits c k y m))
+        (first y ∙ ap (λ b. cond b (Some (of_value f.value)) None ⊕ total_of_facts (members i) facts y) r)
+        (a.admits c k y m))
 
-    unreached : (y : ℕ) → reaches i f.member y ≡ false → h y ≡ next y
+    unreached : (y : ℕ) → reaches i f.at y ≡ false → h y ≡ next y
     unreached y r = sym (ap (λ b. changed_by change (h y) (cond b (Some (of_value f.value)) None)) r
         ∙ nothing_more change (h y))
 
-    next_is : (y : ℕ) → reaches i f.member y ≡ true → next y ≡ changed_by change (h y) (Some (of_value f.value))
+    next_is : (y : ℕ) → reaches i f.at y ≡ true → next y ≡ changed_by change (h y) (Some (of_value f.value))
     next_is y r = ap (λ b. changed_by change (h y) (cond b (Some (of_value f.value)) None)) r
 
     pub first_views : views_after_fact (step_of change) i (map (view_by i h) cs) f ≡ Ok (map (view_by i next) cs)
     first_views = views_done (step_of change) i h next f unreached cs
-        (All-head (λ (f : Fact). (c : ℕ) → Contains cs c → IsOnce i c f.member) f facts a.once)
+        (All-head (λ (f : Fact ℕ). (c : ℕ) → Contains cs c → IsOnce i c f.at) f facts a.once)
         (λ c k y m r. let q = reached c k y m r in
         record { summary = q.after; gives = q.step; is = sym (next_is y r ∙ q.is) })
 
     pub others_admitted : AreAdmitted next facts
     others_admitted = record {
-      values = All-tail (λ (f : Fact). SFits w64 f.value) f facts a.values;
-      once = All-tail (λ (f : Fact). (c : ℕ) → Contains cs c → IsOnce i c f.member) f facts a.once;
-      admits = λ c k y m. go c k y m (reaches i f.member y) refl;
+      values = All-tail (λ (f : Fact ℕ). SFits w64 f.value) f facts a.values;
+      once = All-tail (λ (f : Fact ℕ). (c : ℕ) → Contains cs c → IsOnce i c f.at) f facts a.once;
+      admits = λ c k y m. go c k y m (reaches i f.at y) refl;
     }
       where
-        go : (c : ℕ) → Contains cs c → (y : ℕ) → Contains (members_of i c) y → (b : Bool) → reaches i f.member y ≡ b
-            → Admits change (next y) (total_of_facts i facts y)
+        go : (c : ℕ) → Contains cs c → (y : ℕ) → Contains (members_of i c) y → (b : Bool) → reaches i f.at y ≡ b
+            → Admits change (next y) (total_of_facts (members i) facts y)
         go c k y m true r = let q = reached c k y m r in
-            subst (λ o. Admits change o (total_of_facts i facts y)) (sym (next_is y r ∙ q.is)) q.admits
-        go c k y m false r = subst (λ o. Admits change o (total_of_facts i facts y)) (unreached y r)
+            subst (λ o. Admits change o (total_of_facts (members i) facts y)) (sym (next_is y r ∙ q.is)) q.admits
+        go c k y m false r = subst (λ o. Admits change o (total_of_facts (members i) facts y)) (unreached y r)
             (subst (λ o. Admits change (h y) o)
-            (first y ∙ ap (λ b. cond b (Some (of_value f.value)) None ⊕ total_of_facts i facts y) r) (a.admits c k y m))
+            (first y ∙ ap (λ b. cond b (Some (of_value f.value)) None ⊕ total_of_facts (members i) facts y) r)
+            (a.admits c k y m))
 
     pub all_same : (c : ℕ) → Contains cs c → (y : ℕ) → Contains (members_of i c) y
-        → changed_by change (next y) (total_of_facts i facts y)
-        ≡ changed_by change (h y) (total_of_facts i (f ∷ facts) y)
-    all_same c k y m = go (reaches i f.member y) refl
+        → changed_by change (next y) (total_of_facts (members i) facts y)
+        ≡ changed_by change (h y) (total_of_facts (members i) (f ∷ facts) y)
+    all_same c k y m = go (reaches i f.at y) refl
       where
-        go : (b : Bool) → reaches i f.member y ≡ b
-            → changed_by change (next y) (total_of_facts i facts y)
-            ≡ changed_by change (h y) (total_of_facts i (f ∷ facts) y)
+        go : (b : Bool) → reaches i f.at y ≡ b
+            → changed_by change (next y) (total_of_facts (members i) facts y)
+            ≡ changed_by change (h y) (total_of_facts (members i) (f ∷ facts) y)
         go true r = let q = reached c k y m r in
-            ap (λ o. changed_by change o (total_of_facts i facts y)) (next_is y r ∙ q.is) ∙ q.rest
+            ap (λ o. changed_by change o (total_of_facts (members i) facts y)) (next_is y r ∙ q.is) ∙ q.rest
             ∙ sym (ap (changed_by change (h y))
-            (first y ∙ ap (λ b. cond b (Some (of_value f.value)) None ⊕ total_of_facts i facts y) r))
-        go false r = ap (λ o. changed_by change o (total_of_facts i facts y)) (sym (unreached y r))
+            (first y ∙ ap (λ b. cond b (Some (of_value f.value)) None ⊕ total_of_facts (members i) facts y) r))
+        go false r = ap (λ o. changed_by change o (total_of_facts (members i) facts y)) (sym (unreached y r))
             ∙ sym (ap (changed_by change (h y))
-            (first y ∙ ap (λ b. cond b (Some (of_value f.value)) None ⊕ total_of_facts i facts y) r))
+            (first y ∙ ap (λ b. cond b (Some (of_value f.value)) None ⊕ total_of_facts (members i) facts y) r))
 
   -- functions that agree at the members give the same views
   pub views_alike : (h k : ℕ → Option Summary) (ds : List ℕ)
@@ -178,9 +170,9 @@ module _ (change : Change) (i : Instance) (cs : List ℕ) where
       ∙ ap (λ vs. view_by i k c ∷ vs) (views_alike h k ds (λ d m. e d (contains_cons d ds c m)))
 
   -- facts of which none could be refused, taken in order, are as all of them at once
-  pub all_taken : (facts : List Fact) (at : ℕ) (h : ℕ → Option Summary) → AreAdmitted h facts
+  pub all_taken : (facts : List (Fact ℕ)) (at : ℕ) (h : ℕ → Option Summary) → AreAdmitted h facts
       → store_after_facts (step_of change) i (Ok (map (view_by i h) cs)) at facts
-      ≡ Ok (map (view_by i (λ y. changed_by change (h y) (total_of_facts i facts y))) cs)
+      ≡ Ok (map (view_by i (λ y. changed_by change (h y) (total_of_facts (members i) facts y))) cs)
   all_taken [] at h a = ap Ok (views_alike h (λ y. changed_by change (h y) None) cs
       (λ c k y m. sym (nothing_more change (h y))))
   all_taken (f ∷ facts) at h a =
@@ -188,5 +180,5 @@ module _ (change : Change) (i : Instance) (cs : List ℕ) where
       (sym (taken_ok (step_of change) i at f (map (view_by i h) cs) (map (view_by i (next h f facts a)) cs)
       (first_views h f facts a)))
       ∙ all_taken facts (at + 1) (next h f facts a) (others_admitted h f facts a)
-      ∙ ap Ok (views_alike (λ y. changed_by change (next h f facts a y) (total_of_facts i facts y))
-      (λ y. changed_by change (h y) (total_of_facts i (f ∷ facts) y)) cs (all_same h f facts a))
+      ∙ ap Ok (views_alike (λ y. changed_by change (next h f facts a y) (total_of_facts (members i) facts y))
+      (λ y. changed_by change (h y) (total_of_facts (members i) (f ∷ facts) y)) cs (all_same h f facts a))

@@ -9,7 +9,7 @@ use Rattle.olap_base.specs.Instance.{Instance, IsLawful}
 use Rattle.olap_base.specs.declared.refusals.Fault.{Fault}
 use Rattle.olap_base.specs.Reaching.{reaches}
 use Rattle.olap_base.specs.Summaries.{Summary, of_value, ◌⊕◌}
-use Rattle.olap_base.specs.Views.{Fact, View, direct_view, direct_views, members_of, total_of_facts, values_at}
+use Rattle.olap_base.specs.Views.{Fact, View, direct_view, direct_views, members, members_of, total_of_facts, values_at}
 use Rattle.olap_base.proofs.ListLemmas.{Contains-map}
 use Rattle.olap_base.proofs.TotalLemmas.{⊕_none}
 use Rattle.olap_view.specs.StoreReading.{IsStoredAt}
@@ -38,14 +38,15 @@ views_small i h cs a c k = λ y m. stored_small y (h y) (rows_stored h (members_
     (All-contains Fits (map (view_by i h) cs) (view_by i h c) a (Contains-map (view_by i h) cs c k)) y m)
 
 -- what the facts after the first make of the views after it
-then : (step : Step) (i : Instance) (views : List View) (at : ℕ) (f : Fact) (facts : List Fact) (P : List View → Type 0)
+then : (step : Step) (i : Instance) (views : List (View ℕ ℕ)) (at : ℕ) (f : Fact ℕ) (facts : List (Fact ℕ))
+    (P : List (View ℕ ℕ) → Type 0)
     (k : DeltaKind)
     → MatchResult (views_after_fact step i views f)
     (λ views. MatchResult (store_after_facts step i (Ok views) (at + 1) facts) P (λ fault. fault.kind ≡ k)) (λ j. j ≡ k)
     → MatchResult (store_after_facts step i (Ok views) at (f ∷ facts)) P (λ fault. fault.kind ≡ k)
 then step i views at f facts P k = go (views_after_fact step i views f)
   where
-    go : (r : Result (List View) DeltaKind)
+    go : (r : Result (List (View ℕ ℕ)) DeltaKind)
         → MatchResult r
         (λ views. MatchResult (store_after_facts step i (Ok views) (at + 1) facts) P (λ fault. fault.kind ≡ k))
         (λ j. j ≡ k)
@@ -54,7 +55,7 @@ then step i views at f facts P k = go (views_after_fact step i views f)
           | Err j ↦ Err (record { at = at; kind = j })
         ]) (at + 1) facts) P (λ fault. fault.kind ≡ k)
     go (Ok vs) h = h
-    go (Err j) h = subst (λ (r : Result (List View) (Fault DeltaKind)). MatchResult r P (λ fault. fault.kind ≡ k))
+    go (Err j) h = subst (λ (r : Result (List (View ℕ ℕ)) (Fault DeltaKind)). MatchResult r P (λ fault. fault.kind ≡ k))
         (sym (stays step i (record { at = at; kind = j }) (at + 1) facts)) h
 
 -- what follows of a value follows of a result
@@ -65,104 +66,111 @@ weaker (Err b) P Q R f h = h
 
 module _ (g : Graph) (i : Instance) (w : IsLawful g i) (cs : List ℕ) where
   -- appending new facts to the direct views of some gives those of both, or is `Full`
-  append_all : (new facts : List Fact) (at : ℕ) → ((c : ℕ) → Contains cs c → AreSmall i c (total_of_facts i facts))
+  append_all : (new facts : List (Fact ℕ)) (at : ℕ)
+      → ((c : ℕ) → Contains cs c → AreSmall i c (total_of_facts (members i) facts))
       → All (λ f. SFits w64 f.value) new
-      → MatchResult (store_after_facts appended i (Ok (direct_views i facts cs)) at new)
-      (λ views. views ≡ direct_views i (facts ++ new) cs) (λ fault. fault.kind ≡ kind.Full)
-  append_all [] facts at small fit = ap (λ l. direct_views i l cs) (sym (append-nil facts))
+      → MatchResult (store_after_facts appended i (Ok (direct_views (members i) facts cs)) at new)
+      (λ views. views ≡ direct_views (members i) (facts ++ new) cs) (λ fault. fault.kind ≡ kind.Full)
+  append_all [] facts at small fit = ap (λ l. direct_views (members i) l cs) (sym (append-nil facts))
   append_all (f ∷ new) facts at small fit =
-      then appended i (direct_views i facts cs) at f new
-      (λ views. views ≡ direct_views i (facts ++ f ∷ new) cs) kind.Full
-      (weaker (views_after_fact appended i (direct_views i facts cs) f)
+      then appended i (direct_views (members i) facts cs) at f new
+      (λ views. views ≡ direct_views (members i) (facts ++ f ∷ new) cs) kind.Full
+      (weaker (views_after_fact appended i (direct_views (members i) facts cs) f)
       (λ vs. (vs ≡ map (view_by i after) cs) × ((c : ℕ) → Contains cs c → AreSmall i c after))
       (λ views. MatchResult (store_after_facts appended i (Ok views) (at + 1) new)
-      (λ views. views ≡ direct_views i (facts ++ f ∷ new) cs) (λ fault. fault.kind ≡ kind.Full)) (λ k. k ≡ kind.Full)
+      (λ views. views ≡ direct_views (members i) (facts ++ f ∷ new) cs) (λ fault. fault.kind ≡ kind.Full))
+      (λ k. k ≡ kind.Full)
       (λ vs p. subst (λ l. MatchResult (store_after_facts appended i (Ok vs) (at + 1) new)
-      (λ views. views ≡ direct_views i l cs) (λ fault. fault.kind ≡ kind.Full)) (append_assoc facts (f ∷ []) new)
+      (λ views. views ≡ direct_views (members i) l cs) (λ fault. fault.kind ≡ kind.Full))
+      (append_assoc facts (f ∷ []) new)
       (subst (λ ws. MatchResult (store_after_facts appended i (Ok ws) (at + 1) new)
-      (λ views. views ≡ direct_views i ((facts ++ f ∷ []) ++ new) cs) (λ fault. fault.kind ≡ kind.Full)) (sym p.0)
-      (append_all new (facts ++ f ∷ []) (at + 1) p.1 (All-tail (λ (f : Fact). SFits w64 f.value) f new fit))))
+      (λ views. views ≡ direct_views (members i) ((facts ++ f ∷ []) ++ new) cs) (λ fault. fault.kind ≡ kind.Full))
+      (sym p.0)
+      (append_all new (facts ++ f ∷ []) (at + 1) p.1 (All-tail (λ (f : Fact ℕ). SFits w64 f.value) f new fit))))
       (views_step appended kind.Full g i w before after f elsewhere there cs small))
     where
       before : ℕ → Option Summary
-      before = total_of_facts i facts
+      before = total_of_facts (members i) facts
 
       after : ℕ → Option Summary
-      after = total_of_facts i (facts ++ f ∷ [])
+      after = total_of_facts (members i) (facts ++ f ∷ [])
 
-      elsewhere : (y : ℕ) → reaches i f.member y ≡ false
-          → total_of_facts i facts y ≡ total_of_facts i (facts ++ f ∷ []) y
+      elsewhere : (y : ℕ) → reaches i f.at y ≡ false
+          → total_of_facts (members i) facts y ≡ total_of_facts (members i) (facts ++ f ∷ []) y
       elsewhere y r = sym (fact_behind i y facts f
-          ∙ ap (λ b. total_of_facts i facts y ⊕ cond b (Some (of_value f.value)) None) r
-          ∙ ⊕_none (total_of_facts i facts y))
+          ∙ ap (λ b. total_of_facts (members i) facts y ⊕ cond b (Some (of_value f.value)) None) r
+          ∙ ⊕_none (total_of_facts (members i) facts y))
 
-      there : (y : ℕ) → reaches i f.member y ≡ true → IfSome (total_of_facts i facts y) IsSmall
-          → Makes appended kind.Full (total_of_facts i facts y) f.value (total_of_facts i (facts ++ f ∷ []) y)
-      there y r h = subst (λ o. Makes appended kind.Full (total_of_facts i facts y) f.value o)
-          (sym (fact_behind i y facts f ∙ ap (λ b. total_of_facts i facts y ⊕ cond b (Some (of_value f.value)) None) r))
-          (appended_total (values_at i facts y) f.value (All-head (λ (f : Fact). SFits w64 f.value) f new fit) h)
+      there : (y : ℕ) → reaches i f.at y ≡ true → IfSome (total_of_facts (members i) facts y) IsSmall
+          → Makes appended kind.Full (total_of_facts (members i) facts y) f.value
+          (total_of_facts (members i) (facts ++ f ∷ []) y)
+      there y r h = subst (λ o. Makes appended kind.Full (total_of_facts (members i) facts y) f.value o)
+          (sym (fact_behind i y facts f
+          ∙ ap (λ b. total_of_facts (members i) facts y ⊕ cond b (Some (of_value f.value)) None) r))
+          (appended_total (values_at (members i) facts y) f.value
+          (All-head (λ (f : Fact ℕ). SFits w64 f.value) f new fit) h)
 
   -- retracting facts from the direct views of them and others gives those of the others, or is `Extreme`
-  retract_all : (withdrawn left : List Fact) (at : ℕ)
-      → ((c : ℕ) → Contains cs c → AreSmall i c (total_of_facts i (left ++ withdrawn)))
-      → MatchResult (store_after_facts retracted i (Ok (direct_views i (left ++ withdrawn) cs)) at withdrawn)
-      (λ views. views ≡ direct_views i left cs) (λ fault. fault.kind ≡ kind.Extreme)
-  retract_all [] left at small = ap (λ l. direct_views i l cs) (append-nil left)
+  retract_all : (withdrawn left : List (Fact ℕ)) (at : ℕ)
+      → ((c : ℕ) → Contains cs c → AreSmall i c (total_of_facts (members i) (left ++ withdrawn)))
+      → MatchResult (store_after_facts retracted i (Ok (direct_views (members i) (left ++ withdrawn) cs)) at withdrawn)
+      (λ views. views ≡ direct_views (members i) left cs) (λ fault. fault.kind ≡ kind.Extreme)
+  retract_all [] left at small = ap (λ l. direct_views (members i) l cs) (append-nil left)
   retract_all (f ∷ withdrawn) left at small =
-      then retracted i (direct_views i (left ++ f ∷ withdrawn) cs) at f withdrawn
-      (λ views. views ≡ direct_views i left cs) kind.Extreme
-      (weaker (views_after_fact retracted i (direct_views i (left ++ f ∷ withdrawn) cs) f)
-      (λ vs. (vs ≡ direct_views i (left ++ withdrawn) cs)
-      × ((c : ℕ) → Contains cs c → AreSmall i c (total_of_facts i (left ++ withdrawn))))
+      then retracted i (direct_views (members i) (left ++ f ∷ withdrawn) cs) at f withdrawn
+      (λ views. views ≡ direct_views (members i) left cs) kind.Extreme
+      (weaker (views_after_fact retracted i (direct_views (members i) (left ++ f ∷ withdrawn) cs) f)
+      (λ vs. (vs ≡ direct_views (members i) (left ++ withdrawn) cs)
+      × ((c : ℕ) → Contains cs c → AreSmall i c (total_of_facts (members i) (left ++ withdrawn))))
       (λ views. MatchResult (store_after_facts retracted i (Ok views) (at + 1) withdrawn)
-      (λ views. views ≡ direct_views i left cs) (λ fault. fault.kind ≡ kind.Extreme)) (λ k. k ≡ kind.Extreme)
+      (λ views. views ≡ direct_views (members i) left cs) (λ fault. fault.kind ≡ kind.Extreme)) (λ k. k ≡ kind.Extreme)
       (λ vs p. subst (λ ws. MatchResult (store_after_facts retracted i (Ok ws) (at + 1) withdrawn)
-      (λ views. views ≡ direct_views i left cs) (λ fault. fault.kind ≡ kind.Extreme)) (sym p.0)
+      (λ views. views ≡ direct_views (members i) left cs) (λ fault. fault.kind ≡ kind.Extreme)) (sym p.0)
       (retract_all withdrawn left (at + 1) p.1))
-      (views_step retracted kind.Extreme g i w (total_of_facts i (left ++ f ∷ withdrawn))
-      (total_of_facts i (left ++ withdrawn)) f elsewhere there cs small))
+      (views_step retracted kind.Extreme g i w (total_of_facts (members i) (left ++ f ∷ withdrawn))
+      (total_of_facts (members i) (left ++ withdrawn)) f elsewhere there cs small))
     where
-      elsewhere : (y : ℕ) → reaches i f.member y ≡ false
-          → total_of_facts i (left ++ f ∷ withdrawn) y ≡ total_of_facts i (left ++ withdrawn) y
+      elsewhere : (y : ℕ) → reaches i f.at y ≡ false
+          → total_of_facts (members i) (left ++ f ∷ withdrawn) y ≡ total_of_facts (members i) (left ++ withdrawn) y
       elsewhere y r = fact_among i y left f withdrawn
-          ∙ ap (λ b. cond b (Some (of_value f.value)) None ⊕ total_of_facts i (left ++ withdrawn) y) r
+          ∙ ap (λ b. cond b (Some (of_value f.value)) None ⊕ total_of_facts (members i) (left ++ withdrawn) y) r
 
-      there : (y : ℕ) → reaches i f.member y ≡ true → IfSome (total_of_facts i (left ++ f ∷ withdrawn) y) IsSmall
-          → Makes retracted kind.Extreme (total_of_facts i (left ++ f ∷ withdrawn) y) f.value
-          (total_of_facts i (left ++ withdrawn) y)
+      there : (y : ℕ) → reaches i f.at y ≡ true → IfSome (total_of_facts (members i) (left ++ f ∷ withdrawn) y) IsSmall
+          → Makes retracted kind.Extreme (total_of_facts (members i) (left ++ f ∷ withdrawn) y) f.value
+          (total_of_facts (members i) (left ++ withdrawn) y)
       there y r h =
-          let e : total_of_facts i (left ++ f ∷ withdrawn) y
-          ≡ Some (of_value f.value) ⊕ total_of_facts i (left ++ withdrawn) y =
+          let e : total_of_facts (members i) (left ++ f ∷ withdrawn) y
+          ≡ Some (of_value f.value) ⊕ total_of_facts (members i) (left ++ withdrawn) y =
           fact_among i y left f withdrawn
-          ∙ ap (λ b. cond b (Some (of_value f.value)) None ⊕ total_of_facts i (left ++ withdrawn) y) r in
-          subst (λ o. Makes retracted kind.Extreme o f.value (total_of_facts i (left ++ withdrawn) y)) (sym e)
-          (retracted_total (values_at i (left ++ withdrawn) y) f.value
+          ∙ ap (λ b. cond b (Some (of_value f.value)) None ⊕ total_of_facts (members i) (left ++ withdrawn) y) r in
+          subst (λ o. Makes retracted kind.Extreme o f.value (total_of_facts (members i) (left ++ withdrawn) y)) (sym e)
+          (retracted_total (values_at (members i) (left ++ withdrawn) y) f.value
           (subst (λ (o : Option Summary). IfSome o IsSmall) e h))
 
 -- appending to direct views
 pub append_gives : AppendGivesDirectViews
 append_gives g i cs facts new w fit values =
-    subst (λ (r : Result (List View) (Fault DeltaKind)).
-    MatchResult r (λ views. views ≡ direct_views i (facts ++ new) cs) (λ fault. fault.kind ≡ kind.Full))
-    (sym (store_is appended i (direct_views i facts cs) new))
-    (append_all g i w cs new facts 2 (views_small i (total_of_facts i facts) cs fit) values)
+    subst (λ (r : Result (List (View ℕ ℕ)) (Fault DeltaKind)).
+    MatchResult r (λ views. views ≡ direct_views (members i) (facts ++ new) cs) (λ fault. fault.kind ≡ kind.Full))
+    (sym (store_is appended i (direct_views (members i) facts cs) new))
+    (append_all g i w cs new facts 2 (views_small i (total_of_facts (members i) facts) cs fit) values)
 
 -- retracting from direct views
 pub retract_gives : RetractGivesDirectViews
 retract_gives g i cs facts left withdrawn w fit p =
-    let same : direct_views i facts cs ≡ direct_views i (left ++ withdrawn) cs =
+    let same : direct_views (members i) facts cs ≡ direct_views (members i) (left ++ withdrawn) cs =
     reordered cs in
-    subst (λ (r : Result (List View) (Fault DeltaKind)).
-    MatchResult r (λ views. views ≡ direct_views i left cs) (λ fault. fault.kind ≡ kind.Extreme))
-    (sym (store_is retracted i (direct_views i facts cs) withdrawn))
+    subst (λ (r : Result (List (View ℕ ℕ)) (Fault DeltaKind)).
+    MatchResult r (λ views. views ≡ direct_views (members i) left cs) (λ fault. fault.kind ≡ kind.Extreme))
+    (sym (store_is retracted i (direct_views (members i) facts cs) withdrawn))
     (subst (λ views. MatchResult (store_after_facts retracted i (Ok views) 2 withdrawn)
-    (λ views. views ≡ direct_views i left cs) (λ fault. fault.kind ≡ kind.Extreme)) (sym same)
-    (retract_all g i w cs withdrawn left 2 (views_small i (total_of_facts i (left ++ withdrawn)) cs
+    (λ views. views ≡ direct_views (members i) left cs) (λ fault. fault.kind ≡ kind.Extreme)) (sym same)
+    (retract_all g i w cs withdrawn left 2 (views_small i (total_of_facts (members i) (left ++ withdrawn)) cs
     (subst (All Fits) same fit))))
   where
-    reordered : (cs : List ℕ) → direct_views i facts cs ≡ direct_views i (left ++ withdrawn) cs
+    reordered : (cs : List ℕ) → direct_views (members i) facts cs ≡ direct_views (members i) (left ++ withdrawn) cs
     reordered [] = refl
-    reordered (c ∷ cs) = ap (λ v. v ∷ direct_views i facts cs)
-        (view_alike i (total_of_facts i facts) (total_of_facts i (left ++ withdrawn)) c
+    reordered (c ∷ cs) = ap (λ v. v ∷ direct_views (members i) facts cs)
+        (view_alike i (total_of_facts (members i) facts) (total_of_facts (members i) (left ++ withdrawn)) c
         (λ y k. facts_permuted i y facts (left ++ withdrawn) p))
-        ∙ ap (λ vs. direct_view i (left ++ withdrawn) c ∷ vs) (reordered cs)
+        ∙ ap (λ vs. direct_view (members i) (left ++ withdrawn) c ∷ vs) (reordered cs)

@@ -9,7 +9,7 @@ use Rattle.olap_facts.specs.Seen.{fact_of}
 use Rattle.olap_facts.specs.declared.tables.Fact as told
 
 -- the facts before the k-th
-abbrev pub so_far : List told.Fact → ℕ → List Fact
+abbrev pub so_far : List told.Fact → ℕ → List (Fact ℕ)
 so_far read k = map fact_of (take k read)
 
 -- the k-th comes after them

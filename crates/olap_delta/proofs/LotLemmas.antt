@@ -3,7 +3,7 @@
 --     IsTaken           for which facts they stand, one fact more
 --     IsGrown, grown    a fact whose value is joined to its member's lot
 --     IsBegun, begun    a fact whose member's lot begins
-use Rattle.std.proofs.Common.{◌≡◌, ℕ, zero, suc, ◌+◌, ◌<◌, ◌≤◌, List, [], ◌∷◌, ◌++◌, length, get_or, set, map, Bool, true, false, cond, sym, ap, subst, ◌∙◌, ℤ, Option, Some, w64, arith, length-append}
+use Rattle.std.proofs.Common.{◌≡◌, ℕ, zero, suc, ◌+◌, ◌<◌, ◌≤◌, List, [], ◌∷◌, ◌++◌, length, get_or, set, map, Bool, true, false, sym, ap, subst, ◌∙◌, ℤ, Option, Some, w64, arith, length-append}
 use Rattle.std.specs.Prelude.{All, Contains, int_lt}
 use mir.Val.{SFits}
 use Rattle.std.proofs.lemmas.Int.{ints}
@@ -23,6 +23,8 @@ use Rattle.olap_delta.specs.Lots.{AreLots, AreMore, IsLot, StandFor, lots_at}
 use Rattle.olap_delta.specs.declared.lots.Lot.{Lot}
 use Rattle.olap_delta.specs.declared.lots.Lots.{Lots}
 use Rattle.olap_delta.proofs.PermutedLemmas.{fact_behind}
+use Rattle.olap_view.proofs.SummaryLemmas.{value_is}
+use Rattle.olap_base.proofs.GeneralLemmas.{either_fits}
 
 -- ---- what lots come to at a member
 
@@ -62,23 +64,9 @@ module _ (i : Instance) (y : ℕ) where
 
 -- ---- a lot
 
--- a lot of so many facts is one of more
+-- a lot of this many facts is one of more
 lot_more : (n k members : ℕ) → n ≤ k → (l : Lot) → IsLot n members l → IsLot k members l
 lot_more n k members h l q = let f = q.few in record { member = q.member; few = omega arith; values = q.values }
-
--- either of two values of 64 bits is one
-either_fits : (b : Bool) (x y : ℤ) → SFits w64 x → SFits w64 y → SFits w64 (cond b x y)
-either_fits true x y p q = p
-either_fits false x y p q = q
-
--- one value is a total of one
-value_alone : (v : ℤ) → SFits w64 v → IsOfValues 1 (of_value v)
-value_alone v f = record {
-  some = omega arith;
-  up_to = record { count = omega arith; sum_from = omega (arith, ints); sum_to = omega (arith, ints) };
-  least = f;
-  greatest = f;
-}
 
 -- one value more of 64 bits
 value_joined : (s : Summary) (v : ℤ) → SFits w64 v → IsOfValues s.count s
@@ -99,41 +87,41 @@ abbrev pub members_in : Lots → List ℕ
 members_in g = map (λ l. l.member.0) g.lots.items
 
 -- one fact more was taken
-record IsTaken (f : Fact) (old new : Lots) : Type 0 where
+record IsTaken (f : Fact ℕ) (old new : Lots) : Type 0 where
   pub taken : new.taken ≡ old.taken + 1
   pub value : SFits w64 f.value
   pub kept : (x : ℕ) → Contains (members_in old) x → Contains (members_in new) x
-  pub there : Contains (members_in new) f.member
+  pub there : Contains (members_in new) f.at
   pub at : (i : Instance) (y : ℕ) → lots_at i new.lots.items y
-      ≡ lots_at i old.lots.items y ⊕ when (reaches i f.member y) (of_value f.value)
+      ≡ lots_at i old.lots.items y ⊕ when (reaches i f.at y) (of_value f.value)
 
 -- the lots with one fact more stand for the facts with it
-stand_more : (i : Instance) (facts : List Fact) (f : Fact) (old new : Lots) → IsTaken f old new
+stand_more : (i : Instance) (facts : List (Fact ℕ)) (f : Fact ℕ) (old new : Lots) → IsTaken f old new
     → StandFor i facts old → StandFor i (facts ++ f ∷ []) new
 stand_more i facts f old new t s = record {
-  taken = let a = t.taken in let b = s.taken in omega (arith, length-append {A = Fact});
-  values = All-push (λ (f : Fact). SFits w64 f.value) facts f s.values t.value;
-  members = All-push (λ (f : Fact). Contains (members_in new) f.member) facts f
-      (All-weaker (λ (f : Fact). Contains (members_in old) f.member) (λ (f : Fact). Contains (members_in new) f.member)
-      (λ f k. t.kept f.member k) facts s.members) t.there;
-  at = λ y. t.at i y ∙ ap (λ o. o ⊕ when (reaches i f.member y) (of_value f.value)) (s.at y)
+  taken = let a = t.taken in let b = s.taken in omega (arith, length-append {A = Fact ℕ});
+  values = All-push (λ (f : Fact ℕ). SFits w64 f.value) facts f s.values t.value;
+  members = All-push (λ (f : Fact ℕ). Contains (members_in new) f.at) facts f
+      (All-weaker (λ (f : Fact ℕ). Contains (members_in old) f.at) (λ (f : Fact ℕ). Contains (members_in new) f.at)
+      (λ f k. t.kept f.at k) facts s.members) t.there;
+  at = λ y. t.at i y ∙ ap (λ o. o ⊕ when (reaches i f.at y) (of_value f.value)) (s.at y)
       ∙ sym (fact_behind i y facts f);
 }
 
 -- ---- a fact that is taken
 
 -- its value is joined to the k-th lot
-pub record IsGrown (f : Fact) (k : ℕ) (l d : Lot) (old new : Lots) : Type 0 where
+pub record IsGrown (f : Fact ℕ) (k : ℕ) (l d : Lot) (old new : Lots) : Type 0 where
   pub inside : k < length old.lots.items
-  pub own : (get_or old.lots.items k d).member.0 ≡ f.member
-  pub member : l.member.0 ≡ f.member
+  pub own : (get_or old.lots.items k d).member.0 ≡ f.at
+  pub member : l.member.0 ≡ f.at
   pub summary : summary_of l.summary ≡ joined (summary_of (get_or old.lots.items k d).summary) (of_value f.value)
   pub value : SFits w64 f.value
   pub places : length new.places.items ≡ length old.places.items
   pub lots : new.lots.items ≡ set old.lots.items k l
   pub taken : new.taken ≡ old.taken + 1
 
-module _ (f : Fact) (k : ℕ) (l d : Lot) (old new : Lots) (g : IsGrown f k l d old new) where
+module _ (f : Fact ℕ) (k : ℕ) (l d : Lot) (old new : Lots) (g : IsGrown f k l d old new) where
   -- the lots are still lots
   grown_lots : AreLots old → AreLots new
   grown_lots a = record {
@@ -167,7 +155,7 @@ module _ (f : Fact) (k : ℕ) (l d : Lot) (old new : Lots) (g : IsGrown f k l d 
     taken = g.taken;
     value = g.value;
     kept = λ x m. subst (λ xs. Contains xs x) (sym same) m;
-    there = subst (λ xs. Contains xs f.member) (sym same) (subst (Contains (members_in old)) g.own
+    there = subst (λ xs. Contains xs f.at) (sym same) (subst (Contains (members_in old)) g.own
         (Contains-map (λ (m : Lot). m.member.0) old.lots.items (get_or old.lots.items k d)
         (Contains-get_or old.lots.items k d g.inside)));
     at = λ i y. ap (λ (ls : List Lot). lots_at i ls y) g.lots
@@ -189,16 +177,16 @@ module _ (f : Fact) (k : ℕ) (l d : Lot) (old new : Lots) (g : IsGrown f k l d 
   }
 
 -- its member's lot begins
-pub record IsBegun (f : Fact) (l : Lot) (old new : Lots) : Type 0 where
-  pub inside : f.member < length old.places.items
-  pub member : l.member.0 ≡ f.member
+pub record IsBegun (f : Fact ℕ) (l : Lot) (old new : Lots) : Type 0 where
+  pub inside : f.at < length old.places.items
+  pub member : l.member.0 ≡ f.at
   pub summary : summary_of l.summary ≡ of_value f.value
   pub value : SFits w64 f.value
   pub places : length new.places.items ≡ length old.places.items
   pub lots : new.lots.items ≡ old.lots.items ++ l ∷ []
   pub taken : new.taken ≡ old.taken + 1
 
-module _ (f : Fact) (l : Lot) (old new : Lots) (g : IsBegun f l old new) where
+module _ (f : Fact ℕ) (l : Lot) (old new : Lots) (g : IsBegun f l old new) where
   -- the lots with a new one are lots
   begun_lots : AreLots old → AreLots new
   begun_lots a = record {
@@ -218,7 +206,7 @@ module _ (f : Fact) (l : Lot) (old new : Lots) (g : IsBegun f l old new) where
       here = record {
         member = let q = g.inside in let m = g.member in let p = g.places in omega arith;
         few = let t = g.taken in let n = ap (λ (s : Summary). s.count) g.summary in omega arith;
-        values = subst (λ (s : Summary). IsOfValues s.count s) (sym g.summary) (value_alone f.value g.value);
+        values = subst (λ (s : Summary). IsOfValues s.count s) (sym g.summary) (value_is f.value g.value);
       }
 
   -- the fact was taken
@@ -228,8 +216,8 @@ module _ (f : Fact) (l : Lot) (old new : Lots) (g : IsBegun f l old new) where
     value = g.value;
     kept = λ x m. subst (λ xs. Contains xs x) (sym same)
         (Contains-append_left (members_in old) (l.member.0 ∷ []) x m);
-    there = subst (λ xs. Contains xs f.member) (sym same)
-        (Contains-append_right (members_in old) (l.member.0 ∷ []) f.member
+    there = subst (λ xs. Contains xs f.at) (sym same)
+        (Contains-append_right (members_in old) (l.member.0 ∷ []) f.at
         (subst (Contains (l.member.0 ∷ [])) g.member (contains_head l.member.0 [])));
     at = λ i y. ap (λ (ls : List Lot). lots_at i ls y) g.lots
         ∙ lots_at-append i y old.lots.items l

@@ -8,23 +8,19 @@ use Rattle.std.proofs.lemmas.List.Sorted.{IsPermutation-keeps}
 use Rattle.olap_base.specs.Instance.{Instance}
 use Rattle.olap_base.specs.Reaching.{reaches}
 use Rattle.olap_base.specs.Summaries.{Summary, of_value, ◌⊕◌}
-use Rattle.olap_base.specs.Views.{Fact, total_of_facts, values_at}
-use Rattle.olap_base.proofs.TotalLemmas.{total-append, total-filter, total-map, total_by, total_is, ⊕_assoc, ⊕_comm, ⊕_none}
-
--- one before another is the other before the one
-passed : (a b c : Option Summary) → a ⊕ (b ⊕ c) ≡ b ⊕ (a ⊕ c)
-passed a b c = sym (⊕_assoc a b c) ∙ ap (λ t. t ⊕ c) (⊕_comm a b) ∙ ⊕_assoc b a c
+use Rattle.olap_base.specs.Views.{Fact, total_of_facts, values_at, members}
+use Rattle.olap_base.proofs.TotalLemmas.{total-append, total-filter, total-map, total_by, total_is, ⊕_assoc, ⊕_comm, ⊕_none, totals_exchanged}
 
 module _ {A : Type 0} (f : A → Option Summary) where
   -- the item at j before the list that has another in its place
   traded : (x : A) (xs : List A) (j : ℕ) (d : A) → j < length xs
       → f (get_or xs j d) ⊕ total_by f (set xs j x) ≡ f x ⊕ total_by f xs
   traded x [] j d h = absurd (omega arith)
-  traded x (y ∷ ys) zero d h = passed (f y) (f x) (total_by f ys)
+  traded x (y ∷ ys) zero d h = totals_exchanged (f y) (f x) (total_by f ys)
   traded x (y ∷ ys) (suc j) d h =
-      passed (f (get_or ys j d)) (f y) (total_by f (set ys j x))
+      totals_exchanged (f (get_or ys j d)) (f y) (total_by f (set ys j x))
       ∙ ap (λ t. f y ⊕ t) (traded x ys j d (omega arith))
-      ∙ passed (f y) (f x) (total_by f ys)
+      ∙ totals_exchanged (f y) (f x) (total_by f ys)
 
   -- two items that change places leave the total as it is
   swapped : (xs : List A) (j k : ℕ) (d : A) → j < length xs → k < length xs
@@ -45,35 +41,36 @@ module _ {A : Type 0} (f : A → Option Summary) where
       step (x ∷ l) j k h m = sym (swapped (x ∷ l) j k x h m) ∙ ap (total_by f) (swap_is (x ∷ l) j k x h m)
 
 -- what a fact adds at y
-abbrev pub added : Instance → ℕ → Fact → Option Summary
-added i y f = cond (reaches i f.member y) (Some (of_value f.value)) None
+abbrev pub added : Instance → ℕ → Fact ℕ → Option Summary
+added i y f = cond (reaches i f.at y) (Some (of_value f.value)) None
 
 -- the total at a member as a sum over all facts
-pub facts_total : (i : Instance) (facts : List Fact) (y : ℕ) → total_of_facts i facts y ≡ total_by (added i y) facts
+pub facts_total : (i : Instance) (facts : List (Fact ℕ)) (y : ℕ) → total_of_facts (members i) facts y
+    ≡ total_by (added i y) facts
 facts_total i facts y =
-    total_is of_value (values_at i facts y)
-    ∙ total-map (λ v. Some (of_value v)) (λ (f : Fact). f.value) (filter (λ f. reaches i f.member y) facts)
-    ∙ total-filter (λ (f : Fact). Some (of_value f.value)) (λ f. reaches i f.member y) facts
+    total_is of_value (values_at (members i) facts y)
+    ∙ total-map (λ v. Some (of_value v)) (λ (f : Fact ℕ). f.value) (filter (λ f. reaches i f.at y) facts)
+    ∙ total-filter (λ (f : Fact ℕ). Some (of_value f.value)) (λ f. reaches i f.at y) facts
 
 module _ (i : Instance) (y : ℕ) where
   -- so it is of the facts at a member
-  pub facts_permuted : (facts others : List Fact) → IsPermutation facts others
-      → total_of_facts i facts y ≡ total_of_facts i others y
+  pub facts_permuted : (facts others : List (Fact ℕ)) → IsPermutation facts others
+      → total_of_facts (members i) facts y ≡ total_of_facts (members i) others y
   facts_permuted facts others p =
       facts_total i facts y ∙ total_permuted (added i y) facts others p ∙ sym (facts_total i others y)
 
   -- a fact after the others
-  pub fact_behind : (facts : List Fact) (f : Fact)
-      → total_of_facts i (facts ++ f ∷ []) y ≡ total_of_facts i facts y ⊕ added i y f
+  pub fact_behind : (facts : List (Fact ℕ)) (f : Fact ℕ)
+      → total_of_facts (members i) (facts ++ f ∷ []) y ≡ total_of_facts (members i) facts y ⊕ added i y f
   fact_behind facts f =
       facts_total i (facts ++ f ∷ []) y ∙ total-append (added i y) facts (f ∷ [])
       ∙ ap (λ t. total_by (added i y) facts ⊕ t) (⊕_none (added i y f))
       ∙ ap (λ t. t ⊕ added i y f) (sym (facts_total i facts y))
 
   -- a fact among the others
-  pub fact_among : (left : List Fact) (f : Fact) (right : List Fact)
-      → total_of_facts i (left ++ f ∷ right) y ≡ added i y f ⊕ total_of_facts i (left ++ right) y
+  pub fact_among : (left : List (Fact ℕ)) (f : Fact ℕ) (right : List (Fact ℕ))
+      → total_of_facts (members i) (left ++ f ∷ right) y ≡ added i y f ⊕ total_of_facts (members i) (left ++ right) y
   fact_among left f right =
       facts_total i (left ++ f ∷ right) y ∙ total-append (added i y) left (f ∷ right)
-      ∙ passed (total_by (added i y) left) (added i y f) (total_by (added i y) right)
+      ∙ totals_exchanged (total_by (added i y) left) (added i y f) (total_by (added i y) right)
       ∙ ap (λ t. added i y f ⊕ t) (sym (total-append (added i y) left right) ∙ sym (facts_total i (left ++ right) y))

@@ -2,7 +2,7 @@
 --     IsSmall             what is known of a stored total
 --     appended_total      one value more
 --     retracted_total     one value less
-use Rattle.std.proofs.Common.{◌≡◌, ◌≢◌, ℕ, ◌+◌, ◌-◌, ◌*◌, ◌^◌, ◌<◌, ◌≤◌, List, [], ◌∷◌, length, map, Bool, true, false, cond, ◌||◌, refl, sym, ap, subst, ◌∙◌, ℤ, pos, negsuc, neg_ℤ, ◌+ℤ◌, ◌-ℤ◌, ◌≤ℤ◌, ◌<ℤ◌, Option, Some, None, IfSome, w64, arith}
+use Rattle.std.proofs.Common.{◌≡◌, ◌≢◌, ℕ, ◌+◌, ◌-◌, ◌*◌, ◌^◌, ◌<◌, ◌≤◌, List, [], ◌∷◌, length, map, Bool, true, false, cond, ◌||◌, refl, sym, ap, subst, ◌∙◌, ℤ, pos, neg_ℤ, ◌+ℤ◌, ◌-ℤ◌, ◌≤ℤ◌, ◌<ℤ◌, Option, Some, None, IfSome, w64, arith}
 use Rattle.std.specs.Prelude.{All, ◌==◌, int_lt, nat_le, not, MatchResult, Ok, Err}
 use Rattle.std.specs.Int.{int_min, int_max}
 use Rattle.std.specs.Ordering.{int_eq}
@@ -10,13 +10,16 @@ use mir.Val.{SFits}
 use Rattle.std.proofs.lemmas.Bool.Decides.{Decides-int_eq, nat_tests, not_from_Decides}
 use Rattle.std.proofs.lemmas.Int.{ints}
 use Rattle.std.proofs.lemmas.List.Elements.{All-cons, All-head, All-nil, All-tail}
-use Rattle.olap_base.specs.Limits.{most_count, most_sum}
+use Rattle.olap_base.specs.Limits.{most_count}
 use Rattle.olap_base.specs.Summaries.{Summary, joined, of_value, total, ◌⊕◌}
 use Rattle.olap_base.proofs.TotalLemmas.{totals_of_values}
 use Rattle.olap_view.specs.StoredNumbers.{is_sum}
 use Rattle.olap_delta.specs.Changes.{appended, retracted}
 use Rattle.olap_delta.specs.declared.kinds.DeltaKind.{DeltaKind}
 use Rattle.olap_delta.specs.declared.kinds.DeltaKind.TheVariants as kind
+use Rattle.olap_view.proofs.StoreLawLemmas.{in-bounds}
+use Rattle.std.proofs.lemmas.Bool.{or_parts}
+use Rattle.olap_base.proofs.GeneralLemmas.{either_fits}
 
 -- what stands at a row that may be stored, but for its sum
 pub record IsSmall (s : Summary) : Type 0 where
@@ -24,16 +27,11 @@ pub record IsSmall (s : Summary) : Type 0 where
   pub least : SFits w64 s.least
   pub greatest : SFits w64 s.greatest
 
--- a sum within the bounds passes the test
-pub in_bounds : (z : ℤ) → neg_ℤ (pos most_sum) ≤ℤ z → z ≤ℤ pos most_sum → is_sum z ≡ true
-in_bounds (pos n) a b = let l : n ≤ most_sum = omega (arith, ints) in grind (arith, nat_tests)
-in_bounds (negsuc n) a b = let l : n < most_sum = omega (arith, ints) in grind (arith, nat_tests)
-
 -- what is there twice is the same
 pub some_same : {A : Type 0} (a b : A) → ◌≡◌ {A = Option A} (Some a) (Some b) → a ≡ b
 some_same a b e = cc
 
--- ---- the values behind a total
+-- ---- the values of a total
 
 -- between the least and the greatest of them
 within : (low high : ℤ) (vs : List ℤ)
@@ -58,7 +56,7 @@ within low high (v ∷ w ∷ vs) h = go (total (map of_value (w ∷ vs))) h (wit
         let b = greatest v s.greatest h.1 in
         All-cons (λ x. (low ≤ℤ x) × (x ≤ℤ high)) v (w ∷ vs) (a.0, b.0) (rest (a.1, b.1))
 
--- so many values of 64 bits
+-- this many values of 64 bits
 abbrev IsOf : List ℤ → Summary → Type 0
 IsOf vs s = (s.count ≡ length vs) × (neg_ℤ (pos (length vs * 2 ^ 63)) ≤ℤ s.sum) × (s.sum ≤ℤ pos (length vs * 2 ^ 63))
 
@@ -120,18 +118,13 @@ two_at_least (v ∷ w ∷ vs) s e l =
 
 -- ---- one value more
 
--- either of two values of 64 bits is one
-either : (b : Bool) (x y : ℤ) → SFits w64 x → SFits w64 y → SFits w64 (cond b x y)
-either true x y p q = p
-either false x y p q = q
-
 -- a small row with one value more is small
 pub joined_small : (s : Summary) (v : ℤ) → s.count < most_count → SFits w64 v → IsSmall s
     → IsSmall (joined s (of_value v))
 joined_small s v l f q = record {
   few = omega arith;
-  least = either (int_lt v s.least) v s.least f q.least;
-  greatest = either (int_lt v s.greatest) s.greatest v q.greatest f;
+  least = either_fits (int_lt v s.least) v s.least f q.least;
+  greatest = either_fits (int_lt v s.greatest) s.greatest v q.greatest f;
 }
 
 -- what appending a value gives, or it is `Full`
@@ -159,7 +152,7 @@ appended_total vs v f = go (total (map of_value vs)) refl
         let less : s.count < most_count = omega arith in
         let b = total_of vs s e h in
         let low = b.0 in let high = b.1 in
-        (in_bounds (s.sum +ℤ v) (omega (arith, ints)) (omega (arith, ints)), joined_small s v less f h))
+        (in-bounds (s.sum +ℤ v) (omega (arith, ints)) (omega (arith, ints)), joined_small s v less f h))
       where
         differ : (a b : ℕ) → (a == b) ≡ false → a ≢ b
         differ a b e = grind (arith, nat_tests)
@@ -173,11 +166,6 @@ Retracts o v after = MatchResult (retracted o v) (λ s. (Some s ≡ after) × Is
 -- equal whole numbers pass the test
 same_test : (x y : ℤ) → x ≡ y → int_eq x y ≡ true
 same_test x y e = (Decides-int_eq x y).1 e
-
--- where neither holds, each fails
-not_either : (a b : Bool) → (a || b) ≡ false → (a ≡ false) × (b ≡ false)
-not_either false b e = (refl, e)
-not_either true b e = absurd (cc)
 
 -- a value is never outside the bounds of a total that has it
 outside : (v a b : ℤ) → (int_lt v (int_min v a) || int_lt (int_max v b) v) ≡ false
@@ -228,7 +216,7 @@ retracted_total vs v = go (total (map of_value vs)) refl
         → Retracts (Some (of_value v) ⊕ o) v o
     go None e h = test (int_lt v v || int_lt v v) (int_eq v v || int_eq v v) (nat_le 1 2) (is_sum (v -ℤ v))
         (record { count = 1 - 1; sum = v -ℤ v; least = v; greatest = v }) None (grind (arith, ints))
-        (λ t. let a = not_either (int_eq v v) (int_eq v v) t in let b = same_test v v refl in absurd (cc))
+        (λ t. let a = or_parts (int_eq v v) (int_eq v v) t in let b = same_test v v refl in absurd (cc))
     go (Some s) e h = test (int_lt v (int_min v s.least) || int_lt (int_max v s.greatest) v)
         (int_eq v (int_min v s.least) || int_eq v (int_max v s.greatest))
         (nat_le (1 + s.count) 2) (is_sum ((v +ℤ s.sum) -ℤ v))
@@ -239,7 +227,7 @@ retracted_total vs v = go (total (map of_value vs)) refl
           greatest = int_max v s.greatest;
         })
         (Some s) (outside v s.least s.greatest) (λ t.
-        let a = not_either (int_eq v (int_min v s.least)) (int_eq v (int_max v s.greatest)) t in
+        let a = or_parts (int_eq v (int_min v s.least)) (int_eq v (int_max v s.greatest)) t in
         let b = between v s.least s.greatest a.0 a.1 in
         let low = b.0 in let high = b.1 in
         let order : s.least <ℤ s.greatest = omega (arith, ints) in
@@ -262,7 +250,7 @@ retracted_total vs v = go (total (map of_value vs)) refl
         } ≡ s =
         λ i. record { count = count i; sum = sum i; least = b.2 i; greatest = b.3 i } in (
           long s.count two,
-          ap is_sum sum ∙ in_bounds s.sum (omega (arith, ints)) (omega (arith, ints)),
+          ap is_sum sum ∙ in-bounds s.sum (omega (arith, ints)) (omega (arith, ints)),
           ap Some same,
           subst IsSmall (sym same) small,
         ))

@@ -4,13 +4,12 @@
 --     joined_storable, without_storable   what comes of it may be stored
 --     lot_small, lot_storable             a lot of values alone
 --     lot_joined_storable, lot_less_storable   what comes of a lot at a row
-use Rattle.std.proofs.Common.{◌≡◌, ◌≢◌, ◌+◌, ◌-◌, ◌≤◌, ◌<◌, Bool, true, false, cond, subst, ℤ, pos, negsuc, neg_ℤ, ◌+ℤ◌, ◌-ℤ◌, ◌≤ℤ◌, Option, Some, IfSome, w64, arith}
+use Rattle.std.proofs.Common.{◌≡◌, ◌≢◌, ◌+◌, ◌-◌, ◌≤◌, true, subst, ℤ, ◌+ℤ◌, ◌-ℤ◌, Option, Some, IfSome, w64, arith}
 use Rattle.std.specs.Prelude.{int_lt}
 use Rattle.std.specs.Option.{option_map}
 use mir.Val.{SFits}
-use Rattle.std.proofs.lemmas.Bool.Decides.{nat_tests}
 use Rattle.std.proofs.lemmas.Int.{ints}
-use Rattle.olap_base.specs.Limits.{most_count, most_sum}
+use Rattle.olap_base.specs.Limits.{most_count}
 use Rattle.olap_base.specs.Summaries.{Summary, joined, of_value}
 use Rattle.olap_view.specs.Bounds.{IsJoinable, IsOfValues}
 use Rattle.olap_view.specs.Seen.{summary_of}
@@ -19,6 +18,8 @@ use Rattle.olap_view.specs.declared.summaries.Summary as told
 use Rattle.olap_delta.specs.Changes.{without}
 use Rattle.olap_delta.specs.Changing.{IsStorable}
 use Rattle.olap_delta.specs.Joining.{HasRoom, less}
+use Rattle.olap_view.proofs.ReadStoreLemmas.{is-sum-fits}
+use Rattle.olap_base.proofs.GeneralLemmas.{either_fits}
 
 -- the row that is there may be stored, as what stands there may
 pub kept : (there : Option told.Summary) (row : told.Summary) → there ≡ Some row
@@ -33,32 +34,22 @@ small s q = let a = (q 0).few in let b = (q 0).sum_from in let c = (q 0).sum_to 
   sum_to = omega (arith, ints);
 }
 
--- a sum that passes the test is within the bounds
-sum_bounds : (z : ℤ) → is_sum z ≡ true → (neg_ℤ (pos most_sum) ≤ℤ z) × (z ≤ℤ pos most_sum)
-sum_bounds (pos n) e = let l : n ≤ most_sum = grind (arith, nat_tests) in (omega (arith, ints), omega (arith, ints))
-sum_bounds (negsuc n) e = let l : n < most_sum = grind (arith, nat_tests) in (omega (arith, ints), omega (arith, ints))
-
--- either of two values of 64 bits is one
-either : (b : Bool) (x y : ℤ) → SFits w64 x → SFits w64 y → SFits w64 (cond b x y)
-either true x y p q = p
-either false x y p q = q
-
 -- a row that isn't full may be stored with one value more, where its sum is within the bounds
 pub joined_storable : (s : Summary) (v : ℤ) → s.count ≢ most_count → SFits w64 v → is_sum (s.sum +ℤ v) ≡ true
     → IsStorable s → IsStorable (joined s (of_value v))
-joined_storable s v n f e q = λ y. let few = (q y).few in let b = sum_bounds (s.sum +ℤ v) e in record {
+joined_storable s v n f e q = λ y. let few = (q y).few in let b = is-sum-fits (s.sum +ℤ v) e in record {
   some = omega arith;
   few = omega arith;
   sum_from = b.0;
   sum_to = b.1;
-  least = either (int_lt v s.least) v s.least f (q y).least;
-  greatest = either (int_lt v s.greatest) s.greatest v (q y).greatest f;
+  least = either_fits (int_lt v s.least) v s.least f (q y).least;
+  greatest = either_fits (int_lt v s.greatest) s.greatest v (q y).greatest f;
 }
 
 -- so may a row of three values or more, without one of them
 pub without_storable : (s : Summary) (v : ℤ) → 3 ≤ s.count → is_sum (s.sum -ℤ v) ≡ true → IsStorable s
     → IsStorable (without s v)
-without_storable s v h e q = λ y. let few = (q y).few in let b = sum_bounds (s.sum -ℤ v) e in record {
+without_storable s v h e q = λ y. let few = (q y).few in let b = is-sum-fits (s.sum -ℤ v) e in record {
   some = omega arith;
   few = omega arith;
   sum_from = b.0;
@@ -99,8 +90,8 @@ lot_joined_storable s t p q h r = λ y.
       few = h;
       sum_from = omega (arith, ints);
       sum_to = omega (arith, ints);
-      least = either (int_lt t.least s.least) t.least s.least q.least (p y).least;
-      greatest = either (int_lt t.greatest s.greatest) s.greatest t.greatest (p y).greatest q.greatest;
+      least = either_fits (int_lt t.least s.least) t.least s.least q.least (p y).least;
+      greatest = either_fits (int_lt t.greatest s.greatest) s.greatest t.greatest (p y).greatest q.greatest;
     }
 
 -- so may a row without a lot, of which two values are left at least

@@ -34,8 +34,8 @@ rows_stored h (x ∷ ys) a y k = go (λ a l. rows_stored h ys a y l) (h x) refl 
     ]
     go later (Some s) e a = elim (contains_cases y x ys k) [
       | inl q ↦ subst (λ (o : Option Summary). IfSome o (IsStoredAt y)) (sym e ∙ ap h q)
-          (subst (λ z. IsStoredAt z s) q (All-head IsStored (record { member = x; summary = s }) (rows_by h ys) a))
-      | inr l ↦ later (All-tail IsStored (record { member = x; summary = s }) (rows_by h ys) a) l
+          (subst (λ z. IsStoredAt z s) q (All-head IsStored (record { at = x; summary = s }) (rows_by h ys) a))
+      | inr l ↦ later (All-tail IsStored (record { at = x; summary = s }) (rows_by h ys) a) l
     ]
 
 -- a summary that is stored at a row may be stored
@@ -51,7 +51,7 @@ storable y (Some s) q = λ z. record {
 }
 
 -- the table of views that may be stored
-pub table_storable : (t : Summarized) (views : List View) → views_at t ≡ views → All Fits views → AreStorable t
+pub table_storable : (t : Summarized) (views : List (View ℕ ℕ)) → views_at t ≡ views → All Fits views → AreStorable t
 table_storable t views e a y m =
     storable y (stands_at t y) (rows_stored (stands_at t) (members_of t.instance (category_of t.instance y))
     (All-contains Fits (views_at t) (view_at t (category_of t.instance y)) (subst (All Fits) (sym e) a)
@@ -66,23 +66,25 @@ row_stored y None q = tt
 row_stored y (Some s) q = q y
 
 -- its row stands at a member
-row_inside : (y n : ℕ) (o : Option Summary) → y < n → IfSome (row_at y o) (λ (r : Row). r.member < n)
+row_inside : (y n : ℕ) (o : Option Summary) → y < n → IfSome (row_at y o) (λ (r : Row ℕ). r.at < n)
 row_inside y n None h = tt
 row_inside y n (Some s) h = h
 
 -- they are a store of the instance, if those that were read in are
-pub table_sound : (g : Graph) (t : Summarized) (views : List View) → t.categories ≡ categories_in views → AreStorable t
+pub table_sound : (g : Graph) (t : Summarized) (views : List (View ℕ ℕ)) → t.categories ≡ categories_in views
+    → AreStorable t
     → IsSoundStore g t.instance views → IsSoundStore g t.instance (views_at t)
 table_sound g t views e a s = record {
   store = store-of t.instance (stands_at t) t.categories
-      (let f = s.store.few in let n = length-map views (λ (v : View). v.category) in let m = ap length e in omega arith)
+      (let f = s.store.few in let n = length-map views (λ (v : View ℕ ℕ). v.target) in let m = ap length e in
+      omega arith)
       (subst (AllPairs ◌≢◌) (sym e) s.store.categories);
   fit = All-map Fits (view_at t) t.categories
       (λ k d l. fits (get_or t.categories k d) (Contains-get_or t.categories k d l));
-  categories = All-map (λ (v : View). IsCategory g v.category) (view_at t) t.categories
-      (subst (All (IsCategory g)) (sym e) (All-map (IsCategory g) (λ (v : View). v.category) views s.categories));
-  at_members = All-map (λ (v : View). All (λ r. r.member < length t.instance) v.rows) (view_at t) t.categories
-      (λ k d l. all-rows (λ (r : Row). r.member < length t.instance) (stands_at t)
+  categories = All-map (λ (v : View ℕ ℕ). IsCategory g v.target) (view_at t) t.categories
+      (subst (All (IsCategory g)) (sym e) (All-map (IsCategory g) (λ (v : View ℕ ℕ). v.target) views s.categories));
+  at_members = All-map (λ (v : View ℕ ℕ). All (λ r. r.at < length t.instance) v.rows) (view_at t) t.categories
+      (λ k d l. all-rows (λ (r : Row ℕ). r.at < length t.instance) (stands_at t)
       (members_of t.instance (get_or t.categories k d))
       (λ y m. row_inside y (length t.instance) (stands_at t y)
       (members_of_is t.instance (get_or t.categories k d) y m).0));

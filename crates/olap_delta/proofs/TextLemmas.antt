@@ -30,10 +30,10 @@ abbrev pub with-taken : TextChange → Feeding → Taken → TextChange
 with-taken c feed t =
     record { change = c.change; instance = c.instance; views = c.views; feed = feed; taken = t }
 
-module _ (by : Change) (g : Graph) (i : Instance) (views : List View) (most : ℕ) (fed : List ℕ) (c : TextChange)
+module _ (by : Change) (g : Graph) (i : Instance) (views : List (View ℕ ℕ)) (most : ℕ) (fed : List ℕ) (c : TextChange)
     (inside : IsChanger c) (h : HasTakenText by g i views most fed c) where
   -- a piece more
-  pub taken-more : (piece : List ℕ) (facts : List Fact) (feed : Feeding) (t : Taken) → IsSameSetting c.feed feed
+  pub taken-more : (piece : List ℕ) (facts : List (Fact ℕ)) (feed : Feeding) (t : Taken) → IsSameSetting c.feed feed
       → Fed feed (fed ++ piece) (h.facts ++ facts) → AreIn c.change c.instance c.views (h.facts ++ facts) t
       → HasTakenText by g i views most (fed ++ piece) (with-taken c feed t)
   taken-more piece facts feed t same f a = record {
@@ -59,7 +59,7 @@ module _ (by : Change) (g : Graph) (i : Instance) (views : List View) (most : �
       → IsRefusedBy e (views_changed (step_of c.change) c.instance c.views (fed_read c.feed text))
       → IsRefusedBy e (views_changed (step_of by) i views (facts_read_within most g i (records_fed text)))
   refused-by text e r =
-      subst (λ (all : Result (List Fact) (Fault FactKind)). IsRefusedBy e (views_changed (step_of by) i views all))
+      subst (λ (all : Result (List (Fact ℕ)) (Fault FactKind)). IsRefusedBy e (views_changed (step_of by) i views all))
       (read-by text)
       (rw (h.change, h.instance, h.stored) at r)
 
@@ -86,5 +86,5 @@ module _ (by : Change) (g : Graph) (i : Instance) (views : List View) (most : �
         → IsStoreAfterAll by i views (facts_read_within most g i (records_fed fed)) (Err r)
     fact-refused e r a told =
         none-after r
-        (subst (λ (q : Result (List Fact) (Fault FactKind)).
+        (subst (λ (q : Result (List (Fact ℕ)) (Fault FactKind)).
         IsRefusedBy r (views_changed (step_of c.change) c.instance c.views q)) (sym all.read) (told a.err))

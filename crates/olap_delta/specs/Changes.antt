@@ -31,7 +31,7 @@ appended (Some s) v =
     else if not (is_sum (s.sum +ℤ v)) then Err kind.Bound
     else Ok (joined s (of_value v))
 
--- a value less, which is neither the least nor the greatest
+-- without one value, which is neither the least nor the greatest
 abbrev pub without : Summary → ℤ → Summary
 without s v = record s { count = s.count - 1; sum = s.sum -ℤ v }
 
@@ -48,14 +48,14 @@ retracted (Some s) v =
 -- ---- a view
 
 -- the view with this summary at y; its rows stand by member
-abbrev pub view_with : Instance → View → ℕ → Summary → View
+abbrev pub view_with : Instance → View ℕ ℕ → ℕ → Summary → View ℕ ℕ
 view_with i v y s = record v {
-  rows = filter_map (λ z. row_at z (if z == y then Some s else summary_in v.rows z)) (members_of i v.category);
+  rows = filter_map (λ z. row_at z (if z == y then Some s else summary_in v.rows z)) (members_of i v.target);
 }
 
 -- the view after the step at the member of its category that the fact's member reaches, of which there is one at most
-abbrev pub view_after : Step → Instance → View → Fact → Result View DeltaKind
-view_after step i v f = elim (find (λ y. reaches i f.member y) (members_of i v.category)) [
+abbrev pub view_after : Step → Instance → View ℕ ℕ → Fact ℕ → Result (View ℕ ℕ) DeltaKind
+view_after step i v f = elim (find (λ y. reaches i f.at y) (members_of i v.target)) [
   | None ↦ Ok v
   | Some y ↦ result_map_both (λ s. view_with i v y s) (λ k. k) (step (summary_in v.rows y) f.value)
 ]
@@ -63,7 +63,8 @@ view_after step i v f = elim (find (λ y. reaches i f.member y) (members_of i v.
 -- ---- a store
 
 -- the views after the facts, in order, or the first fault, at its fact's record; the first fact's record is this one
-abbrev pub store_after : Step → Instance → ℕ → List View → List Fact → Result (List View) (Fault DeltaKind)
+abbrev pub store_after : Step → Instance → ℕ → List (View ℕ ℕ) → List (Fact ℕ)
+    → Result (List (View ℕ ℕ)) (Fault DeltaKind)
 store_after step i at views [] = Ok views
 store_after step i at views (f ∷ facts) = elim (all_read (λ before v. view_after step i v f) [] views) [
   | Ok changed ↦ store_after step i (at + 1) changed facts
@@ -73,9 +74,10 @@ store_after step i at views (f ∷ facts) = elim (all_read (λ before v. view_af
 -- ---- as it is done
 
 -- each view after the fact, in order, or the first fault, with its view's place
-abbrev pub views_after : Step → Instance → List View → Fact → Result (List View) (ℕ × DeltaKind)
+abbrev pub views_after : Step → Instance → List (View ℕ ℕ) → Fact ℕ → Result (List (View ℕ ℕ)) (ℕ × DeltaKind)
 views_after step i views f = all_read (λ before v. view_after step i v f) [] views
 
 -- the same of stored views, where a header stands before the first fact
-abbrev pub store_changed : Step → Instance → List View → List Fact → Result (List View) (Fault DeltaKind)
+abbrev pub store_changed : Step → Instance → List (View ℕ ℕ) → List (Fact ℕ)
+    → Result (List (View ℕ ℕ)) (Fault DeltaKind)
 store_changed step i views facts = store_after step i 2 views facts

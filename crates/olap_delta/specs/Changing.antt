@@ -36,10 +36,10 @@ pub record Delta : Type 0 where
   pub instance : Instance
   pub categories : List ℕ
   pub taken : ℕ
-  pub views : Result (List View) (Fault DeltaKind)
+  pub views : Result (List (View ℕ ℕ)) (Fault DeltaKind)
 
 -- the views of a table, but for a fault
-abbrev pub views_or : Option (Fault DeltaKind) → List View → Result (List View) (Fault DeltaKind)
+abbrev pub views_or : Option (Fault DeltaKind) → List (View ℕ ℕ) → Result (List (View ℕ ℕ)) (Fault DeltaKind)
 views_or None views = Ok views
 views_or (Some fault) views = Err fault
 

@@ -1,6 +1,6 @@
--- Values that come or go all at once, where none of them could be refused.
+-- Values that come or go all at once, if none of them could be refused.
 --     HasRoom        no sum on the way passes the bound
---     changed_by     what values that come to this make of a row
+--     changed_by     what values with this total make of a row
 --     Admits         none of them could be refused there, whatever their order
 --     IsJoined       that is what became of a row
 --     IsJoinedIn     of the rows of a category
@@ -21,16 +21,16 @@ use Rattle.olap_delta.specs.declared.lots.Lot.{Lot}
 
 -- ---- a row
 
--- the sum stays within its bound, whichever values of 64 bits come or go, up to so many
+-- the sum stays within its bound, whichever values of 64 bits come or go, up to n of them
 pub record HasRoom (n : ℕ) (s : Summary) : Type 0 where
   pub low : neg_ℤ (pos most_sum) ≤ℤ (s.sum -ℤ pos (n * 2 ^ 63))
   pub high : (s.sum +ℤ pos (n * 2 ^ 63)) ≤ℤ pos most_sum
 
--- the summary without some values of which none is the least or the greatest
+-- the summary without some values, none of which is the least or the greatest
 abbrev pub less : Summary → Summary → Summary
 less s t = record s { count = s.count - t.count; sum = s.sum -ℤ t.sum }
 
--- what values that come to the second make of the first
+-- what values with the second as their total make of the first
 abbrev pub changed_by : Change → Option Summary → Option Summary → Option Summary
 changed_by by.Append there lot = there ⊕ lot
 changed_by by.Retract None lot = None

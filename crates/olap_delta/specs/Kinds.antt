@@ -1,4 +1,4 @@
--- The names in which faults are told.
+-- The names under which faults are reported.
 --     name_of_kind           that of a fact's fault
 --     name_of_change_kind    that of a fault of a text or of a fact
 use Rattle.std.specs.Prelude.{ℕ, List, codes}

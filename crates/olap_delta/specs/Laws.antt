@@ -6,21 +6,21 @@ use Rattle.std.specs.Int.{w64}
 use Rattle.std.specs.List.Sorted.{IsPermutation}
 use Rattle.olap_base.specs.Graph.{Graph}
 use Rattle.olap_base.specs.Instance.{Instance, IsLawful}
-use Rattle.olap_base.specs.Views.{Fact, direct_views}
+use Rattle.olap_base.specs.Views.{Fact, direct_views, members}
 use Rattle.olap_view.specs.Stores.{Fits}
 use Rattle.olap_delta.specs.Changes.{appended, retracted, store_changed}
 use Rattle.olap_delta.specs.declared.kinds.DeltaKind.TheVariants as kind
 
 -- direct views that may be stored, and new facts whose values have 64 bits
 abbrev pub AppendGivesDirectViews : Type 0
-AppendGivesDirectViews = (g : Graph) (i : Instance) (categories : List ℕ) (facts new : List Fact) → IsLawful g i
-    → All Fits (direct_views i facts categories) → All (λ f. FitsSigned w64 f.value) new
-    → MatchResult (store_changed appended i (direct_views i facts categories) new)
-    (λ views. views ≡ direct_views i (facts ++ new) categories) (λ fault. fault.kind ≡ kind.Full)
+AppendGivesDirectViews = (g : Graph) (i : Instance) (categories : List ℕ) (facts new : List (Fact ℕ)) → IsLawful g i
+    → All Fits (direct_views (members i) facts categories) → All (λ f. FitsSigned w64 f.value) new
+    → MatchResult (store_changed appended i (direct_views (members i) facts categories) new)
+    (λ views. views ≡ direct_views (members i) (facts ++ new) categories) (λ fault. fault.kind ≡ kind.Full)
 
 -- direct views that may be stored, of facts that are those left and those withdrawn in some order
 abbrev pub RetractGivesDirectViews : Type 0
-RetractGivesDirectViews = (g : Graph) (i : Instance) (categories : List ℕ) (facts left withdrawn : List Fact)
-    → IsLawful g i → All Fits (direct_views i facts categories) → IsPermutation facts (left ++ withdrawn)
-    → MatchResult (store_changed retracted i (direct_views i facts categories) withdrawn)
-    (λ views. views ≡ direct_views i left categories) (λ fault. fault.kind ≡ kind.Extreme)
+RetractGivesDirectViews = (g : Graph) (i : Instance) (categories : List ℕ) (facts left withdrawn : List (Fact ℕ))
+    → IsLawful g i → All Fits (direct_views (members i) facts categories) → IsPermutation facts (left ++ withdrawn)
+    → MatchResult (store_changed retracted i (direct_views (members i) facts categories) withdrawn)
+    (λ views. views ≡ direct_views (members i) left categories) (λ fault. fault.kind ≡ kind.Extreme)

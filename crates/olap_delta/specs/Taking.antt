@@ -33,7 +33,7 @@ use Rattle.olap_delta.specs.declared.taking.Taken.{Taken}
 use Rattle.olap_delta.specs.declared.taking.Taken.TheVariants as taken
 
 -- these facts were taken, one after another
-pub record AreTaken (facts : List Fact) (old new : Delta) : Type 0 where
+pub record AreTaken (facts : List (Fact ℕ)) (old new : Delta) : Type 0 where
   pub change : new.change ≡ old.change
   pub instance : new.instance ≡ old.instance
   pub categories : new.categories ≡ old.categories
@@ -41,7 +41,8 @@ pub record AreTaken (facts : List Fact) (old new : Delta) : Type 0 where
   pub views : new.views ≡ store_after_facts (step_of old.change) old.instance old.views (old.taken + 2) facts
 
 -- these facts were taken, by this step, at these views
-pub record HasTaken (by : Change) (i : Instance) (stored : List View) (facts : List Fact) (d : Delta) : Type 0 where
+pub record HasTaken (by : Change) (i : Instance) (stored : List (View ℕ ℕ)) (facts : List (Fact ℕ))
+    (d : Delta) : Type 0 where
   pub change : d.change ≡ by
   pub instance : d.instance ≡ i
   pub categories : d.categories ≡ categories_in stored
@@ -59,19 +60,20 @@ IsTakenAt i (taken.Listed facts) = All (λ f. f.member.0 < length i) facts.items
 IsTakenAt i (taken.Gone d) = d.instance ≡ i
 
 -- these are the facts that were taken: they are listed, or have gone into the views
-abbrev pub AreIn : Change → Instance → List View → List Fact → Taken → Type 0
+abbrev pub AreIn : Change → Instance → List (View ℕ ℕ) → List (Fact ℕ) → Taken → Type 0
 AreIn by i views facts (taken.Listed fs) = facts ≡ map fact_of fs.items
 AreIn by i views facts (taken.Gone d) = HasTaken by i views facts d
 
 -- facts were read, and these are all of them
-pub record AreAllIn (by : Change) (i : Instance) (views : List View) (answer : Result (List Fact) (Fault FactKind))
+pub record AreAllIn (by : Change) (i : Instance) (views : List (View ℕ ℕ))
+    (answer : Result (List (Fact ℕ)) (Fault FactKind))
     (t : Taken) : Type 0 where
-  pub facts : List Fact
+  pub facts : List (Fact ℕ)
   pub read : answer ≡ Ok facts
   pub are : AreIn by i views facts t
 
 -- the store after the change by these facts, sound where it was, or the first of them that is refused
-pub record IsStoreAfter (by : Change) (i : Instance) (views : List View) (facts : List Fact)
+pub record IsStoreAfter (by : Change) (i : Instance) (views : List (View ℕ ℕ)) (facts : List (Fact ℕ))
     (answer : Result Store (Refusal (Fault DeltaKind))) : Type 0 where
   pub ok : IfOk answer (λ s. store_changed (step_of by) i views facts ≡ Ok (views_of s))
   pub sound : IfOk answer (λ s. (g : Graph) → IsSoundStore g i views → IsSoundStore g i (views_of s))
@@ -79,7 +81,8 @@ pub record IsStoreAfter (by : Change) (i : Instance) (views : List View) (facts 
   pub err : IfErr answer (λ e. IsRefusedBy e (store_changed (step_of by) i views facts))
 
 -- the store after the change by all facts that were read, sound where it was; or why there is none
-pub record IsStoreAfterAll (by : Change) (i : Instance) (views : List View) (all : Result (List Fact) (Fault FactKind))
+pub record IsStoreAfterAll (by : Change) (i : Instance) (views : List (View ℕ ℕ))
+    (all : Result (List (Fact ℕ)) (Fault FactKind))
     (answer : Result Store (Refusal (Fault ChangeKind))) : Type 0 where
   pub ok : IfOk answer (λ s. views_changed (step_of by) i views all ≡ Ok (views_of s))
   pub sound : IfOk answer (λ s. (g : Graph) → IsSoundStore g i views → IsSoundStore g i (views_of s))
@@ -92,19 +95,19 @@ pub record IsStoreAfterAll (by : Change) (i : Instance) (views : List View) (all
 pub record TextChange : Type 0 where
   pub change : Change
   pub instance : Instance
-  pub views : List View
+  pub views : List (View ℕ ℕ)
   pub feed : Feeding
   pub taken : Taken
 
--- by this change of these views, these bytes of a text of at most so many facts were taken, and their facts
-pub record HasTakenText (by : Change) (g : Graph) (i : Instance) (views : List View) (most : ℕ) (fed : List ℕ)
+-- by this change of these views, these bytes of a text of at most this many facts were taken, and their facts
+pub record HasTakenText (by : Change) (g : Graph) (i : Instance) (views : List (View ℕ ℕ)) (most : ℕ) (fed : List ℕ)
     (c : TextChange) : Type 0 where
   pub change : c.change ≡ by
   pub instance : c.instance ≡ i
   pub stored : c.views ≡ views
   pub graph : c.feed.graph ≡ g
   pub most_is : c.feed.most ≡ most
-  pub facts : List Fact
+  pub facts : List (Fact ℕ)
   pub is_fed : Fed c.feed fed facts
   pub are : AreIn c.change c.instance c.views facts c.taken
 

@@ -103,7 +103,7 @@ impl<'a> Delta<'a> {
     /// The stored views after the facts, or the first fact that was refused. `Memory`: out of memory.
     pub fn into_store(self) -> Result<Store, Refusal<Fault<DeltaKind>>>
         ensures ok { IfOk result (λ s. self.entry.views ≡ Ok (views_of s)) }
-        ensures sound { IfOk result (λ s. (g : TheGraph) (before : Items TheView)
+        ensures sound { IfOk result (λ s. (g : TheGraph) (before : Items (TheView ℕ ℕ))
             → self.entry.categories ≡ categories_in before
             → IsSoundStore g self.entry.instance before
             → IsSoundStore g self.entry.instance (views_of s)) }

@@ -1,5 +1,5 @@
 // What lots of facts make of the views of a summary table, each at once.
-ghost use Rattle.std.specs.Prelude.{◌≡◌, ◌<◌, ◌≤◌, All, IfOk, IfSome, IsTrue, List as Items, None, Ok, Some, length, slice_index};
+ghost use Rattle.std.specs.Prelude.{◌≡◌, ℕ, ◌<◌, ◌≤◌, All, IfOk, IfSome, IsTrue, List as Items, None, Ok, Some, length, slice_index};
 ghost use Rattle.std.specs.Option.{option_map};
 ghost use Rattle.olap_base.specs.Limits.{most_count};
 ghost use Rattle.olap_base.specs.Views.{Fact as TheFact};
@@ -24,7 +24,7 @@ use std::alloc::Global;
 /// The greatest magnitude of a value of 64 bits: 2^63.
 const MOST_VALUE: i128 = 9_223_372_036_854_775_808;
 
-/// Whether the row's sum stays within `MOST_SUM`, whichever values of 64 bits come or go, up to so many.
+/// Whether the row's sum stays within `MOST_SUM`, whichever values of 64 bits come or go, up to this many.
 fn has_room(row: Summary, values: u64) -> bool
     requires { values ≤ most_count }
     ensures { IsTrue result → HasRoom values (summary_of row) }
@@ -51,7 +51,7 @@ fn append(there: Option<Summary>, lot: Summary) -> Option<Summary>
     Some(row.joined(lot))
 }
 
-/// The row without the values of a lot, of which none is its least or its greatest.
+/// The row without the values of a lot, none of which is its least or its greatest.
 fn without(row: Summary, lot: Summary) -> Summary
     requires row { IsStorable (summary_of row) }
     requires values { IsOfValues lot.count (summary_of lot) }
@@ -168,7 +168,7 @@ impl Change {
     }
 }
 
-/// The stored views after the change by the facts of which these are the lots, or none if one of them might be refused.
+/// The stored views after the change by the facts that these lots have, or none if one of them might be refused.
 pub(crate) fn joined(
     alloc: Global,
     change: Change,
@@ -182,7 +182,7 @@ pub(crate) fn joined(
     requires lots { AreLots lots }
     requires size { length lots.places.items ≡ length legal.now }
     requires few { lots.taken ≤ most_count }
-    ensures { IfOk result (λ o. IfSome o (λ s. (facts : Items TheFact) → StandFor legal.now facts lots
+    ensures { IfOk result (λ o. IfSome o (λ s. (facts : Items (TheFact ℕ)) → StandFor legal.now facts lots
         → IsStoreAfter change legal.now (views_of store.now) facts (Ok s))) }
 {
     let mut table = SummaryTable::of(alloc, legal, store)?;

@@ -2,8 +2,8 @@
 //!
 //! What a change makes of stored views is the function `store_changed` of `specs/Changes.antt`: the views, or the first
 //! fact that is refused, and why. `append`, `retract` and `change_by_text` return it, and `Delta` fact by fact.
-//! `src/laws.rt` has what it means: of the direct views of a fact table come the direct views of the table that has the
-//! new facts too, or lacks the withdrawn ones.
+//! `src/laws.rt` says what that means: the direct views of a fact table become the direct views of the table with the
+//! new facts, or without the withdrawn ones. The facts behind the views aren't known here.
 #![tactic(auto)]
 
 mod changes;

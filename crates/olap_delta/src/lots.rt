@@ -11,14 +11,14 @@ use olap_facts::Fact;
 use olap_view::Summary;
 use std::alloc::Global;
 
-/// A member, and what the values of its facts come to.
+/// A member, and the total of the values of its facts.
 #[derive(Clone, Copy)]
 pub(crate) struct Lot {
     pub(crate) member: MemberId,
     pub(crate) summary: Summary,
 }
 
-/// What the values of some facts come to at the members at which they stand.
+/// The totals of the values of some facts, by the members at which the facts stand.
 #[derive(Drop)]
 pub(crate) struct Lots {
     // For each member that has a lot the lot's place; for any other any number.
@@ -30,7 +30,7 @@ pub(crate) struct Lots {
 }
 
 impl Lots {
-    /// No facts, of an instance of so many members. It takes four bytes for each. `Memory`: out of memory.
+    /// No facts, of an instance of this many members. It takes four bytes for each. `Memory`: out of memory.
     pub(crate) fn new(alloc: Global, members: u32) -> Result<Lots, Memory>
         ensures places { IfOk result (λ l. length l.places.items ≡ members) }
         ensures taken { IfOk result (λ l. l.taken ≡ 0) }
@@ -94,7 +94,7 @@ impl Lots {
         Ok(())
     }
 
-    /// Joins a fact's value to the lot of its member, or begins that lot, for which it takes memory. `Memory`: want of
+    /// Joins a fact's value to the lot of its member, or begins that lot, for which it takes memory. `Memory`: out of
     /// memory.
     pub(crate) fn take(&mut self, fact: &Fact) -> Result<(), Memory>
         requires member { fact.now.member.0 < length self.old.places.items }

@@ -1,5 +1,5 @@
 // The facts of a text that were taken so far: listed while they are few, else gone into the views.
-ghost use Rattle.std.specs.Prelude.{◌≡◌, ◌+◌, ◌++◌, ◌≤◌, ◌<◌, All, IfOk, List as Items, length, map};
+ghost use Rattle.std.specs.Prelude.{◌≡◌, ℕ, ◌+◌, ◌++◌, ◌≤◌, ◌<◌, All, IfOk, List as Items, length, map};
 ghost use Rattle.olap_base.specs.Limits.{most_count};
 ghost use Rattle.olap_base.specs.Views.{Fact as TheFact};
 ghost use Rattle.olap_delta.specs.Taking.{AreIn, IsStoreAfter, IsTakenAt, taken_by};
@@ -23,7 +23,7 @@ pub(crate) struct Base<'a> {
     pub(crate) store: &'a Store,
 }
 
-/// The facts that were taken. Up to `MOST_LISTED_FACTS` are listed, so that they are joined by member; where there are
+/// The facts that were taken. Up to `MOST_LISTED_FACTS` are listed, so that they are joined by member; if there are
 /// more, each goes into the views by itself.
 #[derive(Drop)]
 pub(crate) enum Taken<'a> {
@@ -62,7 +62,7 @@ fn listed<'a>(
 }
 
 impl<'a> Taken<'a> {
-    /// With some facts more behind those that were taken.
+    /// With some more facts, after those that were taken.
     pub(crate) fn and(
         self,
         alloc: Global,
@@ -77,7 +77,7 @@ impl<'a> Taken<'a> {
         requires room { taken_by self + length more.now ≤ most_count }
         ensures at { IfOk result (IsTakenAt base.entry.legal.now) }
         ensures taken { IfOk result (λ t. taken_by t ≡ taken_by self.entry + length more.now) }
-        ensures facts { let b = base.entry in (facts : Items TheFact)
+        ensures facts { let b = base.entry in (facts : Items (TheFact ℕ))
             → AreIn b.change b.legal.now (views_of b.store.now) facts self.entry
             → IfOk result (AreIn b.change b.legal.now (views_of b.store.now) (facts ++ map fact_of more.now)) }
     {
@@ -101,7 +101,7 @@ impl<'a> Taken<'a> {
         requires order { All (IsInFileOrder base.legal.now) (views_of base.store.now) }
         requires at { IsTakenAt base.legal.now self }
         requires few { taken_by self ≤ most_count }
-        ensures { let b = base.entry in (facts : Items TheFact)
+        ensures { let b = base.entry in (facts : Items (TheFact ℕ))
             → AreIn b.change b.legal.now (views_of b.store.now) facts self.entry
             → IsStoreAfter b.change b.legal.now (views_of b.store.now) facts result }
     {

@@ -33,8 +33,8 @@ use std::marker::Model;
 
 /// The refusal of a text of facts as one of a change by it.
 fn of_text(refusal: Refusal<Fault<FactKind>>) -> Refusal<Fault<ChangeKind>>
-    ensures { (step : Step) (i : TheInstance) (views : Items TheView)
-        (read : Answer (Items TheFact) (TheFault TheFactKind))
+    ensures { (step : Step) (i : TheInstance) (views : Items (TheView ℕ ℕ))
+        (read : Answer (Items (TheFact ℕ)) (TheFault TheFactKind))
         → IsRefusedBy refusal read → IsRefusedBy result (views_changed step i views read) }
 {
     match refusal {
@@ -48,7 +48,7 @@ fn of_text(refusal: Refusal<Fault<FactKind>>) -> Refusal<Fault<ChangeKind>>
 
 /// The refusal of a fact as one of a change by a text that stands for it.
 fn of_fact(refusal: Refusal<Fault<DeltaKind>>) -> Refusal<Fault<ChangeKind>>
-    ensures { (step : Step) (i : TheInstance) (views : Items TheView) (facts : Items TheFact)
+    ensures { (step : Step) (i : TheInstance) (views : Items (TheView ℕ ℕ)) (facts : Items (TheFact ℕ))
         → IsRefusedBy refusal (store_changed step i views facts)
         → IsRefusedBy result (views_changed step i views (Ok facts)) }
 {
@@ -83,7 +83,7 @@ impl<'a> Model for Changer<'a> {
 }
 
 impl<'a> Changer<'a> {
-    /// The stored views before the first byte of a text of at most so many facts.
+    /// The stored views before the first byte of a text of at most this many facts.
     pub fn new(
         alloc: Global,
         change: Change,
@@ -118,7 +118,8 @@ impl<'a> Changer<'a> {
         alloc: Global,
         piece: &[u8],
     ) -> Result<Changer<'a>, Refusal<Fault<ChangeKind>>>
-        ensures takes { (by : How) (g : TheGraph) (i : TheInstance) (views : Items TheView) (most : ℕ) (fed : Items ℕ)
+        ensures takes { (by : How) (g : TheGraph) (i : TheInstance) (views : Items (TheView ℕ ℕ)) (most : ℕ)
+            (fed : Items ℕ)
             → HasTakenText by g i views most fed self.entry → MatchResult result
             (HasTakenText by g i views most (fed ++ piece.now))
             (λ e. (more : Items ℕ) → IsRefusedBy e (views_changed (step_of by) i views
@@ -142,7 +143,7 @@ impl<'a> Changer<'a> {
     /// The text ends: the stored views after the change by its facts, or the first fact that is refused (`Fact`), as
     /// `append` and `retract` give them; or the text's first fault (`Text`), which comes before any refusal of a fact.
     pub fn finish(self, alloc: Global) -> Result<Store, Refusal<Fault<ChangeKind>>>
-        ensures { (by : How) (g : TheGraph) (i : TheInstance) (views : Items TheView) (most : ℕ) (fed : Items ℕ)
+        ensures { (by : How) (g : TheGraph) (i : TheInstance) (views : Items (TheView ℕ ℕ)) (most : ℕ) (fed : Items ℕ)
             → HasTakenText by g i views most fed self.entry
             → IsStoreAfterAll by i views (facts_read_within most g i (records_fed fed)) result }
     {
@@ -171,7 +172,7 @@ fn ended<'a>(
     requires most { feed.most ≤ most_count }
     ensures at { IfOk result (IsTakenAt base.entry.legal.now) }
     ensures few { IfOk result (λ t. taken_by t ≤ most_count) }
-    ensures ended { let b = base.entry in (fed : Items ℕ) (facts : Items TheFact) → Fed feed.entry fed facts
+    ensures ended { let b = base.entry in (fed : Items ℕ) (facts : Items (TheFact ℕ)) → Fed feed.entry fed facts
         → AreIn b.change b.legal.now (views_of b.store.now) facts taken.entry → MatchResult result
         (AreAllIn b.change b.legal.now (views_of b.store.now) (fed_read feed.entry fed))
         (λ e. IsRefusedBy e (views_changed (step_of b.change) b.legal.now (views_of b.store.now)

@@ -15,7 +15,8 @@ use Rattle.olap_dimsat.specs.Following.{IsNext, IsRisen, NoneBeyond, NoneMore}
 use Rattle.olap_dimsat.specs.Pinned.{InRange, IsLonger, IsPinned, IsPlace, IsReady, IsSame}
 use Rattle.olap_dimsat.specs.Tasks.{Task, IsOne}
 use Rattle.olap_dimsat.proofs.FollowingLemmas.{in_range, next_of, none_beyond}
-use Rattle.olap_dimsat.proofs.SettleLemmas.{agreeing, at_or_below, pinned_other}
+use Rattle.olap_dimsat.proofs.SettleLemmas.{agreeing, pinned_other}
+use Rattle.olap_base.proofs.GeneralLemmas.{below_or_same}
 
 -- ---- no more at a place
 
@@ -99,7 +100,7 @@ pairs_before xs y a i j d l h =
     (subst (λ b. IsBehind b (get_or (xs ++ y ∷ []) j d)) e
     (a i j d l (let n = length-append xs (y ∷ []) in omega arith)))
 
--- and the last is behind each
+-- and the last is after each
 pairs_last : (xs : List Branch) (y : Branch) → AllPairs IsBehind (xs ++ y ∷ []) → All (λ b. IsBehind b y) xs
 pairs_last xs y a k d h =
     let e = get_or_append_left xs (y ∷ []) d k h in
@@ -151,7 +152,7 @@ pub branches_past : (t : Task) (p : ℕ) (w : Frozen) (ss ts : List Step) (bs : 
 branches_past t p w ss ts bs b longer none = record {
   ordered = b.ordered;
   each = λ k d h. branch_still t p w ss ts (get_or bs k d) longer (b.each k d h);
-  rest = λ q h not. elim (at_or_below q p h) [
+  rest = λ q h not. elim (below_or_same q p h) [
     | inl l ↦ b.rest q l not
     | inr e ↦ subst (λ m. NoneMore t m w) (sym e) none
   ];
@@ -172,7 +173,7 @@ branches_more t p w ss ts bs b old longer pinned place mark = record {
             (subst (IsPinned t p w)
             (sym (front_still ss ts b.mark longer (omega arith) ∙ take_all b.mark ss (omega arith))) pinned);
       });
-  rest = λ q h not. elim (at_or_below q p h) [
+  rest = λ q h not. elim (below_or_same q p h) [
     | inl l ↦ old.rest q l (λ c i e. not c (Contains-append_left bs (b ∷ []) c i) e)
     | inr e ↦ absurd (not b (Contains-push bs b) (place ∙ sym e))
   ];
@@ -194,11 +195,11 @@ module _ (t : Task) (n : ℕ) (w : Frozen) (ss : List Step) (bs : List Branch) (
   pub last_place : b.place < n
   last_place = last_is.place
 
-  -- its literals stand while others come behind them
+  -- its literals stand while others come after them
   pub last_mark : (ts : List Step) → IsLonger (take b.mark ss) ts → take b.mark ts ≡ take b.mark ss
   last_mark ts l = taken_back ss ts b.mark last_is.mark l
 
-  -- a branch before the last still is one when the literals behind the last one's mark are gone
+  -- a branch before the last still is one when the literals after the last one's mark are gone
   still_branch : (p : ℕ) (y : Frozen) (x : Branch) → x.place < p → IsOne t y → IsSame b.place y w → IsBehind x b
       → IsBranch t n w ss x → IsBranch t p y (take b.mark ss) x
   still_branch p y x l one same behind i = record {
@@ -225,7 +226,7 @@ module _ (t : Task) (n : ℕ) (w : Frozen) (ss : List Step) (bs : List Branch) (
     | inr z ↦ other (sym e ∙ sym (ap (λ (x : Branch). x.place) z))
   ])
 
-  -- where there is no more at the last, the others are left
+  -- if there is no more at the last, the others are left
   pub branches_left : NoneMore t b.place w → AreBranches t n w (take b.mark ss) bs
   branches_left none = record {
     ordered = pairs_before bs b all.ordered;
@@ -239,13 +240,13 @@ module _ (t : Task) (n : ℕ) (w : Frozen) (ss : List Step) (bs : List Branch) (
       which : (x y : ℕ) → (x ≡ y) ⊎ (x ≡ y → ⊥)
       which x y = grind arith
 
-  -- behind the last there is no more
+  -- after the last there is no more
   none_behind : (q : ℕ) → b.place < q → q < n → NoneMore t q w
   none_behind q l h = rest_before q h (λ e. omega arith) (λ x c e.
       let g = (pairs_last bs b all.ordered c.0 x c.1).0 in
       let z = ap (λ (x : Branch). x.place) c.2 in omega arith)
 
-  -- where there is more at the last, the least such one comes next
+  -- if there is more at the last, the least such one comes next
   pub risen_next : (y : Frozen) → IsOne t w → ((q : ℕ) → q < n → IsPlace t q) → IsRisen t b.place w y → IsNext t n w y
   risen_next y one places r =
       next_of t n b.place w y one last_is.place (places b.place last_is.place) r (λ q l h place. none_behind q l h)

@@ -1,7 +1,7 @@
 -- The clauses of a task are the encoder's.
-use Rattle.std.proofs.Common.{◌≡◌, ℕ, zero, suc, ◌≤◌, ◌<◌, List, length, Bool, true, false, refl, sym, subst, ◌∙◌, inl, inr, ◌^◌, arith}
+use Rattle.std.proofs.Common.{◌≡◌, ℕ, zero, suc, ◌≤◌, ◌<◌, List, length, Bool, refl, sym, subst, ◌∙◌, ◌^◌, arith}
 use Rattle.std.specs.Prelude.{◌↔◌, IsTrue}
-use Rattle.std.proofs.lemmas.Bool.{cases_Bool, false_from_ne_true}
+use Rattle.std.proofs.lemmas.Bool.{eqb-true, eq-eqb}
 use Rattle.olap_ast.specs.Frozen.{Frozen}
 use Rattle.olap_ast.specs.Valid.{IsFormulaAt, IsValidSchema}
 use Rattle.olap_ast.proofs.ConstantLemmas.{constant_in_constraint, constant_in_question}
@@ -19,7 +19,7 @@ use Rattle.olap_names.specs.Questions.{IsQuestion, Question}
 use Rattle.olap_dimsat.specs.Tasks.{IsLaid, Task, schema_of}
 use Rattle.olap_dimsat.specs.Reads.{Reads, index_in}
 use Rattle.olap_dimsat.specs.Pinned.{IsEncoded}
-use Rattle.olap_dimsat.proofs.Truths.{is_same, same_is}
+use Rattle.olap_base.proofs.ListLemmas.{same_truth}
 
 -- a question of a valid schema's graph can be encoded
 pub spoken_for : (q : Question) → IsValidSchema q.schema → IsFormulaAt q.schema.graph q.root q.formula
@@ -31,13 +31,6 @@ spoken_for q v f = record {
 }
 
 -- ---- what its valuations read
-
--- two values are equal if each follows from the other
-pub same_truth : (a b : Bool) → (a ≡ true → b ≡ true) → (b ≡ true → a ≡ true) → a ≡ b
-same_truth a b f g = elim (cases_Bool a) [
-  | inl y ↦ y ∙ sym (f y)
-  | inr n ↦ n ∙ sym (false_from_ne_true b (λ y. let z : true ≡ false = sym (g y) ∙ n in cc))
-]
 
 -- an index is the same by the words of both crates
 pub index_same : (f : Frozen) (c : ℕ) → index_of f c ≡ index_in f c
@@ -64,7 +57,7 @@ reads t f ms v laid fits = record {
   named = λ c j h b.
       let l = laid.named c j h b in
       let i = at_meaning t f ms v (name_variable t.layout c j) (Named c (suc j)) l.0 l.1 fits in
-      same_truth _ _ (λ y. is_same _ _ (sym (index_same f c) ∙ i.0 y)) (λ y. i.1 (index_same f c ∙ same_is _ _ y));
+      same_truth _ _ (λ y. eq-eqb _ _ (sym (index_same f c) ∙ i.0 y)) (λ y. i.1 (index_same f c ∙ eqb-true _ _ y));
 }
 
 -- meanings laid out so lay the task out

@@ -1,5 +1,5 @@
 -- The frozen dimension that comes next by its code.
-use Rattle.std.proofs.Common.{◌≡◌, ℕ, zero, suc, ◌+◌, ◌-◌, ◌<◌, ◌≤◌, List, [], ◌∷◌, length, Bool, true, false, refl, ap, sym, subst, ◌∙◌, ◌⊎◌, inl, inr, arith}
+use Rattle.std.proofs.Common.{◌≡◌, ℕ, zero, suc, ◌+◌, ◌-◌, ◌<◌, ◌≤◌, List, [], ◌∷◌, length, Bool, true, false, refl, ap, sym, subst, ◌∙◌, inl, inr, arith}
 use Rattle.std.specs.Prelude.{slice_index, slice_index_or}
 use Rattle.std.proofs.lemmas.List.{ext_get_or}
 use Rattle.olap_ast.specs.Frozen.{Frozen, code}
@@ -10,7 +10,9 @@ use Rattle.olap_clauses.specs.declared.engine.Engine.{Engine}
 use Rattle.olap_clauses.specs.declared.trails.Step.{Step}
 use Rattle.olap_dimsat.specs.Pinned.{InRange, IsPinned, IsPlace, IsReady, IsReplaced, IsSame, NoneAt, NoneLess}
 use Rattle.olap_dimsat.specs.Tasks.{Task, IsOne, constant_count, graph_of}
-use Rattle.olap_dimsat.proofs.SettleLemmas.{at_least, below, bit, code_edge, code_name, length-code, not_after, same_bit}
+use Rattle.olap_dimsat.proofs.SettleLemmas.{at_least, bit, code_edge, code_name, length-code, not_after, same_bit}
+use Rattle.olap_base.proofs.GeneralLemmas.{less_equal_greater}
+use Rattle.std.proofs.lemmas.Bool.{cases_lt}
 
 -- ---- lists of numbers
 
@@ -45,14 +47,10 @@ first_place (x ∷ xs) (y ∷ ys) e (inr t) d =
     same q n s zero h = sym q
     same q n s (suc k) h = s k (omega arith)
 
--- of two numbers one is less, or they are equal
-pub which : (x y : ℕ) → (x < y) ⊎ ((x ≡ y) ⊎ (y < x))
-which x y = grind arith
-
 -- where the second list first differs it has no less
 at_first : (xs ys : List ℕ) → Differ xs ys → (q : ℕ)
     → ((k : ℕ) → k < q → slice_index ys k ≡ slice_index xs k) → slice_index xs q ≤ slice_index ys q
-at_first xs ys d q s = elim (which q d.place) [
+at_first xs ys d q s = elim (less_equal_greater q d.place) [
   | inl l ↦ let e = d.same q l in omega arith
   | inr r ↦ elim r [
     | inl e ↦ at_place e
@@ -84,7 +82,7 @@ pub edges_same : (t : Task) (f h : Frozen) → IsOne t f → IsOne t h → f.edg
 edges_same t f h a b q = λ e l.
     code_edge t f e a l ∙ ap (λ es. bit (slice_index_or es e false)) q ∙ sym (code_edge t h e b l)
 
--- the code says which frozen dimension it is
+-- the code says less_equal_greater frozen dimension it is
 pub code_one : (t : Task) (f h : Frozen) → IsOne t f → IsOne t h → code f ≡ code h → f ≡ h
 code_one t f h a b q =
     let es : f.edges ≡ h.edges = same_edges t f h a b (λ e l. ap (λ c. slice_index c e) q) in
@@ -118,7 +116,7 @@ same_code t n f h a b all s =
 
 -- ---- the next one
 
--- what is raised stays so while the places behind are settled
+-- what is raised stays so while the places after are settled
 pub risen : (t : Task) (p : ℕ) (w x y : Frozen) → IsOne t y → IsRaised t p w x → IsSame (p + 1) y x
     → ((q : ℕ) → p + 1 ≤ q → IsPlace t q → NoneLess t q y) → IsRisen t p w y
 risen t p w x y one r same less = record {
@@ -145,12 +143,12 @@ module _ (t : Task) (n p : ℕ) (w y : Frozen) (a : IsOne t w) (inside : p < n) 
   -- one that is beyond w, and is as w before p, has more at p
   more_here : (f : Frozen) → IsOne t f → (IsSame n f w → ⊥) → Differ (code w) (code f) → IsSame p f w
       → slice_index (code w) p < slice_index (code f) p
-  more_here f one other d s = elim (which d.place p) [
+  more_here f one other d s = elim (less_equal_greater d.place p) [
     | inl l ↦ let e = s d.place l in let m = d.more in absurd (omega arith)
     | inr z ↦ elim z [
       | inl e ↦
           let m = d.more in let u = ap (slice_index (code w)) e in let v = ap (slice_index (code f)) e in omega arith
-      | inr l ↦ elim (below d.place n) [
+      | inr l ↦ elim (cases_lt d.place n) [
         | inl h ↦ absurd (none d.place l h (inside_place t w d.place a d.inside) f one d.same d.more)
         | inr h ↦ absurd (other (λ k i. d.same k (omega arith)))
       ]
@@ -159,7 +157,7 @@ module _ (t : Task) (n p : ℕ) (w y : Frozen) (a : IsOne t w) (inside : p < n) 
 
   no_less : (f : Frozen) → IsOne t f → (IsSame n f w → ⊥) → Differ (code w) (code f) → (q : ℕ) → IsPlace t q
       → IsSame q f y → slice_index (code y) q ≤ slice_index (code f) q
-  no_less f one other d q inside s = elim (which q p) [
+  no_less f one other d q inside s = elim (less_equal_greater q p) [
     | inl l ↦
         let e = r.raised.same q l in
         let m = at_first (code w) (code f) d q (λ k h. s k h ∙ r.raised.same k (omega arith)) in omega arith
@@ -178,7 +176,7 @@ module _ (t : Task) (n p : ℕ) (w y : Frozen) (a : IsOne t w) (inside : p < n) 
   -- one that is as y at the first places has no less at any
   as_much : (f : Frozen) → IsOne t f → IsSame n f y → (q : ℕ) → IsPlace t q → IsSame q f y
       → slice_index (code y) q ≤ slice_index (code f) q
-  as_much f one alike q there s = elim (below p q) [
+  as_much f one alike q there s = elim (cases_lt p q) [
     | inl l ↦ r.settled q l there f one s
     | inr l ↦ let e = alike q (omega arith) in omega arith
   ]
@@ -195,11 +193,11 @@ module _ (t : Task) (n p : ℕ) (w y : Frozen) (a : IsOne t w) (inside : p < n) 
         (λ q h s. no_less f one l.1 (differ t w f a one l.0) q (inside_place t y q r.one h) s);
   }
 
--- where there is more at none of the first places, nothing is beyond
+-- if there is more at none of the first places, nothing is beyond
 pub none_beyond : (t : Task) (n : ℕ) (w : Frozen) → IsOne t w
     → ((q : ℕ) → q < n → IsPlace t q → NoneMore t q w) → NoneBeyond t n w
 none_beyond t n w a none f one l =
-    let d = differ t w f a one l.0 in elim (below d.place n) [
+    let d = differ t w f a one l.0 in elim (cases_lt d.place n) [
       | inl h ↦ none d.place h (inside_place t w d.place a d.inside) f one d.same d.more
       | inr h ↦ l.1 (λ k i. d.same k (omega arith))
     ]

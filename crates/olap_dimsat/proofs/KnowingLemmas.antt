@@ -9,7 +9,7 @@ use Rattle.std.specs.Str.{bytes_eq}
 use Rattle.std.proofs.lemmas.Bool.Decides.{nat_tests}
 use Rattle.std.proofs.lemmas.List.Elements.{Contains-get_or}
 use Rattle.std.proofs.lemmas.Slice.Eq.{bytes_eq-Decides}
-use Rattle.std.proofs.lemmas.Bool.{cases_Bool}
+use Rattle.std.proofs.lemmas.Bool.{cases_Bool, ltb-true, eqb-true, eq-eqb}
 use Rattle.olap_base.specs.Graph.{CategoryReaches, Edge, Graph, HasEdge, IsCategory, IsHierarchy, category_count}
 use Rattle.olap_base.specs.Instance.{Instance}
 use Rattle.olap_base.specs.Naming.{place_of}
@@ -43,14 +43,15 @@ use Rattle.olap_dimsat.specs.Tasks.{IsOne, IsTask, Task, schema_of, graph_of}
 use Rattle.olap_dimsat.specs.Reads.{NoneAgrees, Reads, index_in}
 use Rattle.olap_dimsat.specs.Tracking.{IsTracked}
 use Rattle.olap_dimsat.specs.Knowing.{HasMember, HoldsAt, IsBroken, IsFalseAt, both, knowledge, naming, presence, told, told_of_edge, told_of_name, truth_of, way}
-use Rattle.olap_dimsat.proofs.EncodeLemmas.{index_same, same_truth}
+use Rattle.olap_dimsat.proofs.EncodeLemmas.{index_same}
 use Rattle.olap_dimsat.proofs.ReadLemmas.{index_absent}
-use Rattle.olap_dimsat.proofs.TrackingLemmas.{present_joins, wider}
-use Rattle.olap_dimsat.proofs.Truths.{is_same, same_is}
+use Rattle.olap_dimsat.proofs.TrackingLemmas.{present_joins}
+use Rattle.olap_base.proofs.ListLemmas.{same_truth}
+use Rattle.olap_base.proofs.StepLemmas.{wider}
 
 -- ---- values of facts
 
--- what is known of one fact is known of another that holds exactly where it does
+-- what is known of one fact is known of another that holds exactly if it does
 known_same : (x : Truth3) (P Q : Type 0) → Tells x P → (P → Q) → (Q → P) → Tells x Q
 known_same No P Q t f g = λ q. t (g q)
 known_same Yes P Q t f g = f t
@@ -79,10 +80,6 @@ has_some (x ∷ xs) (suc c) k h = let r = has_some xs c k h in omega arith
 -- what isn't below by the test isn't
 test_false : (c n : ℕ) → nat_lt c n ≡ false → c < n → ⊥
 test_false c n e h = grind (arith, nat_tests)
-
--- what is below by the test is
-test_true : (c n : ℕ) → nat_lt c n ≡ true → c < n
-test_true c n e = grind (arith, nat_tests)
 
 -- no edge leaves what is no category
 pub no_edge_past : (g : Graph) (trail : Trail) → IsHierarchy g → (c d : ℕ) → category_count g ≤ c
@@ -157,7 +154,7 @@ module _ (t : Task) (trail : Trail) (d : Decided) (k : IsTracked t trail d) (f :
     where
       go : (b : Bool) → nat_lt c (category_count (graph_of t)) ≡ b
           → Tells (cond b (told trail (present_variable t.layout c)) No) (present c ≡ true)
-      go true e = let p = r.present c (test_true c (category_count (graph_of t)) e) in
+      go true e = let p = r.present c (ltb-true c (category_count (graph_of t)) e) in
           known_same (told trail (present_variable t.layout c)) (v (present_variable t.layout c) ≡ true)
           (present c ≡ true)
           (told_is (present_variable t.layout c)) (λ h. sym p ∙ h) (λ h. p ∙ h)
@@ -242,10 +239,10 @@ module _ (t : Task) (trail : Trail) (d : Decided) (k : IsTracked t trail d) (f :
           known_same (told trail (name_variable t.layout (suc c) j)) (v (name_variable t.layout (suc c) j) ≡ true)
           (HasNameThere inst present place (suc c) text) (told_is (name_variable t.layout (suc c) j))
           (λ h.
-          let i = same_is (index_in f (suc c)) (suc j) (sym x ∙ h) in
+          let i = eqb-true (index_in f (suc c)) (suc j) (sym x ∙ h) in
           let p = indexed_present (suc c) j inside i in
           (p, made.name_there (graph_of t) t.question.root es ch name (suc c) p ∙ n.1 (index_same f (suc c) ∙ i)))
-          (λ h. x ∙ is_same (index_in f (suc c)) (suc j)
+          (λ h. x ∙ eq-eqb (index_in f (suc c)) (suc j)
           (sym (index_same f (suc c))
           ∙ n.0 (sym (made.name_there (graph_of t) t.question.root es ch name (suc c) h.0) ∙ h.1)))
 

@@ -1,5 +1,5 @@
 -- Lists of frozen dimensions by their codes.
-use Rattle.std.proofs.Common.{◌≡◌, ℕ, zero, suc, ◌<◌, ◌≤◌, List, [], ◌∷◌, ◌++◌, length, get_or, refl, ap, sym, subst, ◌∙◌, ◌⊎◌, inl, inr, arith, length-append}
+use Rattle.std.proofs.Common.{◌≡◌, ℕ, zero, suc, ◌<◌, ◌≤◌, List, [], ◌∷◌, ◌++◌, length, get_or, refl, ap, sym, subst, ◌⊎◌, inl, inr, arith, length-append}
 use Rattle.std.specs.Prelude.{All, AllPairs, Contains, IfSome, None, Option, Some, slice_index}
 use Rattle.std.proofs.lemmas.List.Elements.{All-append, Contains-append_left, Contains-append_right}
 use Rattle.std.proofs.lemmas.List.Quantifiers.{all_pairs_push}
@@ -10,28 +10,20 @@ use Rattle.olap_base.specs.declared.refusals.Refusal.{Refusal}
 use Rattle.olap_base.specs.declared.refusals.Refusal.TheVariants as refusal
 use Rattle.olap_base.proofs.ListLemmas.{contains_head}
 use Rattle.olap_names.specs.Names.{candidates_of}
-use Rattle.olap_names.proofs.OrderLemmas.{compare, not_after_itself, not_both}
+use Rattle.olap_names.proofs.OrderLemmas.{compare, not_both}
 use Rattle.olap_dimsat.specs.Following.{AreFirsts, AreMoreFirsts, HasLike, IsBeyond, IsFirstOf, IsNext, NoneBeyond}
 use Rattle.olap_dimsat.specs.Listed.{AreAllFrozen, AreMoreThan, IsBefore}
 use Rattle.olap_dimsat.specs.Pinned.{IsLeast, IsPlace, IsSame}
 use Rattle.olap_dimsat.specs.Shapes.{AreMoreShapes, AreShapes}
 use Rattle.olap_dimsat.specs.Tasks.{IsTask, Task, IsOne, graph_of, schema_of}
-use Rattle.olap_dimsat.proofs.SettleLemmas.{below}
-use Rattle.olap_dimsat.proofs.FollowingLemmas.{Differ, code_one, differ, edges_same, same_code, same_edges, same_length, which}
+use Rattle.olap_dimsat.proofs.FollowingLemmas.{Differ, code_one, differ, edges_same, same_code, same_edges, same_length}
+use Rattle.olap_base.proofs.RankLemmas.{not_after_itself, not_after_again}
+use Rattle.olap_base.proofs.GeneralLemmas.{less_equal_greater}
+use Rattle.std.proofs.lemmas.Bool.{cases_lt}
 
 -- ---- the order
 
--- no later than what comes no later
-not_after_again : (xs ys zs : List ℕ) → IsNotAfter xs ys → IsNotAfter ys zs → IsNotAfter xs zs
-not_after_again [] ys zs a b = tt
-not_after_again (x ∷ xs) [] zs a b = absurd a
-not_after_again (x ∷ xs) (y ∷ ys) [] a b = absurd b
-not_after_again (x ∷ xs) (y ∷ ys) (z ∷ zs) (inl l) (inl m) = inl (omega arith)
-not_after_again (x ∷ xs) (y ∷ ys) (z ∷ zs) (inl l) (inr m) = let e = m.0 in inl (omega arith)
-not_after_again (x ∷ xs) (y ∷ ys) (z ∷ zs) (inr l) (inl m) = let e = l.0 in inl (omega arith)
-not_after_again (x ∷ xs) (y ∷ ys) (z ∷ zs) (inr l) (inr m) = inr (l.0 ∙ m.0, not_after_again xs ys zs l.1 m.1)
-
--- two lists of which neither comes later are equal
+-- two lists of less_equal_greater neither comes later are equal
 both_ways : (xs ys : List ℕ) → length xs ≡ length ys → IsNotAfter xs ys → IsNotAfter ys xs → xs ≡ ys
 both_ways xs ys e a b = elim (compare xs ys e) [
   | inl s ↦ absurd (not_both ys xs b s)
@@ -65,7 +57,7 @@ alike_or_beyond : (t : Task) (n : ℕ) (w f : Frozen) → IsOne t w → IsOne t 
     → IsSame n f w ⊎ IsBeyond n w f
 alike_or_beyond t n w f a b l = elim (same_or_after t w f a b l) [
   | inl e ↦ inl (subst (λ h. IsSame n h w) e (λ k i. refl))
-  | inr m ↦ let d = differ t w f a b m in elim (below d.place n) [
+  | inr m ↦ let d = differ t w f a b m in elim (cases_lt d.place n) [
     | inl h ↦ inr (m, λ s. let e = s d.place h in let g = d.more in omega arith)
     | inr h ↦ inl (λ k i. d.same k (omega arith))
   ]
@@ -83,7 +75,7 @@ beyond_again t n h w y a b c l m = (before_again t h w y a b l.0 m.0, other)
     e = differ t w y b c m.0
 
     at_first_places : IsSame n y h → d.place < n → ⊥
-    at_first_places s i = elim (which e.place d.place) [
+    at_first_places s i = elim (less_equal_greater e.place d.place) [
       | inl z ↦
           let u = d.same e.place z in let v = s e.place (omega arith) in let g = e.more in omega arith
       | inr r ↦ elim r [
@@ -96,7 +88,7 @@ beyond_again t n h w y a b c l m = (before_again t h w y a b l.0 m.0, other)
     ]
 
     other : IsSame n y h → ⊥
-    other s = elim (below d.place n) [
+    other s = elim (cases_lt d.place n) [
       | inl i ↦ at_first_places s i
       | inr i ↦ l.1 (λ k z. d.same k (omega arith))
     ]
@@ -118,7 +110,7 @@ pub record IsAhead (t : Task) (n : ℕ) (list : List Frozen) (w : Frozen) : Type
 abbrev pub HasAll : Task → ℕ → List Frozen → Type 0
 HasAll t n list = (f : Frozen) → IsOne t f → HasLike n list f
 
--- one more of which it holds
+-- one more of less_equal_greater it holds
 all_push : (P : Frozen → Type 0) (xs : List Frozen) (y : Frozen) → All P xs → P y → All P (xs ++ y ∷ [])
 all_push P xs y a p = All-append P xs (y ∷ []) a last
   where
@@ -197,7 +189,7 @@ pub none_left : (o : Option ℕ) → ((x : ℕ) → o ≡ Some x → ⊥) → o 
 none_left None f = refl
 none_left (Some x) f = absurd (f x refl)
 
--- what follows from what is so where there is something
+-- what follows from what is so if there is something
 pub some_more : (o : Option ℕ) (P Q : Type 0) → (P → Q) → IfSome o (λ x. P) → IfSome o (λ x. Q)
 some_more None P Q f m = m
 some_more (Some x) P Q f m = f m
@@ -217,18 +209,20 @@ at_element P xs a f c = subst P c.2 (a c.0 f c.1)
 pub all_frozen : (t : Task) (n : ℕ) (list : List Frozen) → IsTask t → ((q : ℕ) → IsPlace t q → q < n)
     → AreFirsts t n list
     → AreAllFrozen (schema_of t) t.question.formula t.question.root (candidates_of t.question.candidates) list
-all_frozen t n list k all a = record {
-  candidates = k.question.candidates;
-  ordered = λ i j d l m. (a.ordered i j d l m).0;
-  sound = sound;
-  complete = λ f one. let c = a.complete f one in
-      subst (λ h. Contains list h) (sym (same_code t n f c.0 one (sound c.0 c.1) all c.2)) c.1;
-}
+all_frozen t n list k all a = (
+  k.question.candidates,
+  record {
+    ordered = λ i j d l m. (a.ordered i j d l m).0;
+    sound = sound;
+    complete = λ f one. let c = a.complete f one in
+        subst (λ h. Contains list h) (sym (same_code t n f c.0 one (sound c.0 c.1) all c.2)) c.1;
+  },
+)
   where
     sound : (f : Frozen) → Contains list f → IsOne t f
     sound f c = (at_element (IsFirstOf t n) list a.sound f c).one
 
--- and so many of them are so many frozen dimensions
+-- and this many of them are this many frozen dimensions
 pub more_than : (t : Task) (n limit : ℕ) → IsTask t → AreMoreFirsts t n limit
     → AreMoreThan limit (schema_of t) t.question.formula t.question.root (candidates_of t.question.candidates)
 more_than t n limit k m = record {
@@ -258,7 +252,7 @@ shapes t list k a = record {
     first : (f : Frozen) → Contains list f → IsFirstOf t (length (graph_of t).edges) f
     first f c = at_element (IsFirstOf t (length (graph_of t).edges)) list a.sound f c
 
--- and so many of them are so many shapes
+-- and this many of them are this many shapes
 pub more_shapes : (t : Task) (limit : ℕ) → IsTask t → AreMoreFirsts t (length (graph_of t).edges) limit
     → AreMoreShapes limit (schema_of t) t.question.formula t.question.root (candidates_of t.question.candidates)
 more_shapes t limit k m = record {

@@ -4,7 +4,7 @@ use Rattle.std.specs.Prelude.{slice_index}
 use Rattle.std.proofs.lemmas.List.{length-set}
 use Rattle.olap_ast.specs.Formula.{Formula}
 use Rattle.olap_ast.specs.Frozen.{Frozen}
-use Rattle.olap_ast.specs.Schema.{Constraint, Schema}
+use Rattle.olap_ast.specs.Schema.{Schema}
 use Rattle.olap_base.specs.Graph.{Graph, category_count}
 use Rattle.olap_clauses.specs.declared.engine.Engine.{Engine}
 use Rattle.olap_pool.specs.declared.pools.Pool.{Pool}
@@ -17,7 +17,7 @@ use Rattle.olap_base.specs.declared.ids.CatId.{CatId}
 use Rattle.olap_frozen.specs.declared.frozen.Frozen as kept
 use Rattle.olap_frozen.specs.LeastFound.{IsLeastFound, frozen_of}
 use Rattle.olap_frozen.specs.Leaves.{IsSized, IsZeroAtAll, chosen_of, of_declared}
-use Rattle.olap_names.specs.Names.{with_graph, others_of}
+use Rattle.olap_names.specs.Names.{others_of}
 use Rattle.olap_ast.specs.Valid.{IsValidSchema}
 use Rattle.olap_trail.specs.Decisions.{Decided}
 use Rattle.olap_dimsat.specs.Posed.{IsPosed}
@@ -153,10 +153,6 @@ suited_with t leaf left n suited for = record {
   room = suited.room;
   variables = suited.variables;
 }
-
--- the graph and the constraints are the schema's
-pub whole : (s : Schema) (g : Graph) (cs : List Constraint) → g ≡ s.graph → cs ≡ s.constraints → with_graph g cs ≡ s
-whole s g cs p q = λ i. record { graph = p i; constraints = q i }
 
 -- ---- what is handed out: `All` has the index 0
 

@@ -1,8 +1,8 @@
 -- What is read off a trail.
-use Rattle.std.proofs.Common.{◌≡◌, ◌≢◌, ℕ, zero, suc, ◌+◌, ◌<◌, ◌≤◌, List, [], ◌∷◌, length, get_or, Bool, true, false, refl, sym, subst, ◌∙◌, arith}
+use Rattle.std.proofs.Common.{◌≡◌, ◌≢◌, ℕ, zero, suc, ◌<◌, ◌≤◌, List, [], length, get_or, Bool, true, false, refl, sym, subst, ◌∙◌, arith}
 use Rattle.std.specs.Prelude.{◌==◌, Contains, slice_index, slice_index_or}
 use Rattle.std.proofs.lemmas.List.{ext_get_or}
-use Rattle.std.proofs.lemmas.Bool.{false_from_ne_true}
+use Rattle.std.proofs.lemmas.Bool.{false_from_ne_true, eqb-true}
 use Rattle.olap_base.specs.Graph.{Graph, category_count}
 use Rattle.olap_ast.specs.Frozen.{Frozen, chosen, is_present}
 use Rattle.olap_frozen.specs.Leaves.{chosen_of, of_declared}
@@ -11,7 +11,8 @@ use Rattle.olap_encoding.proofs.ChosenEdges.{child_present}
 use Rattle.olap_encoding.proofs.EdgeBits.{bit_chosen}
 use Rattle.olap_dimsat.specs.Tasks.{Task, IsOne, constant_count, graph_of}
 use Rattle.olap_dimsat.specs.Reads.{index_in}
-use Rattle.olap_dimsat.proofs.Truths.{none_is_zero, same_is}
+use Rattle.olap_dimsat.proofs.Truths.{none_is_zero}
+use Rattle.olap_frozen.proofs.LeafLemmas.{declared_length, declared_at}
 
 -- the child of a present edge is present
 pub bit_present : (g : Graph) (r : ℕ) (bits : List Bool) (e c d : ℕ) → e < length g.edges
@@ -35,7 +36,7 @@ index_absent t f (suc c) one h p = one.absent c (let n = one.name_count in omega
 
 -- the first name is no constant
 pub zero_not_suc : (i k : ℕ) → i ≡ 0 → (i == suc k) ≡ false
-zero_not_suc i k e = false_from_ne_true (i == suc k) (λ t. let q = same_is i (suc k) t in omega arith)
+zero_not_suc i k e = false_from_ne_true (i == suc k) (λ t. let q = eqb-true i (suc k) t in omega arith)
 
 -- a name that is no constant is the first one
 pub no_constant : (t : Task) (f : Frozen) (c n : ℕ) → IsOne t f → c < category_count (graph_of t)
@@ -43,21 +44,11 @@ pub no_constant : (t : Task) (f : Frozen) (c n : ℕ) → IsOne t f → c < cate
     → ((k : ℕ) → k < n → (index_in f c == suc k) ≡ false) → index_in f c ≡ 0
 no_constant t f c n one h e none = none_is_zero (index_in f c) n (let s = index_small t f c one h in omega arith) none
 
--- a declared category's index stands one place earlier without that of `All`
-at_declared : (names : List ℕ) (c : ℕ) → slice_index (of_declared names) c ≡ slice_index names (suc c)
-at_declared [] c = refl
-at_declared (n ∷ ns) c = refl
-
--- without `All` there is one entry less
-length-declared : (names : List ℕ) (n : ℕ) → length names ≡ n + 1 → length (of_declared names) ≡ n
-length-declared [] n e = absurd (omega arith)
-length-declared (x ∷ xs) n e = omega arith
-
 -- the index of a declared category is its entry
 pub index_of_choice : (edges : List Bool) (names : List ℕ) (c : ℕ) → c ≢ 0
     → index_in (chosen_of edges names) c ≡ slice_index names c
 index_of_choice edges names zero n = absurd (n refl)
-index_of_choice edges names (suc c) n = at_declared names c
+index_of_choice edges names (suc c) n = declared_at names c
 
 -- a frozen dimension is the choice that has its edges and names
 pub is_choice : (t : Task) (f : Frozen) (edges : List Bool) (names : List ℕ) → IsOne t f
@@ -69,6 +60,6 @@ is_choice t f edges names one l m es ns =
     let p : f.edges ≡ edges = ext_get_or false f.edges edges (one.edge_count ∙ sym l)
     (λ i h. es i (let n = one.edge_count in omega arith)) in
     let q : f.names ≡ of_declared names = ext_get_or 0 f.names (of_declared names)
-    (one.name_count ∙ sym (length-declared names (length (graph_of t).names) m))
-    (λ i h. ns (suc i) (let n = one.name_count in omega arith) ∙ sym (at_declared names i)) in
+    (one.name_count ∙ sym (declared_length names (length (graph_of t).names) m))
+    (λ i h. ns (suc i) (let n = one.name_count in omega arith) ∙ sym (declared_at names i)) in
     λ i. record { edges = p i; names = q i }

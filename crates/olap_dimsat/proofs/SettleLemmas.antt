@@ -3,7 +3,7 @@ use Rattle.std.proofs.Common.{◌≡◌, ◌≢◌, ℕ, zero, suc, ◌+◌, ◌
 use Rattle.std.specs.Prelude.{◌==◌, slice_index, slice_index_or}
 use Rattle.std.proofs.lemmas.List.{get_or-map, get_or_append_left, get_or-append_right, length-map}
 use Rattle.std.proofs.lemmas.List.Elements.{All-append}
-use Rattle.std.proofs.lemmas.Bool.{cases_Bool, false_from_ne_true}
+use Rattle.std.proofs.lemmas.Bool.{cases_Bool, false_from_ne_true, eqb-true, eq-eqb}
 use Rattle.olap_base.specs.Graph.{category_count}
 use Rattle.olap_ast.specs.Frozen.{Frozen, code}
 use Rattle.olap_base.specs.Ranks.{IsNotAfter}
@@ -17,10 +17,11 @@ use Rattle.olap_encoding.specs.Layouts.{name_variable, on_variable}
 use Rattle.olap_dimsat.specs.Tasks.{IsTask, Task, IsOne, constant_count, graph_of}
 use Rattle.olap_dimsat.specs.Reads.{Reads, IsShaped, index_in}
 use Rattle.olap_dimsat.specs.Pinned.{AreShaped, IsLeast, IsLonger, IsPinned, IsPlace, IsProbed, IsReady, IsReplaced, IsSame, IsSettled, NoneAt, NoneLess, SayAt, SaysAt}
-use Rattle.olap_dimsat.proofs.Truths.{holds_at, same_is, is_same, none_is_zero}
+use Rattle.olap_dimsat.proofs.Truths.{holds_at, none_is_zero}
 use Rattle.olap_dimsat.proofs.ReadLemmas.{index_small}
 use Rattle.olap_dimsat.proofs.StepLemmas.{agrees_both, agrees_front, forced_agree, not_decided}
 use Rattle.olap_dimsat.proofs.WitnessLemmas.{whole}
+use Rattle.olap_base.proofs.GeneralLemmas.{below_or_same}
 
 -- ---- codes
 
@@ -58,7 +59,7 @@ code_edge t f e one h =
     get_or_append_left (bits f.edges) f.names 0 e (omega arith)
     ∙ get_or-map (λ b. cond b 1 0) f.edges e false 0 (omega arith)
 
--- and behind the edges the index of each declared category
+-- and after the edges the index of each declared category
 pub code_name : (t : Task) (f : Frozen) (p c : ℕ) → IsOne t f → p ≡ length (graph_of t).edges + c
     → slice_index (code f) p ≡ slice_index f.names c
 code_name t f p c one e =
@@ -85,23 +86,15 @@ length-code t f one =
 
 -- ---- literals that say what stands at a place
 
--- the first n constants of the category are its name exactly where they have the index i
+-- the first n constants of the category are its name exactly if they have the index i
 abbrev pub NamedSo : Task → (ℕ → Bool) → ℕ → ℕ → ℕ → Type 0
 NamedSo t v c i n = (k : ℕ) → k < n → v (name_variable t.layout c k) ≡ (suc k == i)
-
--- a place below the next is earlier, or this one
-pub at_or_below : (q p : ℕ) → q < p + 1 → (q < p) ⊎ (q ≡ p)
-at_or_below q p h = grind arith
-
--- of two numbers the first is less, or the second is no more
-pub below : (x y : ℕ) → (x < y) ⊎ (y ≤ x)
-below x y = grind arith
 
 -- one constant more of which the valuation says whether it is the name
 pub named_more : (t : Task) (v : ℕ → Bool) (c i n : ℕ) → NamedSo t v c i n
     → v (name_variable t.layout c n) ≡ (suc n == i)
     → NamedSo t v c i (n + 1)
-named_more t v c i n s e k h = elim (at_or_below k n h) [
+named_more t v c i n s e k h = elim (below_or_same k n h) [
   | inl l ↦ s k l
   | inr q ↦ subst (λ m. v (name_variable t.layout c m) ≡ (suc m == i)) (sym q) e
 ]
@@ -109,19 +102,19 @@ named_more t v c i n s e k h = elim (at_or_below k n h) [
 -- the test of two numbers, either way
 eq_sym : (a b : ℕ) → (a == b) ≡ (b == a)
 eq_sym a b = elim (cases_Bool (a == b)) [
-  | inl y ↦ y ∙ sym (is_same b a (sym (same_is a b y)))
+  | inl y ↦ y ∙ sym (eq-eqb b a (sym (eqb-true a b y)))
   | inr n ↦ n ∙ sym (false_from_ne_true (b == a)
-      (λ y. let z : true ≡ false = sym (is_same a b (sym (same_is b a y))) ∙ n in cc))
+      (λ y. let z : true ≡ false = sym (eq-eqb a b (sym (eqb-true b a y))) ∙ n in cc))
 ]
 
 -- one more than a number isn't 0
 suc_not_zero : (k : ℕ) → (suc k == 0) ≡ false
-suc_not_zero k = false_from_ne_true (suc k == 0) (λ y. let q = same_is (suc k) 0 y in omega arith)
+suc_not_zero k = false_from_ne_true (suc k == 0) (λ y. let q = eqb-true (suc k) 0 y in omega arith)
 
 -- an index is known by which constants it is
 index_from : (i x n : ℕ) → i ≤ n → x ≤ n → ((k : ℕ) → k < n → (x == suc k) ≡ (suc k == i)) → x ≡ i
 index_from zero x n h l f = none_is_zero x n l (λ k b. f k b ∙ suc_not_zero k)
-index_from (suc i) x n h l f = same_is x (suc i) (f i (omega arith) ∙ is_same (suc i) (suc i) refl)
+index_from (suc i) x n h l f = eqb-true x (suc i) (f i (omega arith) ∙ eq-eqb (suc i) (suc i) refl)
 
 -- so a valuation that says so of all constants has that index
 pub index_of_named : (t : Task) (f : Frozen) (v : ℕ → Bool) (c i : ℕ) → IsOne t f → Reads t f v
@@ -139,7 +132,7 @@ named_of_index t f v c i r h e k b = r.named c k h b ∙ eq_sym (index_in f c) (
 
 -- one place more that is the same
 same_more : (p : ℕ) (f w : Frozen) → IsSame p f w → slice_index (code f) p ≡ slice_index (code w) p → IsSame (p + 1) f w
-same_more p f w s e q h = elim (at_or_below q p h) [
+same_more p f w s e q h = elim (below_or_same q p h) [
   | inl l ↦ s q l
   | inr z ↦ subst (λ m. slice_index (code f) m ≡ slice_index (code w) m) (sym z) e
 ]
@@ -297,9 +290,9 @@ says_name t p c x l e at n h positive most f v o r =
     let next : suc j ≡ x = omega arith in
     let within : j < constant_count t c = omega arith in
     let code = ap (slice_index (code f)) at ∙ code_index t f c o n in (
-      λ a. code ∙ same_is (index_in f c) (suc j) (sym (r.named c j h within) ∙ holds_at v l _ e a) ∙ next,
+      λ a. code ∙ eqb-true (index_in f c) (suc j) (sym (r.named c j h within) ∙ holds_at v l _ e a) ∙ next,
       λ q. holds_at v _ l (sym e)
-          (r.named c j h within ∙ is_same (index_in f c) (suc j) (sym code ∙ q ∙ sym next)),
+          (r.named c j h within ∙ eq-eqb (index_in f c) (suc j) (sym code ∙ q ∙ sym next)),
     )
 
 -- what is settled: those that are as w before an earlier place agree

@@ -9,8 +9,6 @@ use Rattle.std.proofs.lemmas.List.{get_or-map, length-map}
 use Rattle.std.proofs.lemmas.List.Elements.{All-append, All-cons, All-nil, Contains-append_cases}
 use Rattle.olap_base.specs.Deciding.{contains_cases}
 use Rattle.olap_base.specs.Graph.{Edge, Graph, HasEdge}
-use Rattle.olap_base.specs.Steps.{Climb, Climb.climb, Steps, Steps.here, Steps.step}
-use Rattle.olap_base.proofs.Part.{order}
 use Rattle.olap_base.proofs.ListLemmas.{Contains-from_filter, Contains-from_map, Contains-nil}
 use Rattle.olap_ast.specs.Frozen.{Frozen, chosen, name_in}
 use Rattle.olap_clauses.specs.declared.trails.Trail.{Trail}
@@ -27,6 +25,8 @@ use Rattle.olap_trail.specs.Decisions.{AreDecisions, Decided, Decision, HoldsCyc
 use Rattle.olap_dimsat.specs.Tasks.{IsOne, IsTask, Task, schema_of, graph_of}
 use Rattle.olap_dimsat.specs.Reads.{EdgeReads, NoneAgrees, Reads}
 use Rattle.olap_dimsat.specs.Tracking.{AreRead, IsOf}
+use Rattle.std.proofs.lemmas.Bool.{cases_order}
+use Rattle.olap_base.proofs.StepLemmas.{wider_climb}
 
 -- ---- decisions that come one by one
 
@@ -67,21 +67,12 @@ pub read_next : (t : Task) (trail : Trail) (ds : List Decision) (k : ℕ)
     → ((i : ℕ) (d : Decision) → i < k → EdgeReads t trail (get_or ds i d).edge (get_or ds i d).present)
     → (x : Decision) → ((d : Decision) → x ≡ get_or ds k d) → EdgeReads t trail x.edge x.present
     → (i : ℕ) (d : Decision) → i < k + 1 → EdgeReads t trail (get_or ds i d).edge (get_or ds i d).present
-read_next t trail ds k before x is reads i d h = elim (order i k) [
+read_next t trail ds k before x is reads i d h = elim (cases_order i k) [
   | inl q ↦ subst (λ (w : Decision). EdgeReads t trail w.edge w.present) (is d ∙ ap (λ m. get_or ds m d) (sym q)) reads
   | inr s ↦ elim s [ inl l ↦ before i d l | inr g ↦ absurd (omega arith) ]
 ]
 
 -- ---- the edges that were decided present
-
--- a walk of some edges is one of more
-pub wider : {R S : ℕ → ℕ → Type 0} → ((x y : ℕ) → R x y → S x y) → {c d : ℕ} → Steps R c d → Steps S c d
-wider f here = here
-wider f (step {x = c} {y = z} r s) = step (f c z r) (wider f s)
-
--- a chain of one relation is one of a wider one
-wider_climb : {R S : ℕ → ℕ → Type 0} → ((x y : ℕ) → R x y → S x y) → {c d : ℕ} → Climb R c d → Climb S c d
-wider_climb f {c} (climb {z = z} r s) = climb (f c z r) (wider f s)
 
 -- a bit that is set has a place in the list
 bit_inside : (bits : List Bool) (e : ℕ) → get_or bits e false ≡ true → e < length bits

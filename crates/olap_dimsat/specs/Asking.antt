@@ -29,7 +29,7 @@ pub record IsFor (t : Task) (frozen : Frozen) : Type 0 where
   pub edges : length frozen.edges ≡ length (graph_of t).edges
   pub names : length frozen.names ≡ category_count (graph_of t)
 
--- the state has room for the task, and there are so many variables
+-- the state has room for the task, and there are this many variables
 pub record IsSuited (t : Task) (leaf : Leaf) (n : ℕ) : Type 0 where
   pub task : IsTask t
   pub frozen : IsFor t leaf.frozen

@@ -2,7 +2,7 @@
 --     IsRefuted     none that agrees with a trail has a number at a place
 --     IsTopped      none that agrees has more there
 --     IsBranch      what a branch says
---     IsBehind      one branch is behind another
+--     IsBehind      one branch comes after another
 --     AreBranches   each place at which there may be more is a branch
 --     IsOpen        the places before one are decided, and have their branches
 use Rattle.std.specs.Prelude.{◌≡◌, ℕ, ◌<◌, ◌≤◌, List, All, AllPairs, Contains, length, slice_index, take}

@@ -8,7 +8,7 @@
 --     NoneBeyond   there is no next one
 --     HasLike      a list has one with the same first places
 --     AreFirsts    the first one for each choice of the first places
---     AreMoreFirsts   there are more than so many
+--     AreMoreFirsts   there are more of them than a limit
 --     IsHanded     a value of the task's root and sizes, with 0 at `All`
 use Rattle.std.specs.Prelude.{◌≡◌, ℕ, ◌<◌, ◌≤◌, List, All, AllPairs, Contains, length, slice_index}
 use Rattle.olap_ast.specs.Frozen.{Frozen, code}
@@ -65,7 +65,7 @@ pub record AreFirsts (t : Task) (n : ℕ) (list : List Frozen) : Type 0 where
   pub sound : All (IsFirstOf t n) list
   pub complete : (f : Frozen) → IsOne t f → HasLike n list f
 
--- more than so many of them, each beyond those before it
+-- more of them than the limit, each beyond those before it
 pub record AreMoreFirsts (t : Task) (n limit : ℕ) : Type 0 where
   pub some : List Frozen
   pub many : limit < length some

@@ -1,7 +1,7 @@
 -- The shapes of a category: the sets of edges that its frozen dimensions have.
 --     IsLeastOfShape   the least frozen dimension with its edges
 --     AreShapes        for each shape the least frozen dimension with it, by their codes
---     AreMoreShapes    there are more than so many shapes
+--     AreMoreShapes    there are more shapes than a limit
 use Rattle.std.specs.Prelude.{◌≡◌, ◌≢◌, ◌<◌, ℕ, List, AllPairs, Contains, length}
 use Rattle.olap_ast.specs.Formula.{Formula}
 use Rattle.olap_ast.specs.Frozen.{AreCandidates, Candidates, Frozen, IsFrozen, code}

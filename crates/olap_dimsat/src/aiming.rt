@@ -12,7 +12,7 @@ use olap_base::{CatId, EdgeId};
 use olap_clauses::{Engine, Outcome, Value};
 use olap_pool::Lit;
 
-/// After so many conflicts a look is given up.
+/// After this many conflicts a look is given up.
 const PATIENCE: u64 = 200;
 
 /// The edges out of a category over which a walk may lead to another.
@@ -84,7 +84,7 @@ fn suppose_no_way(engine: &mut Engine, a: &Asker<'_>, source: CatId, target: Cat
     true
 }
 
-// Decides what makes a walk by way of the source likely: its edge, or, where there are more, that it is present.
+// Decides what makes a walk by way of the source likely: its edge, or, if there are more, that it is present.
 fn suppose_way(engine: &mut Engine, a: &Asker<'_>, source: CatId, target: CatId) -> bool
     requires target { IsCategory a.now.question.graph.now target.0 }
     ensures variables { variables_of engine.new ≡ variables_of engine.old }
@@ -141,7 +141,7 @@ fn suppose_all(
 }
 
 /// Looks where the target is likely reached by way of exactly the sources whose bits are in the mask. True: some frozen
-/// dimension is in the leaf. False says nothing.
+/// dimension is in the leaf. False means nothing.
 pub(crate) fn look(
     engine: &mut Engine,
     a: &Asker<'_>,

@@ -63,7 +63,7 @@ pub struct Leaf {
     pub(crate) stood: usize,
 }
 
-/// A value with this root, so many edges and names, and nothing present.
+/// A value with this root, this many edges and names, and nothing present.
 pub(crate) fn nothing(
     alloc: Global,
     root: CatId,

@@ -1,9 +1,10 @@
 // A frozen dimension with its names, for who asks once.
 ghost use Rattle.std.specs.Prelude.{◌≡◌, ◌≤◌, IfOk, IfSome, IsNone, IsTrue, None, Ok, Some, false};
-ghost use Rattle.olap_ast.specs.Constants.{all_comparisons, all_equalities};
+ghost use Rattle.olap_ast.specs.Atoms.{all_comparisons, all_equalities};
+ghost use Rattle.olap_ast.specs.Pairs.{pair_count};
 ghost use Rattle.olap_ast.specs.Questions.{NoneFrozen};
 ghost use Rattle.olap_ast.specs.Trees.{formula_of};
-ghost use Rattle.olap_ast.specs.Valid.{IsFormulaAt, pair_count};
+ghost use Rattle.olap_ast.specs.Valid.{IsFormulaAt};
 ghost use Rattle.olap_base.specs.Graph.{IsCategory};
 ghost use Rattle.olap_base.specs.Limits.{most_constants};
 ghost use Rattle.olap_dimsat.specs.Finding.{HasNone, IsFoundAs};
@@ -42,7 +43,7 @@ fn named(
     }
 }
 
-// Asks the search for what is wanted. False where there is none.
+// Asks the search for what is wanted. False if there is none.
 fn seek(
     search: &mut Search,
     schema: &Schema,
@@ -86,7 +87,7 @@ fn sought(
 }
 
 /// The frozen dimension that is wanted of those with this root that make the question true, with its names. None
-/// exactly where there is none.
+/// exactly if there is none.
 ///
 /// It makes a search for it, which is gone when it returns.
 pub fn find(

@@ -104,7 +104,7 @@ fn suits_names(a: &Asker<'_>, frozen: &Frozen, lit: Lit) -> bool
 }
 
 // Whether the choice agrees with the literal, if this is one of an edge or of a name. No name stands at the end or
-// behind it, so that most literals need no look at the categories.
+// after it, so that most literals need no look at the categories.
 fn suits(a: &Asker<'_>, frozen: &Frozen, end: u32, lit: Lit) -> bool
     requires task { IsTask (task_of a.now) }
     requires sizes { IsFor (task_of a.now) frozen.now }

@@ -1,7 +1,7 @@
 // Frozen dimensions by their codes: the least one, and again and again the one that comes next.
 //
-// Those that are listed are told apart by so many first places of their codes: by all places it is all of them, and by
-// those of the edges the least one of each shape.
+// Those that are listed differ in a number of first places of their codes: with all places this gives all of them, and
+// with the places of the edges the least one of each shape.
 ghost use Rattle.std.specs.Prelude.{◌≡◌, ◌+◌, ◌^◌, ◌<◌, ◌≤◌, ◌∷◌, ◌++◌, ℕ, All, IfErr, IfOk, IfSome, None, [], false, length, map, slice_index, true, vec_len};
 ghost use Rattle.olap_ast.specs.Frozen.{Frozen as TheFrozen, code};
 ghost use Rattle.olap_base.specs.Refusing.{IsFor as IsRefusalFor};
@@ -160,7 +160,7 @@ fn copy(alloc: Global, a: &Asker<'_>, best: &Frozen) -> Result<Frozen, Memory>
     })
 }
 
-// Puts the best one behind the others.
+// Puts the best one after the others.
 fn add(alloc: Global, a: &Asker<'_>, best: &Frozen, list: &mut Vec<Frozen>) -> Result<(), Memory>
     requires task { IsTask (task_of a.now) }
     requires best { IsFor (task_of a.now) best.now }
@@ -176,7 +176,7 @@ fn add(alloc: Global, a: &Asker<'_>, best: &Frozen, list: &mut Vec<Frozen>) -> R
     Ok(())
 }
 
-/// For each choice of so many first places the first frozen dimension with it, by their codes, where they are at most
+/// For each choice of this many first places the first frozen dimension with it, by their codes, where they are at most
 /// `limit`. It takes memory for the list, and for a branch at each place.
 pub(crate) fn list(
     alloc: Global,

@@ -48,7 +48,7 @@ fn higher(best: Option<Lit>, next: Option<Lit>, scores: &[u32]) -> Option<Lit>
     }
 }
 
-// How much a literal's variable had to do with conflicts of late.
+// How much a literal's variable had to do with recent conflicts.
 fn score_of(scores: &[u32], lit: Lit) -> u32 {
     match scores.get(lit.variable as usize) {
         Some(score) => *score,
@@ -56,7 +56,7 @@ fn score_of(scores: &[u32], lit: Lit) -> u32 {
     }
 }
 
-// Of these edges the first in declaration order, or, where there are scores, the one of the highest, as its negation.
+// Of these edges the first in declaration order, or, if there are scores, the one of the highest, as its negation.
 fn pick_among(
     a: &Asker<'_>,
     trail: &Trail,
@@ -110,8 +110,8 @@ fn open_name(a: &Asker<'_>, trail: &Trail) -> Option<Lit>
     None
 }
 
-/// The negation of an open edge: of a category that present edges lead to from the root, and where there is none, of
-/// any that is known present; and where there is none, of an open name.
+/// The negation of an open edge: of a category that present edges lead to from the root, and if there is none, of
+/// any that is known present; and if there is none, of an open name.
 pub(crate) fn pick(a: &Asker<'_>, trail: &Trail, scores: &[u32], present: Categories) -> Option<Lit>
     requires task { IsTask (task_of a.now) }
     requires variables { length (values_of trail.now) ≡ a.now.layout.now.variables }

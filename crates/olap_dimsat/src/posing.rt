@@ -1,8 +1,9 @@
 // A task in an engine: its names, where its variables are, and room to learn in.
 ghost use Rattle.std.specs.Prelude.{◌≡◌, ◌≤◌, ℕ, Bool, [], IfOk, map};
-ghost use Rattle.olap_ast.specs.Constants.{all_comparisons, all_equalities};
+ghost use Rattle.olap_ast.specs.Atoms.{all_comparisons, all_equalities};
+ghost use Rattle.olap_ast.specs.Pairs.{pair_count};
 ghost use Rattle.olap_ast.specs.Trees.{constraint_of, formula_of};
-ghost use Rattle.olap_ast.specs.Valid.{IsFormulaAt, IsValidSchema, pair_count};
+ghost use Rattle.olap_ast.specs.Valid.{IsFormulaAt, IsValidSchema};
 ghost use Rattle.olap_base.specs.Graph.{IsCategory};
 ghost use Rattle.olap_base.specs.Limits.{most_constants};
 ghost use Rattle.olap_clauses.specs.Engines.{admits, trail_of, variables_of};
@@ -27,14 +28,14 @@ pub struct Posed {
     pub(crate) engine: Engine,
 }
 
-/// There is room for so many times as many literals of learned clauses as are given.
+/// The room for literals of learned clauses, as a multiple of the literals that are given.
 const TIMES_GIVEN: u32 = 4;
 
-/// As if at least so many were given: small schemas may need as much room to learn, and with less of it whole families
-/// of them don't end.
+/// The least room is that for this many given literals: small schemas may need as much room to learn, and with less of
+/// it the searches over whole families of schemas don't end.
 const LEAST_GIVEN: usize = 32_768;
 
-/// And as if at most so many were.
+/// And the most room is that for this many.
 const MOST_GIVEN: usize = 131_072;
 
 /// How many literals a learned clause has that the room for clauses is measured by.

@@ -1,9 +1,10 @@
 // The search as a value: room for one task.
 ghost use Rattle.std.specs.Prelude.{◌≡◌, ◌<◌, ◌≤◌, All, IfErr, IfOk, IsTrue, false, length, map, slice_set};
-ghost use Rattle.olap_ast.specs.Constants.{all_comparisons, all_equalities};
+ghost use Rattle.olap_ast.specs.Atoms.{all_comparisons, all_equalities};
+ghost use Rattle.olap_ast.specs.Pairs.{pair_count};
 ghost use Rattle.olap_ast.specs.Questions.{NoneFrozen};
 ghost use Rattle.olap_ast.specs.Trees.{formula_of};
-ghost use Rattle.olap_ast.specs.Valid.{IsFormulaAt, pair_count};
+ghost use Rattle.olap_ast.specs.Valid.{IsFormulaAt};
 ghost use Rattle.olap_base.specs.Graph.{IsCategory};
 ghost use Rattle.olap_base.specs.Limits.{most_constants};
 ghost use Rattle.olap_base.specs.Refusing.{IsFor};
@@ -104,7 +105,7 @@ impl Search {
         nothing(self.alloc, self.root, edges, names)
     }
 
-    /// The least frozen dimension whose root makes the question true. False where there is none; then `into` stays.
+    /// The least frozen dimension whose root makes the question true. False if there is none; then `into` stays.
     ///
     /// It can't return out of memory.
     pub fn first(&mut self, schema: &Schema, question: &Formula, into: &mut Frozen) -> bool
@@ -129,9 +130,9 @@ impl Search {
         true
     }
 
-    /// Any frozen dimension whose root makes the question true. False where there is none; then `into` stays.
+    /// Any frozen dimension whose root makes the question true. False if there is none; then `into` stays.
     ///
-    /// It can't return out of memory. It is one search, where `first` makes one more for each edge and each name that
+    /// It can't return out of memory. It is one search, whereas `first` makes one more for each edge and each name that
     /// may yet be less. Which one it finds may differ from call to call.
     pub fn any(&mut self, schema: &Schema, question: &Formula, into: &mut Frozen) -> bool
         requires made { IsMadeWith (schema_of schema.now) (formula_of question.now) self.old }
@@ -157,7 +158,7 @@ impl Search {
 
     /// Some frozen dimension whose root makes the question true, looked for where the target is likely reached by way
     /// of exactly the sources whose bits are in the mask. What it finds may be of another kind. It gives up soon:
-    /// false says nothing, and then `into` stays.
+    /// false means nothing, and then `into` stays.
     ///
     /// It can't return out of memory.
     pub fn look(
@@ -196,9 +197,9 @@ impl Search {
         true
     }
 
-    /// All frozen dimensions whose root makes the question true, by their codes, where they are at most `limit`.
+    /// All frozen dimensions whose root makes the question true, by their codes, if they are at most `limit`.
     ///
-    /// `TooMany`: exactly where there are more. It takes memory for the list, and for a branch at each edge and
+    /// `TooMany`: exactly if there are more. It takes memory for the list, and for a branch at each edge and
     /// category.
     pub fn all(
         &mut self,
@@ -236,9 +237,9 @@ impl Search {
     }
 
     /// For each set of edges that a frozen dimension has whose root makes the question true, the least one with these
-    /// edges, by their codes, where they are at most `limit`.
+    /// edges, by their codes, if they are at most `limit`.
     ///
-    /// `TooMany`: exactly where there are more. It takes memory as `all` does. What it goes through are sets of edges,
+    /// `TooMany`: exactly if there are more. It takes memory as `all` does. What it goes through are sets of edges,
     /// however many names each can have.
     pub fn shapes(
         &mut self,

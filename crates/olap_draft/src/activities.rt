@@ -11,7 +11,7 @@ pub(crate) struct Activities {
     step: u64,
 }
 
-/// The activity with a step more.
+/// The activity with one more step.
 fn raised(activity: u64, step: u64) -> u64 {
     if activity < MOST_ACTIVITY && step < MOST_ACTIVITY {
         activity + step
@@ -29,7 +29,7 @@ impl Activities {
         }
     }
 
-    /// Those of so many variables, before any reason.
+    /// Those of this many variables, before any reason.
     pub(crate) fn resize(&mut self, count: usize) -> Result<(), AllocError> {
         self.values.resize(count, 0)
     }

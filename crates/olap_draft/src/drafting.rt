@@ -1,4 +1,4 @@
-// A draft of a certificate, by a search of which nothing is promised.
+// A draft of a certificate, by a search about which nothing is promised.
 use crate::order::Order;
 use crate::searches::Search;
 use crate::steps::Words;
@@ -11,7 +11,7 @@ use olap_proof::{Form, push_bottom, push_head};
 use olap_schema::Schema;
 use std::alloc::Global;
 
-/// Appends the tree of a bottom category, after so much work on others.
+/// Appends the tree of a bottom category, after this much work on others.
 fn push_below(
     alloc: Global,
     asked: &Asked,

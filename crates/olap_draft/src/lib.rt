@@ -1,4 +1,4 @@
-//! Drafts of certificates, by a search of which nothing is promised.
+//! Drafts of certificates, by a search about which nothing is promised.
 //!
 //! A draft is a text that may be a certificate; whoever asks for one has it verified. Nothing is proved here but that
 //! each call returns, and does no harm.

@@ -170,7 +170,7 @@ impl Rows {
         }
     }
 
-    /// Sets for so many categories, and room to keep what changes in one step.
+    /// Sets for this many categories, and room to keep what changes in one step.
     pub(crate) fn resize(&mut self, count: usize) -> Result<(), AllocError> {
         self.drawn.resize(count, Categories::empty())?;
         self.led.resize(count, Categories::empty())?;
@@ -261,7 +261,7 @@ impl Rows {
         }
     }
 
-    /// The categories of which something has changed since.
+    /// The categories about which something has changed since.
     pub(crate) fn touched(&self) -> Categories {
         let mut touched = self.known.minus(self.kept_known);
         'kept: for i in 0..self.kept.len() {

@@ -89,7 +89,7 @@ impl<'a> Search<'a> {
         }
     }
 
-    /// Appends the lines of the tree that it finds below the root, after so much work on others. `Memory` also if it
+    /// Appends the lines of the tree that it finds below the root, after this much work on others. `Memory` also if it
     /// finds none, and the work is more than it may be.
     pub(crate) fn push_tree(
         &mut self,

@@ -13,7 +13,7 @@ use std::alloc::{AllocError, Global};
 /// formula.
 pub(crate) const MOST_WORK: usize = 1 << 26;
 
-/// What a decision has changed: categories of which something is known that wasn't, and whether an edge is present.
+/// What a decision has changed: the categories about which more is known, and whether an edge is present.
 #[derive(Clone, Copy)]
 pub(crate) struct Touched {
     categories: Categories,
@@ -54,7 +54,7 @@ impl Shape {
         self.decided.reserve(task)
     }
 
-    /// So many steps more.
+    /// Counts this many more steps.
     pub(crate) fn spend(&mut self, steps: usize) {
         let count = self.work.len().wrapping_add(steps);
         // Items without a size take no room, so they aren't refused.
@@ -185,7 +185,7 @@ impl Shape {
 
     // ---- decisions
 
-    /// One decision more. The categories of which something is known then that wasn't.
+    /// Makes one more decision. Returns the categories about which more is then known.
     pub(crate) fn decide(&mut self, task: &Task<'_>, decision: Decision) -> Touched {
         self.decided.push(task, decision);
         self.rows.keep();

@@ -21,7 +21,7 @@ pub(crate) enum Step {
     Implies,
     Iff,
     Xor,
-    /// Exactly one of so many.
+    /// Exactly one of this many.
     One(usize),
 }
 
@@ -39,7 +39,7 @@ impl Stack {
         }
     }
 
-    /// Takes room for so many values.
+    /// Takes room for this many values.
     pub(crate) fn reserve(&mut self, count: usize) -> Result<(), AllocError> {
         self.values.reserve(count)
     }

@@ -40,7 +40,8 @@ pub(crate) struct Asked<'a> {
     pub(crate) sources: &'a [CatId],
 }
 
-/// A formula that holds at each member of its root, where its steps stand, and of which categories it says something.
+/// A formula that holds at each member of its root, where its steps stand, and the categories about which it says
+/// something.
 #[derive(Clone, Copy)]
 struct Posed {
     root: CatId,
@@ -177,7 +178,7 @@ impl<'a> Task<'a> {
         Ok(())
     }
 
-    /// The root, and the categories of which a formula's steps say something.
+    /// The root, and the categories about which a formula's steps say something.
     fn scope_of(&self, root: CatId, steps: &[Step]) -> Categories {
         let mut scope = with(Categories::empty(), root);
         'steps: for i in 0..steps.len() {
@@ -413,7 +414,7 @@ impl<'a> Task<'a> {
         }
     }
 
-    /// The categories of which a constraint says something.
+    /// The categories about which a constraint says something.
     pub(crate) fn constraint_scope(&self, n: usize) -> Categories {
         if n < self.constraints.len() {
             self.constraints[n].scope
@@ -422,7 +423,7 @@ impl<'a> Task<'a> {
         }
     }
 
-    /// The categories of which the question says something.
+    /// The categories about which the question says something.
     pub(crate) fn question_scope(&self) -> Categories {
         self.question.scope
     }

@@ -8,8 +8,8 @@ use Rattle.olap_encoding.specs.Formulas.{AnyIs, TellsAt}
 use Rattle.olap_encoding.specs.Joining.{Joins, joined}
 use Rattle.olap_encoding.specs.declared.formulas.Connective.{Connective}
 use Rattle.olap_encoding.specs.declared.formulas.Connective.TheVariants.{Conjunction, Disjunction, Implication, Equivalence, Exclusion}
-use Rattle.olap_encoding.proofs.PartLemmas.{both_ok}
 use Rattle.olap_encoding.proofs.TellingLemmas.{tell_and, tell_or, tell_implies, tell_xor, tell_iff}
+use Rattle.olap_base.proofs.GeneralLemmas.{both_ok}
 
 -- what joins by one connective joins by the same under another name
 joins_as : {e : Encoding} {k m : Connective} {a b l : Lit} → k ≡ m → Joins e m a b l → Joins e k a b l
@@ -40,6 +40,7 @@ module _ {E : Type 0} (d e : Encoding) (a b : Lit) (r : Result Lit E) where
   joins_either {k} q n s = joins_by k (λ l. Says e l (EitherIs a b))
       (λ l n s. joins_as q (λ c x y u w. tell_xor e n.sound c l a b x y u w s)) n s
 
+-- the negation of an exclusive or joins two formulas as an equivalence
 pub joins_neither : {d e : Encoding} {k : Connective} (a b o l : Lit) → l ≡ negation o → k ≡ Equivalence → IsNext d e
     → Says e o (EitherIs a b) → Joins e k a b l
 joins_neither {d} {e} {k} a b o l z q n s = joins_as q (λ c x y u w. tell_iff e n.sound c o a b x y u w l z s)

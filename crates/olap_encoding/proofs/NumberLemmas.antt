@@ -20,6 +20,7 @@ use Rattle.olap_encoding.specs.Encoding.{Encoding, IsKnown, NameIs, Says}
 use Rattle.olap_encoding.proofs.GivenLemmas.{known_negated}
 use Rattle.olap_encoding.specs.Formulas.{AmongIs, AnyIs, IsLeading, Wants}
 use Rattle.olap_encoding.proofs.LiteralLemmas.{negated_is}
+use Rattle.olap_base.proofs.GeneralLemmas.{below_or_same}
 
 -- the index is that of one of the first k constants, which compares as it should
 abbrev pub AmongAt : List (List ℕ) → ℕ → ℕ → Op → ℤ → Bool → Type 0
@@ -96,17 +97,13 @@ turned_is v l false Q t = t
 pub among_none : (texts : List (List ℕ)) (i : ℕ) (op : Op) (n : ℤ) (want : Bool) → AmongAt texts i 0 op n want → ⊥
 among_none texts i op n want t = let l = t.1 in absurd (omega arith)
 
--- a place below the next is earlier, or this one
-newest : (j k : ℕ) → j < k + 1 → (j < k) ⊎ (j ≡ k)
-newest j k h = grind arith
-
 -- one constant more that doesn't compare so
 pub among_other : (texts : List (List ℕ)) (i k : ℕ) (op : Op) (n : ℤ) (want : Bool)
     → (Wants op n want (get_or texts k []) → ⊥)
     → AmongAt texts i k op n want ↔ AmongAt texts i (k + 1) op n want
 among_other texts i k op n want f = (
   λ t. (t.0, (let l = t.1 in omega arith), t.2, t.3),
-  λ t. elim (newest t.0 k t.1) [
+  λ t. elim (below_or_same t.0 k t.1) [
     | inl l ↦ (t.0, l, t.2, t.3)
     | inr e ↦ absurd (f (subst (λ j. Wants op n want (get_or texts j [])) e t.3))
   ],
@@ -121,7 +118,7 @@ among_more texts i k op n want w = (
     | inl a ↦ (a.0, (let l = a.1 in omega arith), a.2, a.3)
     | inr e ↦ (k, omega arith, omega arith, w)
   ],
-  λ t. elim (newest t.0 k t.1) [
+  λ t. elim (below_or_same t.0 k t.1) [
     | inl l ↦ inl (t.0, l, t.2, t.3)
     | inr e ↦ inr (let q = t.2 in omega arith)
   ],
@@ -135,14 +132,14 @@ module _ (names : List (List ℕ)) (op : Op) (n : ℤ) where
 
   pub leading_here : (k m : ℕ) → IsLeading names op n k m → k ≤ m → m ≤ k → IsNumbered (get_or names k []) op n
       → IsLeading names op n (k + 1) (m + 1)
-  leading_here k m a l o p j h = elim (newest j k h) [
+  leading_here k m a l o p j h = elim (below_or_same j k h) [
     | inl i ↦ (λ q. omega arith, λ q. (a j i).1 (omega arith))
     | inr e ↦ (λ q. omega arith, λ q. subst (λ i. IsNumbered (get_or names i []) op n) (sym e) p)
   ]
 
   pub leading_other : (k m : ℕ) → IsLeading names op n k m → m ≤ k → (IsNumbered (get_or names k []) op n → ⊥)
       → IsLeading names op n (k + 1) m
-  leading_other k m a l f j h = elim (newest j k h) [
+  leading_other k m a l f j h = elim (below_or_same j k h) [
     | inl i ↦ a j i
     | inr e ↦ (
       λ q. absurd (f (subst (λ i. IsNumbered (get_or names i []) op n) e q)),

@@ -31,7 +31,7 @@ next_entered e c d t p = other_pairs e (e.todo ++ (c, d) ∷ []) t (λ x g. pair
     pair x (inl g) = t.asked x g
     pair x (inr q) = subst (λ (y : ℕ × ℕ). IsPair e y.0 y.1) q p
 
--- with one pair more, or none, where there is no memory
+-- with one pair more, or none, if there is no memory
 pub next_pushed : (e : Encoding) (c d : ℕ) (b : Bool) (pairs : List (ℕ × ℕ))
     → pairs ≡ (if b then e.todo ++ (c, d) ∷ [] else e.todo) → IsSound e → IsPair e c d
     → IsNext e (record e { todo = pairs })

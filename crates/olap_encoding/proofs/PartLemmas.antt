@@ -1,6 +1,5 @@
 -- What the parts of a formula require, and how many nodes they have.
-use Rattle.std.proofs.Common.{◌≡◌, ℕ, ◌+◌, ◌<◌, Result, Ok, Err, refl, ap, subst, ◌∙◌, ◌⊎◌, inl, inr, arith}
-use Rattle.std.specs.Prelude.{IfOk}
+use Rattle.std.proofs.Common.{◌≡◌, ℕ, ◌+◌, ◌<◌, refl, ap, subst, ◌∙◌, ◌⊎◌, inl, inr, arith}
 use Rattle.olap_ast.specs.Formula as Meaning
 use Rattle.olap_ast.specs.Formula.{Formula.Truth, Formula.Falsity, Formula.Path, Formula.Reach, Formula.Via, Formula.Equals, Formula.Compare, Formula.Not, Formula.And, Formula.Or, Formula.Implies, Formula.Iff, Formula.Xor, Formula.One}
 use Rattle.olap_ast.specs.Trees.{formula_of, terms_of}
@@ -14,12 +13,6 @@ use Rattle.olap_encoding.specs.Joining.{joined}
 use Rattle.olap_encoding.specs.declared.formulas.Connective.{Connective}
 use Rattle.olap_encoding.specs.declared.formulas.Connective.TheVariants.{Conjunction, Disjunction, Implication, Equivalence, Exclusion}
 use Rattle.olap_encoding.proofs.SplittingLemmas.{spoken_as}
-
--- what follows from both of two facts of a result
-pub both_ok : {A E : Type 0} (r : Result A E) (P Q R : A → Type 0) → ((a : A) → P a → Q a → R a) → IfOk r P
-    → IfOk r Q → IfOk r R
-both_ok (Ok a) P Q R f p q = f a p q
-both_ok (Err e) P Q R f p q = p
 
 -- a formula has a node
 pub has_node : (x : Meaning.Formula) → 0 < node_count x
@@ -71,9 +64,11 @@ joined_spoken p Exclusion x y s = s
 
 -- ---- the same parts by two names
 
+-- equal parts have equally many nodes
 pub counted_terms : {x y : Terms} → x ≡ y → node_count_of_terms (terms_of x) ≡ node_count_of_terms (terms_of y)
 counted_terms q = ap (λ (z : Terms). node_count_of_terms (terms_of z)) q
 
+-- and if one list of equal parts speaks of the question, so does the other
 pub terms_spoken_as : (p : Question) {x y : Terms} → x ≡ y → AreSpoken p (terms_of x) → AreSpoken p (terms_of y)
 terms_spoken_as p q s = subst (λ (z : Terms). AreSpoken p (terms_of z)) q s
 

@@ -56,6 +56,7 @@ module _ (i : Instance) (m : ℕ) where
 
 -- ---- conjuncts
 
+-- a conjunction is both of its parts
 pub conjuncts_of_and : (x y : Formula) → AreConjuncts true (And x y) true x true y
 conjuncts_of_and x y = record {
   both = λ i m h. h;
@@ -64,6 +65,7 @@ conjuncts_of_and x y = record {
   spoken = λ q s. s;
 }
 
+-- a disjunction that is false is both parts, negated
 pub conjuncts_of_or : (x y : Formula) → AreConjuncts false (Or x y) false x false y
 conjuncts_of_or x y = record {
   both = λ i m h. all_of_or i m x y h;
@@ -72,6 +74,7 @@ conjuncts_of_or x y = record {
   spoken = λ q s. s;
 }
 
+-- an implication that is false is its first part, and its second part negated
 pub conjuncts_of_implies : (x y : Formula) → AreConjuncts false (Implies x y) true x false y
 conjuncts_of_implies x y = record {
   both = λ i m h. all_of_implies i m x y h;

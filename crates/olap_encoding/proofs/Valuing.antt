@@ -1,10 +1,9 @@
 -- The valuation of a frozen dimension gives each variable the value of its meaning.
 use Rattle.std.proofs.Common.{◌≡◌, ℕ, zero, suc, ◌<◌, ◌≤◌, List, length, Bool, true, false, cond, refl, ap, sym, subst, ◌∙◌, ◌↔◌, ◌⊎◌, inl, inr, arith}
-use Rattle.std.specs.Prelude.{◌==◌, IsTrue, nat_le, not}
-use Rattle.std.proofs.lemmas.Bool.Decides.{nat_tests}
+use Rattle.std.specs.Prelude.{◌==◌, IsTrue, not}
 use Rattle.olap_base.specs.Steps.{Steps-from_reaches, reaches_from_Steps}
 use Rattle.olap_base.specs.Reaching.{category_reaches, category_reaches_is}
-use Rattle.olap_base.proofs.ListLemmas.{both_true, first_true, second_true}
+use Rattle.olap_base.proofs.ListLemmas.{first_true, second_true}
 use Rattle.olap_ast.specs.Schema.{Schema}
 use Rattle.olap_ast.specs.Frozen.{Frozen, is_present}
 use Rattle.olap_encoding.specs.Literals.{Valuation, value}
@@ -12,7 +11,7 @@ use Rattle.olap_encoding.specs.Meanings.{edges_of, index_of, Means, IsEither, me
 use Rattle.olap_encoding.specs.declared.meanings.Meaning.{Meaning}
 use Rattle.olap_encoding.specs.declared.meanings.Meaning.TheVariants.{Always, On, Named, UpTo, Present, Reaching, Both, Differ}
 use Rattle.olap_encoding.proofs.LiteralLemmas.{value_is}
-use Rattle.olap_ast.proofs.Shape.{same_is, is_same}
+use Rattle.std.proofs.lemmas.Bool.{and_from, leb-true, eqb-true, eq-eqb, le-leb}
 
 -- ---- whether a meaning holds
 
@@ -23,34 +22,26 @@ differ_is true false = (λ e i. let z : false ≡ true = i.0 refl in cc, λ n. r
 differ_is false true = (λ e i. let z : false ≡ true = i.1 refl in cc, λ n. refl)
 differ_is false false = (λ e i. cc, λ n. absurd (n (λ x. x, λ x. x)))
 
--- at most by the test is at most
-at_most : (a b : ℕ) → nat_le a b ≡ true → a ≤ b
-at_most a b e = grind (arith, nat_tests)
-
--- and the other way
-is_at_most : (a b : ℕ) → a ≤ b → nat_le a b ≡ true
-is_at_most a b h = grind (arith, nat_tests)
-
 -- the test of a meaning says whether it holds
 truth_is : (s : Schema) (r : ℕ) (f : Frozen) (v : Valuation) (m : Meaning) → IsTrue (truth_of s r f v m)
     ↔ Means s r f v m
 truth_is s r f v Always = (λ e. tt, λ t. refl)
 truth_is s r f v (On e) = (λ h. h, λ h. h)
-truth_is s r f v (Named c k) = (same_is (index_of f c) k, is_same (index_of f c) k)
-truth_is s r f v (UpTo c k) = (at_most (index_of f c) k, is_at_most (index_of f c) k)
+truth_is s r f v (Named c k) = (eqb-true (index_of f c) k, eq-eqb (index_of f c) k)
+truth_is s r f v (UpTo c k) = (leb-true (index_of f c) k, le-leb (index_of f c) k)
 truth_is s r f v (Present c) = (λ h. h, λ h. h)
 truth_is s r f v (Reaching c d) =
     let a = is_present r (edges_of s f) c in
     let b = category_reaches (chosen_graph (edges_of s f)) c d in
     let t = category_reaches_is (chosen_graph (edges_of s f)) c d in (
       λ h. (first_true a b h, Steps-from_reaches (t.0 (second_true a b h))),
-      λ h. both_true a b h.0 (t.1 (reaches_from_Steps h.1)),
+      λ h. and_from a b h.0 (t.1 (reaches_from_Steps h.1)),
     )
 truth_is s r f v (Both a b) =
     let p = value_is v a in
     let q = value_is v b in (
       λ h. (p.0 (first_true (value v a) (value v b) h), q.0 (second_true (value v a) (value v b) h)),
-      λ h. both_true (value v a) (value v b) (p.1 h.0) (q.1 h.1),
+      λ h. and_from (value v a) (value v b) (p.1 h.0) (q.1 h.1),
     )
 truth_is s r f v (Differ a b) =
     let p = value_is v a in
@@ -86,11 +77,11 @@ module _ (s : Schema) (r : ℕ) (f : Frozen) (ms : List Meaning) where
   new_value : (n : ℕ) → valuation s r f ms (suc n) n ≡ truth_of s r f (valuation s r f ms n) (meaning_at ms n)
   unfolding valuation
   new_value n = ap (λ b. cond b (truth_of s r f (valuation s r f ms n) (meaning_at ms n)) (valuation s r f ms n n))
-      (is_same n n refl)
+      (eq-eqb n n refl)
 
   old_value : (n x : ℕ) → x < n → valuation s r f ms (suc n) x ≡ valuation s r f ms n x
   unfolding valuation
-  old_value n x h = go (x == n) (λ e. let q = same_is x n e in omega arith)
+  old_value n x h = go (x == n) (λ e. let q = eqb-true x n e in omega arith)
     where
       go : (b : Bool) → (b ≡ true → ⊥)
           → cond b (truth_of s r f (valuation s r f ms n) (meaning_at ms n)) (valuation s r f ms n x)

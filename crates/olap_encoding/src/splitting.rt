@@ -64,7 +64,7 @@ fn push_literal(
     Ok(())
 }
 
-// The literals of the alternatives of a formula, or of its negation, behind those that are there.
+// The literals of the alternatives of a formula, or of its negation, after those that are there.
 fn alternatives(
     e: &mut Encoder,
     c: CatId,
@@ -141,7 +141,7 @@ fn require(e: &mut Encoder, c: CatId, f: &Formula, holds: bool) -> Result<(), Me
     one_clause(e, c, f, holds)
 }
 
-/// The clauses of a constraint: none, where the root doesn't walk to its category.
+/// The clauses of a constraint: none, if no walk leads from the root to its category.
 pub fn constraint(e: &mut Encoder, k: &Constraint) -> Result<(), Memory>
     requires sound { IsSound (encoding_of e.old) }
     requires category { IsCategory e.old.question.graph.now k.now.root.0 }

@@ -23,7 +23,7 @@ and_yes No = refl
 and_yes Yes = refl
 and_yes Unknown = refl
 
--- nor with what is true behind
+-- nor with what is true after
 pub yes_and : (x : Truth3) → and x Yes ≡ x
 yes_and No = refl
 yes_and Yes = refl

@@ -12,6 +12,7 @@ use Rattle.olap_ast.specs.declared.formulas.Formula.{Formula}
 use Rattle.olap_ast.specs.declared.formulas.Formula.TheVariants.{Reach, Via, Equals, Compare}
 use Rattle.olap_base.specs.declared.ids.CatId.{CatId}
 use Rattle.olap_eval.specs.Shapes.{IsShape, HasEdgeThere, ReachesThere, HasNameThere, HasNumberThere}
+use Rattle.olap_base.proofs.GeneralLemmas.{iff_trans}
 
 module _ (i : Instance) (present : ℕ → Bool) (place : ℕ → ℕ) (s : IsShape i present place) (root : ℕ)
     (p : IsTrue (present root)) where
@@ -143,15 +144,7 @@ pub follow_done : {i : Instance} {present : ℕ → Bool} {place : ℕ → ℕ} 
 follow_done {i} {present} {place} {P} {at} f e =
     (λ t. f.from (subst (λ l. HasPath i (place at) l) (sym e) (path_none i (place at))), λ q. refl)
 
--- a test that is false refutes what it tests
-pub refuted : {P : Type 0} (r : Bool) → r ≡ false → IsTrue r ↔ P → P → ⊥
-refuted r e d p = let z : false ≡ true = sym e ∙ d.1 p in cc
-
 -- ---- answers one after another
-
--- one equivalence after another
-pub iff_trans : {A B C : Type 0} → A ↔ B → B ↔ C → A ↔ C
-iff_trans f g = (λ a. g.0 (f.0 a), λ c. f.1 (g.1 c))
 
 -- where the first test is true the second tells of both
 pub iff_both : {A B : Type 0} (r q : Bool) → r ≡ true → IsTrue r ↔ A → IsTrue q ↔ B → IsTrue q ↔ (A × B)

@@ -1,4 +1,4 @@
--- Shapes: of some members at most one of each category, with all that these reach.
+-- Shapes: some members, at most one of each category, with all that they reach.
 --     IsShape         the present categories have a member each, and what these reach is among them
 --     HasEdgeThere    both categories are present, and the first one's member is below the second's
 --     ReachesThere    both are present, and the first one's member reaches the second's

@@ -9,7 +9,7 @@ use olap_base::{CatId, Text};
 
 /// At most one member for each category, closed under what these reach.
 ///
-/// It stands for an instance, of which it shows the present categories and the place of each one's member. The
+/// It stands for an instance, and shows its present categories and the place of each one's member. The
 /// instance may have other members, and several of one category: only what present members reach counts.
 pub trait Shape {
     ghost instance: { Self → Instance };

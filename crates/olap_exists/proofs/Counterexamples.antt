@@ -15,8 +15,9 @@ use Rattle.olap_ast.specs.Schema.{Schema}
 use Rattle.olap_ast.specs.Summarizable.{IsCounterexample, SummarizableExactlyIfNoneFrozen, not_by_one}
 use Rattle.olap_ast.proofs.Least.{IsLeast, least}
 use Rattle.olap_exists.specs.Existing.{CounterexamplesExist}
-use Rattle.olap_exists.proofs.Finite.{dec_each, dec_not}
+use Rattle.olap_exists.proofs.Finite.{dec_each}
 use Rattle.olap_exists.proofs.FrozenListed.{least_frozen_exist}
+use Rattle.olap_base.proofs.DecisionLemmas.{dec_not}
 
 -- whether it is a bottom category
 pub dec_bottom : (g : Graph) (b : ℕ) → Dec (IsBottom g b)

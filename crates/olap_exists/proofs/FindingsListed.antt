@@ -9,7 +9,7 @@ use mathlib.Core.List.{List-discrete}
 use Rattle.olap_base.specs.Deciding.{contains_cases, contains_cons, dec_and, dec_iff}
 use Rattle.olap_base.specs.Graph.{Edge}
 use Rattle.olap_base.specs.Ranks.{AreExactly, IsNotAfter}
-use Rattle.olap_base.proofs.ListLemmas.{Contains-from_map, Contains-map, Contains-nil, contains_head}
+use Rattle.olap_base.proofs.ListLemmas.{Contains-from_map, Contains-map, Contains-nil, contains_head, Contains-slice_get}
 use Rattle.olap_ast.specs.Constants.{FreshNamesExist, HasKinds}
 use Rattle.olap_ast.specs.Findings.{Finding, Finding.Redundant, Finding.Unsatisfiable, Finding.Unused, IsFinding, IsRedundant, IsUnsatisfiable, IsUnused, finding_rank, without}
 use Rattle.olap_ast.specs.Formula.{Formula.Not, Formula.Path, Formula.Truth}
@@ -22,8 +22,8 @@ use Rattle.olap_ast.proofs.Least.{Fits}
 use Rattle.olap_ast.proofs.SameAtoms.{kinds_too}
 use Rattle.olap_exists.specs.Existing.{FindingsExist}
 use Rattle.olap_exists.proofs.Counterexamples.{dec_none}
-use Rattle.olap_exists.proofs.Finite.{dec_not}
 use Rattle.olap_exists.proofs.Listed.{AllLists, IsAhead, all_lists, all_pairs, from_either, ordered_map}
+use Rattle.olap_base.proofs.DecisionLemmas.{dec_not}
 
 -- ---- kinds
 
@@ -57,12 +57,6 @@ kept cs k c m = elim (from_either (take k cs) (drop (suc k) cs) c m) [
     of_drop (d ∷ ds) zero c h = h
     of_drop (d ∷ ds) (suc k) c h = contains_cons c ds d (of_drop ds k c h)
 
--- what stands at a place is there
-found : {A : Type 0} (xs : List A) (k : ℕ) (x : A) → slice_get xs k ≡ Some x → Contains xs x
-found [] k x e = absurd (cc)
-found (y ∷ ys) zero x e = (0, omega arith, cc)
-found (y ∷ ys) (suc k) x e = contains_cons x ys y (found ys k x e)
-
 -- and the place is one of the list
 place_below : {A : Type 0} (xs : List A) (k : ℕ) (x : A) → slice_get xs k ≡ Some x → k < length xs
 place_below [] k x e = absurd (cc)
@@ -74,7 +68,7 @@ without_kinds : (s : Schema) (j : ℕ) (c : Constraint) → IsValidSchema s → 
     → HasKinds (without s j) (Not c.formula)
 without_kinds s j c v e =
     has_kinds (without s j) c.root (Not c.formula) (λ d h. v.formulas d (kept s.constraints j d h))
-    (v.formulas c (found s.constraints j c e))
+    (v.formulas c (Contains-slice_get s.constraints j c e))
 
 -- ---- ranks
 
@@ -193,6 +187,7 @@ module _ (fresh : FreshNamesExist) (exist : CandidatesExist) (unsatisfiable : Un
         λ e. h.1 (sym p.0 ∙ ap finding_rank e ∙ q.0),
       )
 
+-- a valid schema has a list of exactly its findings
 pub findings_exist : FreshNamesExist → CandidatesExist → UnsatisfiableExactlyIfNoneFrozen
     → RedundantExactlyIfNoneFrozen → UnusedExactlyIfNoneFrozen → FindingsExist
 findings_exist fresh exist unsatisfiable redundant unused s v =

@@ -14,6 +14,7 @@ use Rattle.olap_ast.proofs.Least.{Fits}
 use Rattle.olap_exists.specs.Existing.{FrozenAreListed, LeastFrozenExist}
 use Rattle.olap_exists.proofs.DecidingFrozen.{dec_frozen}
 use Rattle.olap_exists.proofs.Listed.{AllLists, AreListed, IsAhead, all_lists, all_pairs, ordered_map}
+use Rattle.olap_base.proofs.RankLemmas.{not_after_itself}
 
 -- ---- codes
 
@@ -28,6 +29,7 @@ edges_in (suc e) [] = []
 edges_in (suc e) (zero ∷ xs) = false ∷ edges_in e xs
 edges_in (suc e) (suc x ∷ xs) = true ∷ edges_in e xs
 
+-- the indexes of names in a code, after its edges
 names_in : ℕ → List ℕ → List ℕ
 names_in zero xs = xs
 names_in (suc e) [] = []
@@ -37,17 +39,20 @@ names_in (suc e) (x ∷ xs) = names_in e xs
 decode : ℕ → List ℕ → Frozen
 decode e xs = record { edges = edges_in e xs; names = names_in e xs }
 
+-- the edges are read back from a code
 edges_back : (bs : List Bool) (ns : List ℕ) → edges_in (length bs) (bits bs ++ ns) ≡ bs
 unfolding edges_in
 edges_back [] ns = refl
 edges_back (true ∷ bs) ns = ap (λ l. true ∷ l) (edges_back bs ns)
 edges_back (false ∷ bs) ns = ap (λ l. false ∷ l) (edges_back bs ns)
 
+-- and so are the indexes of names
 names_back : (bs : List Bool) (ns : List ℕ) → names_in (length bs) (bits bs ++ ns) ≡ ns
 unfolding names_in
 names_back [] ns = refl
 names_back (b ∷ bs) ns = names_back bs ns
 
+-- so a choice is read back from its code
 decode_code : (e : ℕ) (f : Frozen) → length f.edges ≡ e → decode e (code f) ≡ f
 unfolding decode
 decode_code e f h = subst (λ n. decode n (code f) ≡ f) h
@@ -60,6 +65,7 @@ above_names : (ℕ → ℕ) → ℕ → ℕ
 above_names t zero = 2
 above_names t (suc n) = suc (t n) + above_names t n
 
+-- each category has fewer names than that
 names_below : (t : ℕ → ℕ) (n c : ℕ) → c < n → t c < above_names t n
 unfolding above_names
 names_below t zero c h = absurd (omega arith)
@@ -72,15 +78,18 @@ names_below t (suc n) c h = go (split c n h) (names_below t n c)
     go (inl e) rest = subst (λ m. t m < suc (t n) + above_names t n) (sym e) (omega arith)
     go (inr l) rest = let i = rest l in omega (arith, i)
 
+-- and that number is above 1, so the bits of edges are below it too
 two_below : (t : ℕ → ℕ) (n : ℕ) → 1 < above_names t n
 unfolding above_names
 two_below t zero = omega arith
 two_below t (suc n) = let i = two_below t n in omega (arith, i)
 
+-- indexes below a bound fit it
 fits_names : (n : ℕ) (ns : List ℕ) → ((c : ℕ) → c < length ns → slice_index ns c < n) → Fits (length ns) n ns
 fits_names n [] f = tt
 fits_names n (x ∷ ns) f = (f 0 (omega arith), fits_names n ns (λ c l. f (suc c) (omega arith)))
 
+-- and so does a code, if the bound is above 1
 fits_code : (m n : ℕ) (bs : List Bool) (ns : List ℕ) → length bs + length ns ≡ m → 1 < n → Fits (length ns) n ns
     → Fits m n (bits bs ++ ns)
 fits_code m n [] ns e l h = subst (λ x. Fits x n ns) (let z : length ns ≡ m = omega arith in z) h
@@ -156,11 +165,7 @@ module _ (exist : FreshNamesExist) (s : Schema) (q : Formula) (r : ℕ) (k : Can
         λ e. h.1 (sym p.0 ∙ ap code e ∙ q.0),
       )
 
--- a list comes not after itself
-same_list : (xs : List ℕ) → IsNotAfter xs xs
-same_list [] = tt
-same_list (x ∷ xs) = inr (refl, same_list xs)
-
+-- there is a least frozen dimension, or none at all
 pub least_frozen_exist : FreshNamesExist → LeastFrozenExist
 least_frozen_exist exist s q r k are = go (frozen_listed exist s q r k are)
   where
@@ -173,7 +178,7 @@ least_frozen_exist exist s q r k are = go (frozen_listed exist s q r k are)
         candidates = are;
         is_one = l.sound f (contains_head f fs);
         least = λ h z. elim (contains_cases h f fs (l.complete h z)) [
-          | inl e ↦ subst (λ (x : Frozen). IsNotAfter (code f) (code x)) e (same_list (code f))
+          | inl e ↦ subst (λ (x : Frozen). IsNotAfter (code f) (code x)) e (not_after_itself (code f))
           | inr c ↦ (l.ordered.0 h c).0
         ];
       },

@@ -1,7 +1,7 @@
 -- All lists of numbers, and all frozen dimensions, with a property that can be decided, in order.
 --     Ordered       each element is before each later one
 --     AreListed     exactly the things with a property, in an order
---     all_lists     the lists of so many small numbers with a property are listed
+--     all_lists     the lists of this many small numbers with a property are listed
 use Rattle.std.proofs.Common.{◌≡◌, ℕ, zero, suc, ◌+◌, ◌<◌, ◌≤◌, List, [], ◌∷◌, ◌++◌, map, get_or, refl, sym, subst, inl, inr, arith}
 use Rattle.std.specs.Prelude.{◌⊎◌, ◌≢◌, AllPairs, Contains}
 use Rattle.std.proofs.lemmas.List.Elements.{Contains-get_or}
@@ -9,6 +9,7 @@ use Rattle.olap_base.specs.Deciding.{contains_cases, contains_cons}
 use Rattle.olap_base.proofs.ListLemmas.{Contains-from_map, Contains-map, Contains-nil, contains_head}
 use Rattle.olap_base.specs.Ranks.{IsNotAfter}
 use Rattle.olap_ast.proofs.Least.{Fits}
+use Rattle.olap_base.proofs.GeneralLemmas.{equal_or_less}
 
 -- each element is before each later one
 abbrev pub Ordered : {X : Type 0} → (X → X → Type 0) → List X → Type 0
@@ -29,8 +30,9 @@ pub record AreListed {X : Type 0} (R : X → X → Type 0) (P : X → Type 0) (a
   pub sound : (x : X) → Contains all x → P x
   pub complete : (x : X) → P x → Contains all x
 
--- ---- two lists, one behind the other
+-- ---- two lists, one after the other
 
+-- what is in two lists joined is in one of them
 pub from_either : {X : Type 0} (xs ys : List X) (z : X) → Contains (xs ++ ys) z → Contains xs z ⊎ Contains ys z
 from_either [] ys z c = inr c
 from_either (x ∷ xs) ys z c = elim (contains_cases z x (xs ++ ys) c) [
@@ -38,6 +40,7 @@ from_either (x ∷ xs) ys z c = elim (contains_cases z x (xs ++ ys) c) [
   | inr h ↦ elim (from_either xs ys z h) [ inl a ↦ inl (contains_cons z xs x a) | inr b ↦ inr b ]
 ]
 
+-- what is in the first list is in both joined
 pub in_left : {X : Type 0} (xs ys : List X) (z : X) → Contains xs z → Contains (xs ++ ys) z
 in_left [] ys z c = absurd (Contains-nil z c)
 in_left (x ∷ xs) ys z c = elim (contains_cases z x xs c) [
@@ -45,10 +48,12 @@ in_left (x ∷ xs) ys z c = elim (contains_cases z x xs c) [
   | inr h ↦ contains_cons z (xs ++ ys) x (in_left xs ys z h)
 ]
 
+-- what is in the second list is in both joined
 pub in_right : {X : Type 0} (xs ys : List X) (z : X) → Contains ys z → Contains (xs ++ ys) z
 in_right [] ys z c = c
 in_right (x ∷ xs) ys z c = contains_cons z (xs ++ ys) x (in_right xs ys z c)
 
+-- two ordered lists joined are ordered, if each element of the first comes before each of the second
 ordered_both : {X : Type 0} (R : X → X → Type 0) (xs ys : List X) → Ordered R xs → Ordered R ys
     → ((x y : X) → Contains xs x → Contains ys y → R x y) → Ordered R (xs ++ ys)
 ordered_both R [] ys a b f = b
@@ -73,6 +78,7 @@ ordered_map R S f (x ∷ xs) h o = (
 abbrev pub IsAhead : List ℕ → List ℕ → Type 0
 IsAhead xs ys = IsNotAfter xs ys × (xs ≢ ys)
 
+-- the lists of numbers with a property are listed in their order
 abbrev pub AllLists : (List ℕ → Type 0) → Type 0
 AllLists P = (all : List (List ℕ)) × AreListed IsAhead P all
 
@@ -81,13 +87,12 @@ abbrev Within : (List ℕ → Type 0) → ℕ → ℕ → List ℕ → Type 0
 Within P j c [] = ⊥
 Within P j c (x ∷ xs) = (j ≤ x) × (x < j + c) × P (x ∷ xs)
 
--- behind one first number
+-- after one first number
 behind_head : (j : ℕ) (xs ys : List ℕ) → IsAhead xs ys → IsAhead (j ∷ xs) (j ∷ ys)
 behind_head j xs ys a = (inr (refl, a.0), λ e. a.1 (let q : xs ≡ ys = cc in q))
 
-same_or_more : (j x : ℕ) → j ≤ x → (j ≡ x) ⊎ (suc j ≤ x)
-same_or_more j x l = grind arith
-
+-- a number from j on is j, or is from j + 1 on
+-- if the rests of the lists are listed for each first number, so are the lists with one of c first numbers
 by_heads : (P : List ℕ → Type 0) → ((x : ℕ) → AllLists (λ xs. P (x ∷ xs))) → (c j : ℕ) → AllLists (Within P j c)
 by_heads P r zero j = (
   [],
@@ -139,7 +144,7 @@ by_heads P r (suc c) j = go (r j) (by_heads P r c (suc j))
 
         complete : (x : List ℕ) → Within P j (suc c) x → Contains (map (λ xs. j ∷ xs) a.0 ++ b.0) x
         complete [] w = absurd w
-        complete (x ∷ xs) w = elim (same_or_more j x w.0) [
+        complete (x ∷ xs) w = elim (equal_or_less j x w.0) [
           | inl e ↦ in_left (map (λ ys. j ∷ ys) a.0) b.0 (x ∷ xs)
               (subst (λ y. Contains (map (λ ys. j ∷ ys) a.0) (y ∷ xs)) e
               (Contains-map (λ ys. j ∷ ys) a.0 xs (a.1.complete xs (subst (λ y. P (y ∷ xs)) (sym e) w.2))))

@@ -1,4 +1,4 @@
-// What there is. Each law is the clause of a function that does nothing but call others.
+// Which answers exist. Each law is the clause of a function that does nothing but call others.
 ghost use Rattle.olap_exists.specs.Existing.{CounterexamplesExist, FindingsExist, FrozenAreListed, LeastFrozenExist};
 
 use olap_ast::{

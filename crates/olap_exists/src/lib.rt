@@ -1,5 +1,5 @@
-//! That there is what answers a question about all legal instances of a schema: a least frozen dimension or none, the
-//! list of all of them, a counterexample, the list of findings.
+//! Each question about all legal instances of a schema has an answer: a least frozen dimension or none, the list of all
+//! of them, a counterexample, the list of findings.
 //!
 //! Nothing here runs: `specs/` says what there is, and each law is proved by deciding, choice by choice of edges and
 //! names, whether it is a frozen dimension.

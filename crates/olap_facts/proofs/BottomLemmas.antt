@@ -16,7 +16,7 @@ edge d c = record { child = d; parent = c }
 abbrev SomeEdge : ℕ → List Edge → Type 0
 SomeEdge c es = (d : ℕ) × Contains es (record { child = d; parent = c })
 
--- some edge's parent is c exactly where some category has an edge to it
+-- some edge's parent is c exactly if some category has an edge to it
 some_edge : (c : ℕ) (es : List Edge) → IsTrue (list_any (λ e. e.parent == c) es) ↔ SomeEdge c es
 some_edge c [] = (λ t. absurd (cc), λ t. absurd (Contains-nil (edge t.0 c) t.1))
 some_edge c (e ∷ es) =

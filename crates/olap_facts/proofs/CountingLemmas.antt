@@ -14,7 +14,7 @@ use Rattle.olap_facts.proofs.HeaderLemmas.{header-found}
 use Rattle.olap_facts.specs.Feeding.{Counted, IsFresh, IsGoing}
 use Rattle.olap_records.specs.Tables.{begins_with, or_read}
 
-module _ (most : ℕ) (g : Graph) (i : Instance) (handed : ℕ) (done : List (List (List ℕ))) (facts : List Fact)
+module _ (most : ℕ) (g : Graph) (i : Instance) (handed : ℕ) (done : List (List (List ℕ))) (facts : List (Fact ℕ))
     (row : List (List ℕ)) where
   abbrev fault : List (List (List ℕ)) → List (List ℕ) → Option FactKind
   fault = fact_fault_within most g i
@@ -54,7 +54,7 @@ module _ (most : ℕ) (g : Graph) (i : Instance) (handed : ℕ) (done : List (Li
     one-on left = h.faults (row ∷ left)
 
     -- one fact more
-    pub counted-fact : (f : Fact) → fault h.rows row ≡ None → f ≡ fact_read i row
+    pub counted-fact : (f : Fact ℕ) → fault h.rows row ≡ None → f ≡ fact_read i row
         → Counted most g i (handed + 1) true (done ++ row ∷ []) (facts ++ f ∷ [])
     counted-fact f none e = record {
       fresh = λ f. cc f;
@@ -64,7 +64,7 @@ module _ (most : ℕ) (g : Graph) (i : Instance) (handed : ℕ) (done : List (Li
         parts = ap (λ d. d ++ row ∷ []) h.parts;
         header = h.header;
         count = length-append h.rows (row ∷ []) ∙ ap (λ n. n + 1) h.count;
-        facts_are = ap (λ fs. fs ++ f ∷ []) h.facts_are ∙ ap (λ (x : Fact). map (fact_read i) h.rows ++ x ∷ []) e
+        facts_are = ap (λ fs. fs ++ f ∷ []) h.facts_are ∙ ap (λ (x : Fact ℕ). map (fact_read i) h.rows ++ x ∷ []) e
             ∙ sym (map-append (fact_read i) h.rows (row ∷ []));
         faults = λ left.
             ap (first_fault fault []) (append_assoc h.rows (row ∷ []) left)
@@ -84,7 +84,8 @@ module _ (most : ℕ) (g : Graph) (i : Instance) (handed : ℕ) (done : List (Li
         ∙ ap (λ n. Err (record { at = n + 2; kind = k })) h.count)
 
 -- at the end of the text, these are its facts
-pub all-counted : (most : ℕ) (g : Graph) (i : Instance) (handed : ℕ) (done : List (List (List ℕ))) (facts : List Fact)
+pub all-counted : (most : ℕ) (g : Graph) (i : Instance) (handed : ℕ) (done : List (List (List ℕ)))
+    (facts : List (Fact ℕ))
     → IsGoing most g i handed done facts → facts_read_within most g i done ≡ Ok facts
 all-counted most g i handed done facts h =
     let fault = fact_fault_within most g i in
@@ -94,7 +95,7 @@ all-counted most g i handed done facts h =
     ∙ rw h.header (ap (λ o. or_read o (Ok (map (fact_read i) h.rows))) none ∙ ap Ok (sym h.facts_are))
 
 -- a text without a record has no header
-pub no-header : (most : ℕ) (g : Graph) (i : Instance) (handed : ℕ) (done : List (List (List ℕ))) (facts : List Fact)
+pub no-header : (most : ℕ) (g : Graph) (i : Instance) (handed : ℕ) (done : List (List (List ℕ))) (facts : List (Fact ℕ))
     → IsFresh handed done facts
     → facts_read_within most g i done ≡ Err (record { at = 1; kind = kind.BadHeader })
 no-header most g i handed done facts h = ap (facts_read_within most g i) h.none

@@ -57,7 +57,7 @@ module _ (piece : List ℕ) (at n : ℕ) (found : Bool) (row : List (List ℕ)) 
         ∙ ap (λ b. behind (records_if b row) new) e
 
 -- the last record, which the text's end ends
-module _ (r : Feeding) (fed : List ℕ) (facts : List Fact) (done : List (List (List ℕ))) (row : List (List ℕ)) where
+module _ (r : Feeding) (fed : List ℕ) (facts : List (Fact ℕ)) (done : List (List (List ℕ))) (row : List (List ℕ)) where
   pub last-taken : records_fed fed ≡ done ++ row ∷ [] → (result : Result (Option told.Fact) (Refusal (Fault FactKind)))
       → MatchResult result
       (λ o. MatchOption o (Counted r.most r.graph r.instance r.handed true (done ++ row ∷ []) facts)

@@ -1,5 +1,4 @@
 -- What is read has 64 bits.
---     told-where       what is told only where a test holds
 --     value-fits       a value that is spelled has 64 bits
 --     read-facts-fit   so have the values of the facts that are read
 use Rattle.std.proofs.Common.{◌≡◌, ℕ, ℤ, pos, List, [], ◌∷◌, Bool, true, false, cond, map, Option, None, Some, refl, subst, w64}
@@ -17,17 +16,13 @@ use Rattle.olap_numerals.specs.Values.{is_numeral, value_of}
 use Rattle.olap_numerals.proofs.Spelling.{i64-decides, is_i64}
 use Rattle.olap_records.specs.Faults.{field, first_fault}
 use Rattle.olap_records.specs.Tables.{begins_with, or_read}
-
--- what is told only where a test holds
-pub told-where : {A : Type 0} (b : Bool) (x y : A) → cond b (Some x) None ≡ Some y → (b ≡ true) × (x ≡ y)
-told-where true x y e = (refl, cc)
-told-where false x y e = absurd (cc)
+use Rattle.std.proofs.lemmas.Option.{cond_some}
 
 -- a value that is spelled has 64 bits
 pub value-fits : (text : List ℕ) (n : ℤ) → value_of text ≡ Some n → FitsSigned w64 n
 value-fits text n e =
     let z = signed_digits_value 10 text in
-    let t = told-where (is_numeral (without_leading_sign text) && is_i64 z) z n e in
+    let t = cond_some (is_numeral (without_leading_sign text) && is_i64 z) z n e in
     subst (FitsSigned w64) t.1 ((i64-decides z).0 (second_true (is_numeral (without_leading_sign text)) (is_i64 z) t.0))
 
 -- so has one that is zero where it isn't spelled
@@ -37,8 +32,8 @@ value-or-zero (Some n) f = f n refl
 
 -- so has each record's
 all-facts : (i : Instance) (rows : List (List (List ℕ))) → All (λ f. FitsSigned w64 f.value) (map (fact_read i) rows)
-all-facts i [] = All-nil (λ (f : Fact). FitsSigned w64 f.value)
-all-facts i (r ∷ rows) = All-cons (λ (f : Fact). FitsSigned w64 f.value) (fact_read i r)
+all-facts i [] = All-nil (λ (f : Fact ℕ). FitsSigned w64 f.value)
+all-facts i (r ∷ rows) = All-cons (λ (f : Fact ℕ). FitsSigned w64 f.value) (fact_read i r)
     (map (fact_read i) rows) (value-or-zero (value_of (field r 1)) (value-fits (field r 1))) (all-facts i rows)
 
 -- the theorem
@@ -48,7 +43,7 @@ read-facts-fit most g i records fs e = go (begins_with header records) _ e
     read : (o : Option (ℕ × FactKind)) → or_read o (Ok (map (fact_read i) (drop 1 records))) ≡ Ok fs
         → All (λ f. FitsSigned w64 f.value) fs
     read None e = let z : map (fact_read i) (drop 1 records) ≡ fs = cc in
-        subst (λ xs. All (λ (f : Fact). FitsSigned w64 f.value) xs) z (all-facts i (drop 1 records))
+        subst (λ xs. All (λ (f : Fact ℕ). FitsSigned w64 f.value) xs) z (all-facts i (drop 1 records))
     read (Some p) e = absurd (cc)
 
     go : (b : Bool) (fault : Fault FactKind)

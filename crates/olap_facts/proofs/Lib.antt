@@ -1,9 +1,10 @@
 -- Lemmas.
-pub mod HeaderLemmas
+mod HeaderLemmas
 pub mod BottomLemmas
-pub mod TableLemmas
+mod TableLemmas
 pub mod FittingLemmas
+pub mod MeaningLemmas
 mod CountingLemmas
-mod FeedLemmas
+pub mod FeedLemmas
 mod PendingLemmas
 mod WholeLemmas

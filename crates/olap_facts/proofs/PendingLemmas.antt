@@ -86,7 +86,7 @@ module _ (rows : List (List (List ℕ))) (p : Pending) (h : ArePending rows p) w
       ∙ get_or-map told_by rows k [] d (let e = as-many-rows in omega (arith, e, within))
 
 -- the record at k
-module _ (most : ℕ) (g : Graph) (i : Instance) (handed k : ℕ) (rows done : List (List (List ℕ))) (facts : List Fact)
+module _ (most : ℕ) (g : Graph) (i : Instance) (handed k : ℕ) (rows done : List (List (List ℕ))) (facts : List (Fact ℕ))
     (h : Counted most g i (handed + k) true (done ++ take k rows) facts) (within : k < length rows) where
   abbrev row : List (List ℕ)
   row = get_or rows k []
@@ -95,7 +95,7 @@ module _ (most : ℕ) (g : Graph) (i : Instance) (handed k : ℕ) (rows done : L
   so-far = append_assoc done (take k rows) (row ∷ []) ∙ ap (λ l. done ++ l) (sym (take_more rows k [] within))
 
   -- what was told of it is a fact
-  pub settled-more : (f : Fact)
+  pub settled-more : (f : Fact ℕ)
       → ((earlier : List (List (List ℕ))) → length earlier ≡ handed + k
       → (fact_fault_within most g i earlier row ≡ None) × (f ≡ fact_read i row))
       → Counted most g i (handed + (k + 1)) true (done ++ take (k + 1) rows) (facts ++ f ∷ [])
@@ -125,7 +125,7 @@ module _ (most : ℕ) (g : Graph) (i : Instance) (handed k : ℕ) (rows done : L
 
 -- no record was looked up yet
 pub settled-none : (most : ℕ) (g : Graph) (i : Instance) (handed : ℕ) (rows done : List (List (List ℕ)))
-    (facts : List Fact) → Counted most g i handed true done facts
+    (facts : List (Fact ℕ)) → Counted most g i handed true done facts
     → Counted most g i (handed + 0) true (done ++ take 0 rows) facts
 settled-none most g i handed rows done facts h =
     let same : handed ≡ handed + 0 = omega arith in
@@ -134,7 +134,7 @@ settled-none most g i handed rows done facts h =
 
 -- all were
 pub settled-all : (most : ℕ) (g : Graph) (i : Instance) (handed k : ℕ) (rows done : List (List (List ℕ)))
-    (facts : List Fact) (p : Pending) → ArePending rows p → k ≡ length p.told.items
+    (facts : List (Fact ℕ)) (p : Pending) → ArePending rows p → k ≡ length p.told.items
     → Counted most g i (handed + k) true (done ++ take k rows) facts
     → Counted most g i (handed + length p.told.items) true (done ++ rows) facts
 settled-all most g i handed k rows done facts p are e h =

@@ -1,6 +1,6 @@
 -- A fact table that grows fact by fact.
 use Rattle.std.proofs.Common.{◌<◌, ◌∷◌, ◌++◌, [], List, length, get_or, map, subst, inl, inr}
-use Rattle.std.specs.Prelude.{All}
+use Rattle.std.specs.Prelude.{ℕ, All}
 use Rattle.std.proofs.lemmas.List.Elements.{Contains-get_or, Contains-push_cases}
 use Rattle.olap_base.specs.Graph.{Graph, IsBottom}
 use Rattle.olap_base.specs.Instance.{Instance, IsMember, category_of}
@@ -14,11 +14,11 @@ pub table-none : (g : Graph) (i : Instance) → IsFactTable g i []
 table-none g i f c = absurd (Contains-nil f c)
 
 -- one fact more at a member of a bottom category
-pub table-more : (g : Graph) (i : Instance) (fs : List Fact) (f : Fact) → IsFactTable g i fs → IsMember i f.member
-    → IsBottom g (category_of i f.member) → IsFactTable g i (fs ++ f ∷ [])
+pub table-more : (g : Graph) (i : Instance) (fs : List (Fact ℕ)) (f : Fact ℕ) → IsFactTable g i fs → IsMember i f.at
+    → IsBottom g (category_of i f.at) → IsFactTable g i (fs ++ f ∷ [])
 table-more g i fs f t m b q c = elim (Contains-push_cases fs f q c) [
   | inl h ↦ t q h
-  | inr e ↦ subst (λ (p : Fact). IsMember i p.member × IsBottom g (category_of i p.member)) e (m, b)
+  | inr e ↦ subst (λ (p : Fact ℕ). IsMember i p.at × IsBottom g (category_of i p.at)) e (m, b)
 ]
 
 -- the facts of a fact table stand at members

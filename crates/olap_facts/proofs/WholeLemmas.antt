@@ -38,7 +38,7 @@ module _ (law : RecordsAtEnd) (g : Graph) (i : Instance) (feed : Feeding) (graph
   pub refused-whole : (e : Refusal (Fault FactKind)) → ((more : List ℕ) → IsRefusedBy e (fed_read feed (piece ++ more)))
       → IsRefusedBy e (facts_read g i (records_of text))
   refused-whole e h =
-      subst (λ (t : Result (List Fact) (Fault FactKind)). IsRefusedBy e t)
+      subst (λ (t : Result (List (Fact ℕ)) (Fault FactKind)). IsRefusedBy e t)
       (ap (fed_read feed) (append-nil piece) ∙ read-by) (h [])
 
 -- the list has the facts of the piece, and then the last
@@ -48,7 +48,7 @@ pub record IsListed (g : Graph) (i : Instance) (before : List told.Fact) (last :
   pub table : IsFactTable g i (map fact_of after)
 
 -- the same facts at the same instance
-pub table-at : (g : Graph) (i : Instance) (r : Feeding) → r.graph ≡ g → r.instance ≡ i → (fs : List Fact)
+pub table-at : (g : Graph) (i : Instance) (r : Feeding) → r.graph ≡ g → r.instance ≡ i → (fs : List (Fact ℕ))
     → IsFactTable r.graph r.instance fs → IsFactTable g i fs
 table-at g i r graph instance fs t =
     subst (λ (j : Instance). IsFactTable g j fs) instance (subst (λ (h : Graph). IsFactTable h r.instance fs) graph t)

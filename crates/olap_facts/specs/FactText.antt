@@ -26,7 +26,7 @@ is_bottom g c = not (c == 0) && nat_lt c (category_count g) && not (list_any (λ
 
 -- ---- a record
 
--- the first check that a record fails, after the records before it, where there may be so many facts
+-- the first check that a record fails, after the records before it, if at most this many facts may come
 abbrev pub fact_fault_within : ℕ → Graph → Instance → List (List (List ℕ)) → List (List ℕ) → Option FactKind
 fact_fault_within most g i before r =
     if not (length r == 2) then Some kind.FieldCount
@@ -41,16 +41,16 @@ abbrev pub fact_fault : Graph → Instance → List (List (List ℕ)) → List (
 fact_fault = fact_fault_within most_listed_facts
 
 -- a record's fact: the member that it names, and the value that it spells
-abbrev pub fact_read : Instance → List (List ℕ) → Fact
-fact_read i r = record { member = member_number i (field r 0); value = unwrap_or (value_of (field r 1)) (pos 0) }
+abbrev pub fact_read : Instance → List (List ℕ) → Fact ℕ
+fact_read i r = record { at = member_number i (field r 0); value = unwrap_or (value_of (field r 1)) (pos 0) }
 
 -- ---- all of them
 
--- what the records of a text stand for, where there may be so many facts
-abbrev pub facts_read_within : ℕ → Graph → Instance → List (List (List ℕ)) → Result (List Fact) (Fault FactKind)
+-- what the records of a text stand for, if at most this many facts may come
+abbrev pub facts_read_within : ℕ → Graph → Instance → List (List (List ℕ)) → Result (List (Fact ℕ)) (Fault FactKind)
 facts_read_within most g i = table_read header kind.BadHeader
     (λ rows. or_read (first_fault (fact_fault_within most g i) [] rows) (Ok (map (fact_read i) rows)))
 
 -- the same for a file that is read into a list
-abbrev pub facts_read : Graph → Instance → List (List (List ℕ)) → Result (List Fact) (Fault FactKind)
+abbrev pub facts_read : Graph → Instance → List (List (List ℕ)) → Result (List (Fact ℕ)) (Fault FactKind)
 facts_read = facts_read_within most_listed_facts

@@ -29,7 +29,7 @@ pub record Feeding : Type 0 where
   pub stands : Standing
 
 -- what a text stands for that was handed on without its byte order mark
-abbrev pub fed_read : Feeding → List ℕ → Result (List Fact) (Fault FactKind)
+abbrev pub fed_read : Feeding → List ℕ → Result (List (Fact ℕ)) (Fault FactKind)
 fed_read r text = facts_read_within r.most r.graph r.instance (records_fed text)
 
 -- both read against the same
@@ -39,21 +39,21 @@ pub record IsSameSetting (old new : Feeding) : Type 0 where
   pub most : new.most ≡ old.most
 
 -- the fact, if there is one
-abbrev pub facts_if : Option told.Fact → List Fact
+abbrev pub facts_if : Option told.Fact → List (Fact ℕ)
 facts_if None = []
 facts_if (Some f) = fact_of f ∷ []
 
 -- ---- the records so far
 
 -- before the header there is no record
-pub record IsFresh (handed : ℕ) (done : List (List (List ℕ))) (facts : List Fact) : Type 0 where
+pub record IsFresh (handed : ℕ) (done : List (List (List ℕ))) (facts : List (Fact ℕ)) : Type 0 where
   pub none : done ≡ []
   pub count : handed ≡ 0
   pub no_facts : facts ≡ []
 
 -- the header came and then some records that have no fault, whatever comes after them, and these are their facts
 pub record IsGoing (most : ℕ) (g : Graph) (i : Instance) (handed : ℕ) (done : List (List (List ℕ)))
-    (facts : List Fact) : Type 0 where
+    (facts : List (Fact ℕ)) : Type 0 where
   pub top : List (List ℕ)
   pub rows : List (List (List ℕ))
   pub parts : done ≡ top ∷ rows
@@ -65,12 +65,12 @@ pub record IsGoing (most : ℕ) (g : Graph) (i : Instance) (handed : ℕ) (done 
 
 -- these are the records so far, of which the header was found or not, and these their facts
 pub record Counted (most : ℕ) (g : Graph) (i : Instance) (handed : ℕ) (begun : Bool) (done : List (List (List ℕ)))
-    (facts : List Fact) : Type 0 where
+    (facts : List (Fact ℕ)) : Type 0 where
   pub fresh : begun ≡ false → IsFresh handed done facts
   pub going : begun ≡ true → IsGoing most g i handed done facts
 
 -- these bytes were taken, and these are the facts of the records that ended in them
-pub record Fed (r : Feeding) (fed : List ℕ) (facts : List Fact) : Type 0 where
+pub record Fed (r : Feeding) (fed : List ℕ) (facts : List (Fact ℕ)) : Type 0 where
   pub done : List (List (List ℕ))
   pub stands : standing at_start fed ≡ behind done r.stands
   pub counted : Counted r.most r.graph r.instance r.handed r.begun done facts

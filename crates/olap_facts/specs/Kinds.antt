@@ -1,4 +1,4 @@
--- The names in which faults are told.
+-- The names under which faults are reported.
 use Rattle.std.specs.Prelude.{ℕ, List, codes}
 use Rattle.olap_facts.specs.declared.kinds.FactKind.{FactKind}
 use Rattle.olap_facts.specs.declared.kinds.FactKind.TheVariants as kind

@@ -36,7 +36,7 @@ impl<'a> Model for FactFeed<'a> {
 }
 
 impl<'a> FactFeed<'a> {
-    /// At the start of a text of at most so many facts.
+    /// At the start of a text of at most this many facts.
     pub fn new(alloc: Global, graph: &'a Graph, instance: &'a Instance, most: u64) -> FactFeed<'a>
         requires made { IsMadeFor graph.now instance.now }
         requires few { most < 2 ^ 63 }
@@ -63,7 +63,7 @@ impl<'a> FactFeed<'a> {
         piece: &[u8],
         batch: &mut Vec<Fact>,
     ) -> Result<(), Refusal<Fault<FactKind>>>
-        ensures feeds { (fed : Items ℕ) (facts : Items TheFact) → Fed self.old fed facts → MatchResult result
+        ensures feeds { (fed : Items ℕ) (facts : Items (TheFact ℕ)) → Fed self.old fed facts → MatchResult result
             (λ _. Fed self.new (fed ++ piece.now) (facts ++ map fact_of batch.new.items))
             (λ e. (more : Items ℕ) → IsRefusedBy e (fed_read self.old ((fed ++ piece.now) ++ more))) }
         ensures table { OnOk result
@@ -79,7 +79,7 @@ impl<'a> FactFeed<'a> {
 
     /// The text ends: the fact of a last record that no line break ended, if there is one.
     pub fn finish(&mut self) -> Result<Option<Fact>, Refusal<Fault<FactKind>>>
-        ensures reads { (fed : Items ℕ) (facts : Items TheFact) → Fed self.old fed facts → MatchResult result
+        ensures reads { (fed : Items ℕ) (facts : Items (TheFact ℕ)) → Fed self.old fed facts → MatchResult result
             (λ last. fed_read self.old fed ≡ Ok (facts ++ facts_if last))
             (λ e. IsRefusedBy e (fed_read self.old fed)) }
         ensures member { IfOk result (λ o. IfSome o (λ f. f.member.0 < length self.old.instance)) }

@@ -18,7 +18,7 @@ use olap_base::{Fault, Refusal};
 use olap_records::Splitter;
 use std::alloc::Global;
 
-// From so many members on their ids don't stand in a near cache.
+// With this many members or more, their ids don't fit in a near cache.
 const MANY_MEMBERS: u32 = 16_384;
 
 /// What the record is that was found last: the header where none was found before, else a fact.
@@ -31,7 +31,7 @@ fn taken(
 ) -> Result<Option<Fact>, Refusal<Fault<FactKind>>>
     requires few { handed ≤ setting.most }
     ensures counts { let g = setting.entry.graph.now in let i = setting.entry.instance.now in
-        (done : Items (Items (Items ℕ))) (facts : Items TheFact)
+        (done : Items (Items (Items ℕ))) (facts : Items (TheFact ℕ))
         → Counted setting.entry.most g i handed begun done facts → MatchResult result
         (λ o. MatchOption o
         (Counted setting.entry.most g i handed true (done ++ row.now.row ∷ []) facts)
@@ -97,7 +97,7 @@ impl Front {
         requires few { self.old.handed ≤ setting.most }
         requires empty { batch.old.items ≡ [] }
         ensures feeds { let old = feeding_in setting.entry self.old.splitter self.old.handed self.old.begun in
-            (fed : Items ℕ) (facts : Items TheFact) → Fed old fed facts → MatchResult result
+            (fed : Items ℕ) (facts : Items (TheFact ℕ)) → Fed old fed facts → MatchResult result
             (λ _. Fed (feeding_in setting.entry self.new.splitter self.new.handed self.new.begun)
             (fed ++ piece.now) (facts ++ map fact_of batch.new.items))
             (λ e. (more : Items ℕ) → IsRefusedBy e (fed_read old ((fed ++ piece.now) ++ more))) }
@@ -123,7 +123,7 @@ impl Front {
         requires few { self.old.handed ≤ setting.most }
         requires empty { batch.old.items ≡ [] }
         ensures feeds { let old = feeding_in setting.entry self.old.splitter self.old.handed self.old.begun in
-            (fed : Items ℕ) (facts : Items TheFact) → Fed old fed facts → MatchResult result
+            (fed : Items ℕ) (facts : Items (TheFact ℕ)) → Fed old fed facts → MatchResult result
             (λ _. Fed (feeding_in setting.entry self.new.splitter self.new.handed self.new.begun)
             (fed ++ piece.now) (facts ++ map fact_of batch.new.items))
             (λ e. (more : Items ℕ) → IsRefusedBy e (fed_read old ((fed ++ piece.now) ++ more))) }
@@ -148,7 +148,7 @@ impl Front {
         }
     }
 
-    /// The same behind the header, so many records at a time that the looks at the index of ids overlap.
+    /// The same after the header, so many records at a time that the looks at the index of ids overlap.
     fn take_many(
         &mut self,
         setting: Setting<'_>,
@@ -159,7 +159,7 @@ impl Front {
         requires empty { batch.old.items ≡ [] }
         requires begun { self.old.begun ≡ true }
         ensures feeds { let old = feeding_in setting.entry self.old.splitter self.old.handed self.old.begun in
-            (fed : Items ℕ) (facts : Items TheFact) → Fed old fed facts → MatchResult result
+            (fed : Items ℕ) (facts : Items (TheFact ℕ)) → Fed old fed facts → MatchResult result
             (λ _. Fed (feeding_in setting.entry self.new.splitter self.new.handed self.new.begun)
             (fed ++ piece.now) (facts ++ map fact_of batch.new.items))
             (λ e. (more : Items ℕ) → IsRefusedBy e (fed_read old ((fed ++ piece.now) ++ more))) }
@@ -185,7 +185,7 @@ impl Front {
     ) -> Result<Option<Fact>, Refusal<Fault<FactKind>>>
         requires few { self.old.handed ≤ setting.most }
         ensures reads { let old = feeding_in setting.entry self.old.splitter self.old.handed self.old.begun in
-            (fed : Items ℕ) (facts : Items TheFact) → Fed old fed facts → MatchResult result
+            (fed : Items ℕ) (facts : Items (TheFact ℕ)) → Fed old fed facts → MatchResult result
             (λ last. fed_read old fed ≡ Ok (facts ++ facts_if last))
             (λ e. IsRefusedBy e (fed_read old fed)) }
         ensures member { IfOk result (λ o. IfSome o (λ f. f.member.0 < length setting.entry.instance.now)) }

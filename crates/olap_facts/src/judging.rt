@@ -18,7 +18,7 @@ use crate::settings::Setting;
 use crate::{Fact, FactKind};
 use olap_base::{Fault, Refusal};
 
-/// The fact of a record that has this first field and tells this besides, after so many facts.
+/// The fact of a record that has this first field and tells this besides, after this many facts.
 #[inline(always)]
 pub(crate) fn judged(
     setting: Setting<'_>,
@@ -67,7 +67,7 @@ pub(crate) fn settle(
     requires few { handed ≤ setting.most }
     requires as_many { length (fields_of pending.now.ids) ≡ length pending.now.told.items }
     ensures counts { let g = setting.entry.graph.now in let i = setting.entry.instance.now in
-        (rows done : Items (Items (Items ℕ))) (facts : Items TheFact) → ArePending rows pending.now
+        (rows done : Items (Items (Items ℕ))) (facts : Items (TheFact ℕ)) → ArePending rows pending.now
         → Counted setting.entry.most g i handed true done (facts ++ map fact_of batch.old.items)
         → MatchResult result
         (λ _. Counted setting.entry.most g i (handed + length pending.now.told.items) true (done ++ rows)

@@ -17,6 +17,6 @@ mod tables;
 
 pub use feeding::FactFeed;
 pub use kinds::FactKind;
-pub use laws::{bottom_is_decided, read_facts_fit};
+pub use laws::{bottom_is_decided, facts_are_meant, read_facts_fit};
 pub use reading::{is_at_bottom, read_facts};
 pub use tables::{Fact, Facts};

@@ -1,5 +1,4 @@
-// The files of the system, as a library. It tells no content and no name, so what a real file holds is nothing that a
-// proof knows.
+// The files of the system, as a library. It tells no content and no name, so no proof knows what a real file holds.
 ghost use Rattle.std.specs.Prelude.{◌≡◌, None, false, is_some};
 ghost use Rattle.olap_files.specs.Calls.{refused_calls};
 

@@ -4,7 +4,7 @@ ghost use Rattle.olap_files.specs.Calls.{refused_writes};
 
 use olap_outside::{Failed, Sink};
 
-/// Standard output. That it takes nothing of a piece is a fault.
+/// Standard output. It is a fault if it takes nothing of a piece.
 #[derive(Drop)]
 pub struct StdoutSink<'a, P: Print> {
     to: &'a P,

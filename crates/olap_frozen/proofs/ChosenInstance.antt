@@ -5,14 +5,14 @@ use Rattle.std.specs.Prelude.{Contains, ◌==◌, AllPairs, ◌≢◌, filter, c
 use Rattle.std.specs.List.{range_with_len, list_any}
 use Rattle.std.proofs.lemmas.List.{get_or-map, length-map}
 use Rattle.std.proofs.lemmas.List.Elements.{Contains-get_or, Contains-append_left, Contains-append_right}
-use Rattle.std.proofs.lemmas.Bool.{or_left, or_right}
+use Rattle.std.proofs.lemmas.Bool.{or_left, or_right, or_cases, eqb-true, eq-eqb}
 use native.Mathlib.Decide.{ℕ_discrete}
 use Rattle.olap_base.specs.Steps.{Steps, Steps.here, Steps.step, Climb, Climb.climb, Steps-from_reaches, reaches_from_Steps, Climb-from_leads, leads_from_Climb}
 use Rattle.olap_base.specs.Graph.{Graph, Edge, IsCategory, HasEdge, is_number}
 use Rattle.olap_base.specs.Instance.{Instance, nobody, IsInstance, IsLawful, IsBelow, IsMember, IsMemberOf, Reaches, member_at, category_of, name_of, parents_of}
 use Rattle.olap_base.specs.Deciding.{below_is_member}
 use Rattle.olap_base.specs.Above.{place_in, HasOneMemberEach}
-use Rattle.olap_base.proofs.ListLemmas.{contains_head, Contains-map, Contains-from_map, Contains-filter, Contains-from_filter, Contains-from_range_at, Contains-range_at, place_in_is, Distinct, Distinct-range, Distinct-filter, Distinct-map, Distinct-places, AllPairs-from_Distinct, Distinct-from_AllPairs}
+use Rattle.olap_base.proofs.ListLemmas.{contains_head, Contains-map, Contains-from_map, Contains-filter, Contains-from_filter, Contains-from_range_at, Contains-range_at, place_in_is, Distinct, Distinct-range, Distinct-filter, Distinct-map, Distinct-places, AllPairs-from_Distinct, Distinct-from_AllPairs, list_any_is}
 use Rattle.olap_base.proofs.AboveLemmas.{place_in_injective}
 use Rattle.olap_ast.specs.Formula.{Formula, Holds}
 use Rattle.olap_numerals.specs.Numerals.{number_of}
@@ -20,7 +20,7 @@ use Rattle.olap_numerals.proofs.NumeralLemmas.{numbers_read_back}
 use Rattle.olap_ast.specs.Schema.{Schema}
 use Rattle.olap_ast.specs.Constants.{IsNameOf}
 use Rattle.olap_ast.specs.Frozen.{is_present, categories_in_order, present_categories, id_of, member_of, instance_of, IsFrozenInstance}
-use Rattle.olap_ast.proofs.Shape.{list_any_is, same_is, is_same, either_true, Distinct-push, same_edge, same_id, last_in}
+use Rattle.olap_ast.proofs.Shape.{Distinct-push, same_edge, same_id, last_in}
 use Rattle.olap_eval.specs.Shapes.{IsShape}
 use Rattle.olap_frozen.specs.Chosen.{AreNames, FrozenExactlyIfSound, IsChoice, IsMet, Joins, IsSound}
 
@@ -54,31 +54,31 @@ module _ (g : Graph) (r : ℕ) (es : List Edge) (ch : IsChoice g r es) where
   pub child_present : (c d : ℕ) → Joins es c d → is_present r es c ≡ true
   child_present c d j = or_right (c == r) (list_any (ends c) es)
       ((list_any_is (ends c) es).1
-      (record { child = c; parent = d }, j, or_left (c == c) (d == c) (is_same c c refl)))
+      (record { child = c; parent = d }, j, or_left (c == c) (d == c) (eq-eqb c c refl)))
 
   pub parent_present : (c d : ℕ) → Joins es c d → is_present r es d ≡ true
   parent_present c d j = or_right (d == r) (list_any (ends d) es)
       ((list_any_is (ends d) es).1
-      (record { child = c; parent = d }, j, or_right (c == d) (d == d) (is_same d d refl)))
+      (record { child = c; parent = d }, j, or_right (c == d) (d == d) (eq-eqb d d refl)))
 
   pub root_present : is_present r es r ≡ true
-  root_present = or_left (r == r) (list_any (ends r) es) (is_same r r refl)
+  root_present = or_left (r == r) (list_any (ends r) es) (eq-eqb r r refl)
 
   -- a present category is the root, or at an end of a chosen edge
   pub present_cases : (c : ℕ) → is_present r es c ≡ true
       → (c ≡ r) ⊎ (((d : ℕ) × Joins es c d) ⊎ ((d : ℕ) × Joins es d c))
-  present_cases c p = go (either_true (c == r) (list_any (ends c) es) p)
+  present_cases c p = go (or_cases (c == r) (list_any (ends c) es) p)
     where
       end : (e : Edge) → Contains es e → (e.child == c ≡ true) ⊎ (e.parent == c ≡ true)
           → ((d : ℕ) × Joins es c d) ⊎ ((d : ℕ) × Joins es d c)
-      end e h (inl a) = inl (e.parent, subst (λ k. Joins es k e.parent) (same_is e.child c a) h)
-      end e h (inr a) = inr (e.child, subst (λ k. Joins es e.child k) (same_is e.parent c a) h)
+      end e h (inl a) = inl (e.parent, subst (λ k. Joins es k e.parent) (eqb-true e.child c a) h)
+      end e h (inr a) = inr (e.child, subst (λ k. Joins es e.child k) (eqb-true e.parent c a) h)
 
       go : (c == r ≡ true) ⊎ (list_any (ends c) es ≡ true)
           → (c ≡ r) ⊎ (((d : ℕ) × Joins es c d) ⊎ ((d : ℕ) × Joins es d c))
-      go (inl e) = inl (same_is c r e)
+      go (inl e) = inl (eqb-true c r e)
       go (inr e) = let t = (list_any_is (ends c) es).0 e in
-          inr (end t.0 t.1 (either_true (t.0.child == c) (t.0.parent == c) t.2))
+          inr (end t.0 t.1 (or_cases (t.0.child == c) (t.0.parent == c) t.2))
 
   pub present_category : (c : ℕ) → is_present r es c ≡ true → IsCategory g c
   present_category c p = elim (present_cases c p) [
@@ -161,7 +161,7 @@ module _ (g : Graph) (r : ℕ) (es : List Edge) (ch : IsChoice g r es) where
         let t = Contains-from_map to_place (filter (leaves c) es) l
         (subst (λ ps. Contains ps l) (parents_inst k h) b) in
         let u = Contains-from_filter (leaves c) es t.0 t.1 in
-        let e : t.0.child ≡ c = same_is t.0.child c u.1 in
+        let e : t.0.child ≡ c = eqb-true t.0.child c u.1 in
         let p = place_is t.0.parent (parent_present t.0.child t.0.parent u.0) in (
           h,
           subst (λ m. m < length cats) t.2 p.0,
@@ -175,7 +175,7 @@ module _ (g : Graph) (r : ℕ) (es : List Edge) (ch : IsChoice g r es) where
         let e : Edge = record { child = c; parent = d } in
         subst (λ ps. Contains ps (place d)) (sym (parents_inst (place c) p.0))
         (Contains-map to_place (filter (leaves (get_or cats (place c) 0)) es) e
-        (Contains-filter (leaves (get_or cats (place c) 0)) es e (is_same c (get_or cats (place c) 0) (sym p.1)) j))
+        (Contains-filter (leaves (get_or cats (place c) 0)) es e (eq-eqb c (get_or cats (place c) 0) (sym p.1)) j))
 
     -- `<<` is a walk
     pub steps_down : {k l : ℕ} → Steps (IsBelow inst) k l → Steps (Joins es) (get_or cats k 0) (get_or cats l 0)
@@ -250,7 +250,7 @@ module _ (g : Graph) (r : ℕ) (es : List Edge) (ch : IsChoice g r es) where
         let b = in_cats y hy in
         same_cat x y a b (sym (category_inst x a) ∙ q ∙ category_inst y b)
 
-    -- ---- it is an instance exactly where `All` is present
+    -- ---- it is an instance exactly if `All` is present
 
     parents_differ : (k : ℕ) → AllPairs ◌≢◌ (parents_of inst k)
     parents_differ k a b d l h =
@@ -266,7 +266,7 @@ module _ (g : Graph) (r : ℕ) (es : List Edge) (ch : IsChoice g r es) where
             (λ e f x y q.
             let s = Contains-from_filter (leaves c) es e x in
             let t = Contains-from_filter (leaves c) es f y in
-            same_edge e f (same_is e.child c s.1 ∙ sym (same_is f.child c t.1))
+            same_edge e f (eqb-true e.child c s.1 ∙ sym (eqb-true f.child c t.1))
             (place_in_injective cats e.parent f.parent
             (present_listed e.parent (parent_present e.child e.parent s.0))
             (present_listed f.parent (parent_present f.child f.parent t.0)) q))

@@ -3,36 +3,13 @@ use Rattle.std.proofs.Common.{◌≡◌, ℕ, zero, suc, ◌<◌, List, [], ◌�
 use Rattle.std.specs.Prelude.{Contains}
 use Rattle.olap_base.specs.Deciding.{contains_cons, contains_cases}
 use Rattle.olap_base.specs.Graph.{Graph, Edge, IsCategory, IsHierarchy}
-use Rattle.olap_base.proofs.ListLemmas.{Contains-nil, contains_head, Distinct, Distinct-from_AllPairs, AllPairs-from_Distinct, Distinct-places}
+use Rattle.olap_base.proofs.ListLemmas.{Contains-nil, contains_head, Distinct-from_AllPairs, AllPairs-from_Distinct, Distinct-places}
 use Rattle.olap_ast.specs.Frozen.{chosen}
 use Rattle.olap_graph.specs.Lookups.{edge_between, joins}
 use Rattle.olap_graph.proofs.PlaceLemmas.{found, missing, joins-Decides}
 use Rattle.olap_frozen.specs.Chosen.{IsChoice, Joins}
 use Rattle.olap_frozen.specs.Rows.{JoinsBefore}
-
--- chosen edges are edges of the list
-pub chosen_within : (es : List Edge) (bits : List Bool) (e : Edge) → Contains (chosen es bits) e → Contains es e
-chosen_within [] bits e c = c
-chosen_within (x ∷ es) [] e c = absurd (Contains-nil e c)
-chosen_within (x ∷ es) (b ∷ bits) e c = go b c (chosen_within es bits e)
-  where
-    go : (b : Bool) → Contains (cond b (x ∷ chosen es bits) (chosen es bits)) e
-        → (Contains (chosen es bits) e → Contains es e) → Contains (x ∷ es) e
-    go true c f = elim (contains_cases e x (chosen es bits) c) [
-      | inl q ↦ subst (λ w. Contains (x ∷ es) w) q (contains_head x es)
-      | inr d ↦ contains_cons e es x (f d)
-    ]
-    go false c f = contains_cons e es x (f c)
-
--- of distinct edges the chosen ones are distinct
-chosen_distinct : (es : List Edge) (bits : List Bool) → Distinct es → Distinct (chosen es bits)
-chosen_distinct [] bits d = tt
-chosen_distinct (x ∷ es) [] d = tt
-chosen_distinct (x ∷ es) (b ∷ bits) d = go b (chosen_distinct es bits d.1)
-  where
-    go : (b : Bool) → Distinct (chosen es bits) → Distinct (cond b (x ∷ chosen es bits) (chosen es bits))
-    go true r = (λ c. d.0 (chosen_within es bits x c), r)
-    go false r = r
+use Rattle.olap_ast.proofs.ChosenLemmas.{chosen_in, chosen_distinct}
 
 -- a chosen edge has a place whose bit is set
 pub chosen_place : (es : List Edge) (bits : List Bool) (e z : Edge) → Contains (chosen es bits) e
@@ -86,7 +63,7 @@ pub choice_of : (g : Graph) (r : ℕ) (bits : List Bool) → IsHierarchy g → I
 choice_of g r bits hier root = record {
   hierarchy = hier;
   root = root;
-  within = chosen_within g.edges bits;
+  within = chosen_in g.edges bits;
   differ = AllPairs-from_Distinct (chosen g.edges bits)
       (chosen_distinct g.edges bits (Distinct-from_AllPairs g.edges hier.edges_differ));
 }
@@ -113,7 +90,7 @@ pub no_edge_joins : (g : Graph) (bits : List Bool) (c d : ℕ) → edge_between 
     → Joins (chosen g.edges bits) c d → ⊥
 no_edge_joins g bits c d e j =
     missing (joins c d) (λ x. x ≡ record { child = c; parent = d }) (joins-Decides c d) g.edges 0 e
-    (record { child = c; parent = d }) (chosen_within g.edges bits (record { child = c; parent = d }) j) refl
+    (record { child = c; parent = d }) (chosen_in g.edges bits (record { child = c; parent = d }) j) refl
 
 -- the place of an edge is one of the list
 pub edge_inside : (g : Graph) (c d i : ℕ) → edge_between g c d ≡ Some i → i < length g.edges

@@ -49,7 +49,7 @@ declared_at [] c = refl
 declared_at (x ∷ xs) c = refl
 
 -- without `All` there is one entry less
-declared_length : (xs : List ℕ) (n : ℕ) → length xs ≡ n + 1 → length (of_declared xs) ≡ n
+pub declared_length : (xs : List ℕ) (n : ℕ) → length xs ≡ n + 1 → length (of_declared xs) ≡ n
 declared_length [] n e = absurd (omega arith)
 declared_length (x ∷ xs) n e = omega arith
 
@@ -138,7 +138,7 @@ absent_there {A} b f g = (λ e. absurd (cc), λ a. absurd (no b f (g a)))
 -- ---- the name of an index
 
 -- the text of an index is one of the names
-at_index : (first : List ℕ) (others : List (List ℕ)) (i : ℕ) → i ≤ length others
+pub at_index : (first : List ℕ) (others : List (List ℕ)) (i : ℕ) → i ≤ length others
     → Contains (first ∷ others) (text_of_index first others i)
 at_index first others zero h = contains_head first others
 at_index first others (suc i) h = contains_cons (get_or others i first) others first

@@ -1,5 +1,5 @@
 -- The edges out of a category, of which some were looked at for one that goes past another.
-use Rattle.std.proofs.Common.{◌≡◌, ℕ, ◌+◌, ◌<◌, ◌≤◌, List, length, map, get_or, Bool, true, false, ap, sym, subst, ◌∙◌, ◌⊎◌, inl, inr, arith}
+use Rattle.std.proofs.Common.{◌≡◌, ℕ, ◌+◌, ◌<◌, ◌≤◌, List, length, map, get_or, Bool, true, false, ap, sym, subst, ◌∙◌, inl, inr, arith}
 use Rattle.std.specs.Prelude.{◌≢◌, ◌==◌, Contains}
 use Rattle.std.specs.List.{range_with_len}
 use Rattle.std.proofs.lemmas.List.{get_or_default}
@@ -7,11 +7,12 @@ use Rattle.std.proofs.lemmas.List.Elements.{Contains-get_or}
 use Rattle.olap_base.specs.Graph.{Edge, Graph}
 use Rattle.olap_base.specs.declared.ids.EdgeId.{EdgeId}
 use Rattle.olap_base.proofs.ListLemmas.{Contains-filter, Contains-from_filter, Contains-from_map, Contains-from_range, Contains-map, Contains-range}
-use Rattle.olap_ast.proofs.Shape.{is_same, same_is}
 use Rattle.olap_bits.specs.declared.sets.CatSet.{CatSet}
 use Rattle.olap_graph.specs.Lookups.{edge_at, edges_from}
 use Rattle.olap_graph.specs.Rows.{Has}
 use Rattle.olap_frozen.specs.Rows.{IsPassed}
+use Rattle.olap_base.proofs.GeneralLemmas.{below_or_same}
+use Rattle.std.proofs.lemmas.Bool.{eqb-true, eq-eqb}
 
 -- what stands past the end of a list of edges
 abbrev pub nowhere : EdgeId
@@ -27,15 +28,11 @@ pub record GoesPast {W : ℕ} (g : Graph) (bits : List Bool) (rows : List (CatSe
 abbrev pub NonePast : {W : ℕ} → Graph → List Bool → List (CatSet W) → List EdgeId → ℕ → ℕ → Type 0
 NonePast g bits rows out d k = (j : ℕ) → j < k → GoesPast g bits rows d (get_or out j nowhere).0 → ⊥
 
--- a place below the next is earlier, or this one
-newest : (j k : ℕ) → j < k + 1 → (j < k) ⊎ (j ≡ k)
-newest j k h = grind arith
-
 -- one edge more that doesn't go past the other
 pub none_more : {W : ℕ} (g : Graph) (bits : List Bool) (rows : List (CatSet W)) (out : List EdgeId) (d k : ℕ)
     → (GoesPast g bits rows d (get_or out k nowhere).0 → ⊥) → NonePast g bits rows out d k
     → NonePast g bits rows out d (k + 1)
-none_more g bits rows out d k n none j h past = elim (newest j k h) [
+none_more g bits rows out d k n none j h past = elim (below_or_same j k h) [
   | inl l ↦ none j l past
   | inr e ↦ n (subst (λ i. GoesPast g bits rows d (get_or out i nowhere).0) e past)
 ]
@@ -50,7 +47,7 @@ passed_by g bits rows out c d k q h past =
     let m = Contains-from_filter test (range_with_len 0 (length g.edges)) id.0
     (subst (λ ks. Contains ks id.0) q (Contains-map (λ (e : EdgeId). e.0) out id (Contains-get_or out k nowhere h))) in
     let parent = (edge_at g id.0).parent in
-    let child = same_is (edge_at g id.0).child c m.1 in (
+    let child = eqb-true (edge_at g id.0).child c m.1 in (
       parent,
       (
         id.0,
@@ -71,7 +68,7 @@ not_passed g bits rows out c d k q all none p =
     let i = p.1.0 in
     let at : edge_at g i ≡ record { child = c; parent = e } = p.1.3 in
     let m = Contains-filter (λ j. (edge_at g j).child == c) (range_with_len 0 (length g.edges)) i
-    (is_same (edge_at g i).child c (ap (λ (y : Edge). y.child) at)) (Contains-range (length g.edges) i p.1.1) in
+    (eq-eqb (edge_at g i).child c (ap (λ (y : Edge). y.child) at)) (Contains-range (length g.edges) i p.1.1) in
     let t = Contains-from_map (λ (y : EdgeId). y.0) out i (subst (λ ks. Contains ks i) (sym q) m) in
     let is : (get_or out t.1.0 nowhere).0 ≡ i =
     ap (λ (y : EdgeId). y.0) (get_or_default out t.1.0 nowhere t.0 t.1.1 ∙ t.1.2) ∙ t.2 in

@@ -1,5 +1,5 @@
 -- A set for each category, edge by edge, and what the sets hold in the end.
-use Rattle.std.proofs.Common.{◌≡◌, ℕ, ◌+◌, ◌<◌, List, length, get_or, set, Bool, true, false, refl, ap, sym, subst, ◌∙◌, ◌↔◌, ◌⊎◌, inl, inr, arith}
+use Rattle.std.proofs.Common.{◌≡◌, ℕ, ◌+◌, ◌<◌, List, length, get_or, set, Bool, true, false, ap, sym, subst, ◌∙◌, ◌↔◌, ◌⊎◌, inl, inr, arith}
 use Rattle.std.specs.Cmp.{nat_cmp_total}
 use Rattle.std.specs.FinSet.{contains, contains-empty, empty, insert, is_subset, is_subset-contains}
 use Rattle.std.specs.Ordering.{nat_cmp}
@@ -14,7 +14,9 @@ use Rattle.olap_graph.specs.Rows.{AreOwn, Has, IsClosure, Passes, row}
 use Rattle.olap_graph.proofs.RowLemmas.{closure_joined, has_insert, joined_more, joined_same, newest, same_edge}
 use Rattle.olap_frozen.specs.Chosen.{Joins}
 use Rattle.olap_frozen.specs.Rows.{AreDrawn, AreRows, JoinsBefore, with_edges}
-use Rattle.olap_frozen.proofs.ChosenLemmas.{chosen_within, joins_before}
+use Rattle.olap_frozen.proofs.ChosenLemmas.{joins_before}
+use Rattle.olap_ast.proofs.ChosenLemmas.{chosen_in}
+use Rattle.olap_base.proofs.ListLemmas.{same_truth}
 
 -- ---- one edge more
 
@@ -87,12 +89,6 @@ alone rows k x y e at one none within c d = (
 
 -- ---- all chosen edges
 
--- two tests are equal if each follows from the other
-same_tests : (a b : Bool) → (a ≡ true → b ≡ true) → (b ≡ true → a ≡ true) → a ≡ b
-same_tests true b f g = sym (f refl)
-same_tests false true f g = g refl
-same_tests false false f g = refl
-
 -- sets with all chosen edges, closed, are the rows of the choice
 pub closed_rows : {W : ℕ} (g : Graph) (bits : List Bool) (old new : List (CatSet W)) → IsHierarchy g
     → length old ≡ category_count g → AreDrawn g bits (length g.edges) old → IsClosure old new
@@ -103,9 +99,9 @@ closed_rows g bits old new hier size drawn closure c d h =
     let joined = joined_same (JoinsBefore g bits (length g.edges)) (Joins es) old
     (λ a b. ((joins_before g bits a b).1, (joins_before g bits a b).0)) drawn in
     let i = closure_joined (Joins es) old new joined
-    (λ x y j. let w = (hier.categories x y (chosen_within g.edges bits (record { child = x; parent = y }) j)).0 in
+    (λ x y j. let w = (hier.categories x y (chosen_in g.edges bits (record { child = x; parent = y }) j)).0 in
     omega (arith, w, size)) closure c d (omega (arith, h, size)) in
-    same_tests (contains (row new c) d) (category_reaches (with_edges g es) c d)
+    same_truth (contains (row new c) d) (category_reaches (with_edges g es) c d)
     (λ m. r.1 (reaches_from_Steps (i.0 m))) (λ m. i.1 (Steps-from_reaches (r.0 m)))
 
 -- a row has what its category reaches

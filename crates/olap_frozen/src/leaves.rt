@@ -90,7 +90,7 @@ impl<'a> Shape for Leaf<'a> {
     ghost shape = { λ s. s.is_shape };
 }
 
-/// Whether each constraint is met at the member of its root, where that is present, and the question at the root's.
+/// Whether each constraint is met at the member of its root, if that is present, and the question at the root's.
 pub(crate) fn meets(leaf: &Leaf<'_>, constraints: &[Constraint], question: &Formula) -> bool
     ensures { let s = with_graph leaf.now.graph.now (map constraint_of constraints.now) in
         IsTrue result ↔ IsMet s (formula_of question.now) leaf.now.root.0

@@ -32,7 +32,9 @@ use Rattle.olap_instance.proofs.Passing.{all-full}
 use Rattle.olap_instance.proofs.PlaceFacts.{AreDistinct, place-of-id}
 use Rattle.olap_instance.specs.Members.{member_named}
 use Rattle.olap_facts.specs.FactText.{fact_fault_within, fact_read, facts_read_within, header, is_bottom}
+use Rattle.olap_facts.specs.FactMeaning.{facts_meant}
 use Rattle.olap_facts.proofs.BottomLemmas.{bottom-is}
+use Rattle.olap_facts.proofs.MeaningLemmas.{meant-facts}
 use Rattle.olap_generate.specs.Location as location
 use Rattle.olap_generate.specs.Members.{fact_row, fact_rows, step, value}
 use Rattle.olap_generate.proofs.Location.{location_graph}
@@ -64,7 +66,7 @@ value-spelled seed i =
 
 -- ---- a record
 
--- a record that names a member of a bottom category and spells a number has no fault, where there is room
+-- a record that names a member of a bottom category and spells a number has no fault, if there is room
 module _ (i : Instance) (r : List (List ℕ)) (p : ℕ) (v : ℤ) (named : member_named i (field r 0) ≡ Some p)
     (spelled : value_of (field r 1) ≡ Some v) where
   row-passes : (before : List (List (List ℕ))) → (length r == 2) ≡ true
@@ -72,16 +74,16 @@ module _ (i : Instance) (r : List (List ℕ)) (p : ℕ) (v : ℤ) (named : membe
       → fact_fault_within most_facts location_graph i before r ≡ None
   row-passes before two bottom room = rw (two, named, bottom, spelled, room) refl
 
-  row-read : fact_read i r ≡ record { member = p; value = v }
+  row-read : fact_read i r ≡ record { at = p; value = v }
   row-read = rw (named, spelled) refl
 
 -- ---- all of them
 
 -- records without faults stand for their facts
-read-of : (i : Instance) (records : List (List (List ℕ))) (facts : List Fact) → begins_with header records ≡ true
+read-of : (i : Instance) (records : List (List (List ℕ))) (facts : List (Fact ℕ)) → begins_with header records ≡ true
     → first_fault (fact_fault_within most_facts location_graph i) [] (drop 1 records) ≡ None
     → map (fact_read i) (drop 1 records) ≡ facts → facts_read_within most_facts location_graph i records ≡ Ok facts
-read-of i records facts h first e = rw (h, first) (ap (λ (t : List Fact). Ok t) e)
+read-of i records facts h first e = rw (h, first) (ap (λ (t : List (Fact ℕ)). Ok t) e)
 
 module _ (seed size : ℕ) where
   -- the records after the header
@@ -173,18 +175,19 @@ module _ (seed size : ℕ) where
     header-there = (slice_eq-Decides bytes_eq-Decides header header (pointwise bytes_eq header header) refl).1 refl
 
     -- the records stand for the facts
-    pub fact_rows_stand : facts_read_within most_facts location_graph (made seed size) (fact_rows seed size)
+    pub fact_rows_stand : facts_meant most_facts location_graph (made seed size) (fact_rows seed size)
         ≡ Ok (made_facts seed size)
     fact_rows_stand =
-        read-of (made seed size) (fact_rows seed size) (made_facts seed size) header-there no-fault facts-read
+        meant-facts most_facts location_graph (made seed size) (fact_rows seed size) (made_facts seed size)
+        (read-of (made seed size) (fact_rows seed size) (made_facts seed size) header-there no-fault facts-read)
 
     -- each fact stands at a store
     pub facts_made : IsFactTable location_graph (made seed size) (made_facts seed size)
     facts_made f c =
         let at = Contains-from_map (fact_of seed size) (range_with_len 1 size) f c in
         let within = Contains-from_range_at 1 size at.0 at.1 in
-        subst (λ (f : Fact). IsMember (made seed size) f.member
-        × IsBottom location_graph (category_of (made seed size) f.member)) at.2 (
+        subst (λ (f : Fact ℕ). IsMember (made seed size) f.at
+        × IsBottom location_graph (category_of (made seed size) f.at)) at.2 (
           is-member (at.0 - 1) (omega arith),
           subst (IsBottom location_graph) (sym (store-category (at.0 - 1) (omega arith)))
               ((bottom-is location_graph location.store).0 refl),

@@ -16,6 +16,7 @@ use Rattle.std.proofs.lemmas.Str.Parse.{digit_at}
 use Rattle.olap_base.specs.Limits.{most_text_bytes}
 use Rattle.olap_instance.specs.Members.{IsMemberId}
 use Rattle.olap_generate.proofs.Made.{canada, canadian_regions, cities, mexican_regions, mexican_states, mexico, provinces, states, top, usa}
+use Rattle.std.proofs.lemmas.Str.Ascii.{IsAscii-cons}
 
 -- ---- the place that an id tells
 
@@ -54,11 +55,6 @@ module _ (seed size : ℕ) where
 
 -- ---- texts that may be ids
 
--- an ASCII byte more at the front
-ascii_front : (c : ℕ) (cs : List ℕ) → c < 128 → IsAscii cs → IsAscii (c ∷ cs)
-ascii_front c cs h a zero = h
-ascii_front c cs h a (suc i) = a i
-
 -- no digit is a semicolon
 no_semicolon : (ds : List ℕ) → AllDigits 10 ds → list_any (λ b. b == 59) ds ≡ false
 no_semicolon [] d = refl
@@ -66,13 +62,14 @@ no_semicolon (c ∷ cs) d =
     let r : IsInRange 48 57 c = digit_at (c ∷ cs) 0 d (omega arith) in
     rw (ne_eqb c 59 (λ e. omega arith)) (no_semicolon cs d.1)
 
+-- a letter and a number in decimal are a member's id
 pub numbered_id : (letter k : ℕ) → letter < 128 → letter ≢ 59 → k < 2 ^ 64 → IsMemberId (letter ∷ decimal k)
 numbered_id letter k a n l =
     let d = decimal_is_IsNumeral k l in
     let most = length-decimal-le 20 k (omega arith) (omega arith) l in
     record {
       utf8 = is_utf8-from_IsUtf8 (letter ∷ decimal k)
-          (IsUtf8-from_ascii (letter ∷ decimal k) (ascii_front letter (decimal k) a (IsAscii-decimal k l)));
+          (IsUtf8-from_ascii (letter ∷ decimal k) (IsAscii-cons letter (decimal k) a (IsAscii-decimal k l)));
       short = omega arith;
       filled = λ e. omega arith;
       whole = rw (ne_eqb letter 59 n) (no_semicolon (decimal k) d.0.1);
@@ -84,6 +81,7 @@ ascii_at [] e i = omega arith
 ascii_at (c ∷ cs) e zero = let t : nat_lt c 128 ≡ true = (and_parts _ _ e).0 in ltb-true c 128 t
 ascii_at (c ∷ cs) e (suc i) = ascii_at cs (and_parts (nat_lt c 128) _ e).1 i
 
+-- an ASCII text without a semicolon is a member's id, if it is short and not empty
 pub worded_id : (text : List ℕ) → list_all (λ b. nat_lt b 128) text ≡ true → list_any (λ b. b == 59) text ≡ false
     → 0 < length text → length text ≤ most_text_bytes → IsMemberId text
 worded_id text plain whole some short = record {

@@ -1,18 +1,18 @@
 -- Lemmas.
-pub mod Location
-pub mod LocationGraph
-pub mod LocationText
-pub mod Made
-pub mod Places
-pub mod Ids
-pub mod Sound
-pub mod Rows
-pub mod FactRows
-pub mod OneParent
-pub mod Standing
-pub mod Legal
-pub mod InputLemmas
-pub mod Serving
+mod Location
+mod LocationGraph
+mod LocationText
+mod Made
+mod Places
+mod Ids
+mod Sound
+mod Rows
+mod FactRows
+mod OneParent
+mod Standing
+mod Legal
+mod InputLemmas
+mod Serving
 mod ServedLemmas
 mod TextLemmas
 mod MadeLemmas

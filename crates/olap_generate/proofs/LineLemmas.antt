@@ -9,6 +9,7 @@ use Rattle.olap_view.specs.Stores.{IsStored}
 use Rattle.olap_view.specs.declared.views.Row.{Row}
 use Rattle.olap_view.proofs.SeenLemmas.{each_row}
 
+-- what stands past the last row
 abbrev pub no_row : Row
 no_row = record { member = record { 0 = 0 }; count = 0; sum = pos 0; least = pos 0; greatest = pos 0 }
 

@@ -11,6 +11,7 @@ use Rattle.olap_ast.specs.Formula.{Formula, Formula.Path, Formula.Equals, Formul
 use Rattle.olap_ast.specs.Schema.{Constraint, Schema}
 use Rattle.olap_generate.specs.Location.{city, country, province, region, state, store}
 
+-- an edge between two categories
 abbrev pub edge : ℕ → ℕ → Edge
 edge c d = record { child = c; parent = d }
 
@@ -58,6 +59,7 @@ lies_in c = Path (c ∷ [])
 abbrev pub rule : ℕ → Formula → Constraint
 rule c f = record { root = c; formula = f }
 
+-- the schema of the made input
 abbrev pub location_schema : Schema
 location_schema = record {
   graph = location_graph;
@@ -83,6 +85,7 @@ each_edge p e c d h = subst (λ x. p x ≡ true) h.2 (AllPass-from_list_all p lo
 abbrev pub rank : ℕ → ℕ
 rank c = slice_index_or (1 ∷ 6 ∷ 5 ∷ 4 ∷ 4 ∷ 3 ∷ 2 ∷ []) c 0
 
+-- each edge leads to a category of lower rank
 pub location_falls : (c d : ℕ) → HasEdge location_graph c d → rank d < rank c
 location_falls c d h = go (rank d) (rank c) (each_edge (λ e. nat_lt (rank e.parent) (rank e.child)) refl c d h)
   where
@@ -100,6 +103,7 @@ store_city d h = go (each_edge (λ e. not (e.child == store) || (e.parent == cit
 none_to_store : (c : ℕ) → HasEdge location_graph c store → ⊥
 none_to_store c h = let e : not true ≡ true = each_edge (λ e. not (e.parent == store)) refl c store h in absurd (cc)
 
+-- Store is the only bottom category
 pub bottom_is_store : (c : ℕ) → IsBottom location_graph c ↔ (c ≡ store)
 bottom_is_store c = (only c, λ e. subst (λ d. IsBottom location_graph d) (sym e) is_bottom)
   where

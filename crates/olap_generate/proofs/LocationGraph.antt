@@ -40,6 +40,7 @@ all_small (b ∷ bs) e =
 named : (b : ℕ) (bs : List ℕ) → 65 ≤ b → b ≤ 90 → list_all is_small bs ≡ true → is_category_name (b ∷ bs) ≡ true
 named b bs l h e = (is_category_name_is (b ∷ bs)).1 (inl (l, h), all_small bs e, not_reserved b bs h)
 
+-- `Store` is a category name
 pub store_is : is_category_name (codes "Store") ≡ true
 store_is = named 83 (codes "tore") (lit≤ tt) (lit≤ tt) refl
 
@@ -153,6 +154,7 @@ inside c d h =
     go : nat_lt c 7 ≡ true → nat_lt d 7 ≡ true → not (c == 0) ≡ true → ((c < 7) × (d < 7)) × (c ≢ 0)
     go p q r = ((grind arith, grind arith), grind arith)
 
+-- the graph is a hierarchy
 pub location_is_hierarchy : IsHierarchy location_graph
 location_is_hierarchy = record {
   names_differ = AllPairs-from_Distinct location_graph.names names_distinct;

@@ -6,7 +6,6 @@ use Rattle.std.specs.Prelude.{slice_index}
 use Rattle.std.specs.Str.{chars, is_utf8}
 use lib.Utf8.{encode}
 use Rattle.olap_base.specs.Reaching.{category_reaches, category_reaches_is}
-use Rattle.olap_ast.specs.Formula.{Equality}
 use Rattle.olap_grammar.specs.Brackets.{opens_over}
 use Rattle.olap_grammar.specs.CuttingMachine.{tokens_of}
 use Rattle.olap_grammar.specs.Machine.{the_formula}
@@ -18,7 +17,7 @@ use Rattle.olap_schema_text.specs.Lines.{chomped, is_quiet, lines_of}
 use Rattle.olap_schema_text.specs.Statements.{statement_of}
 use Rattle.olap_schema_text.specs.Tokens.{is_bad_number, is_long}
 use Rattle.olap_grammar.specs.declared.tokens.Token.TheVariants as token
-use Rattle.olap_generate.specs.Location.{city, country, location_lines, location_text}
+use Rattle.olap_generate.specs.Location.{location_lines, location_text}
 use Rattle.olap_generate.proofs.Location.{location_graph, location_schema}
 use Rattle.olap_generate.proofs.LocationGraph.{all_is, city_is, country_is, location_is_hierarchy, province_is, region_is, state_is, store_is}
 
@@ -29,22 +28,9 @@ cut : lines_of location_text ≡ location_lines
 unfolding lines_of
 cut = refl
 
--- the atoms on names, in the order of the constraints
-abbrev atoms : List Equality
-atoms =
-    record { category = city; text = codes "Washington" }
-    ∷ record { category = country; text = codes "USA" }
-    ∷ record { category = country; text = codes "Mexico" }
-    ∷ record { category = country; text = codes "Canada" }
-    ∷ []
-
--- so many nodes and atoms the first constraints have
+-- this many nodes the first constraints have, for each number of them
 abbrev nodes : List ℕ
 nodes = 0 ∷ 3 ∷ 7 ∷ 10 ∷ 13 ∷ 16 ∷ 19 ∷ 20 ∷ []
-
--- how many pairs of a category and a constant the first constraints have, for each number of them
-abbrev atom_counts : List ℕ
-atom_counts = 0 ∷ 1 ∷ 1 ∷ 2 ∷ 3 ∷ 3 ∷ 3 ∷ 4 ∷ []
 
 -- a result's value, or else this
 abbrev value_or : {A E : Type 0} → A → Result A E → A
@@ -56,7 +42,7 @@ abbrev versioned : Above
 versioned = value_or nothing_above
     (statement_read nothing_above 1 None (statement_of (token.Word (codes "schema") ∷ token.Word (codes "1") ∷ [])))
 
--- what the version, so many categories, so many edges and so many constraints say
+-- what the version, this many categories, this many edges and this many constraints say
 abbrev said : ℕ → ℕ → ℕ → Above
 said c e k = record {
   version = versioned.version;
@@ -68,8 +54,6 @@ said c e k = record {
   category_lines = take c (2 ∷ 3 ∷ 4 ∷ 5 ∷ 6 ∷ 7 ∷ []);
   constraints = take k location_schema.constraints;
   nodes = slice_index nodes k;
-  pairs = take (slice_index atom_counts k) atoms;
-  numbers = [];
 }
 
 -- what the first lines say
@@ -148,6 +132,7 @@ none_stuck = rw (
   reached 6 (lit< tt),
 ) refl
 
+-- the text is read as the schema
 pub location_is_read : schema_read location_text ≡ Ok location_schema
 unfolding schema_read statement_of
 location_is_read =

@@ -105,8 +105,8 @@ module _ (seed size : ℕ) where
       ++ last_members
 
   -- the i-th store's fact, and all facts
-  abbrev pub fact_of : ℕ → Fact
-  fact_of i = record { member = i - 1; value = value seed i }
+  abbrev pub fact_of : ℕ → Fact ℕ
+  fact_of i = record { at = i - 1; value = value seed i }
 
-  abbrev pub made_facts : List Fact
+  abbrev pub made_facts : List (Fact ℕ)
   made_facts = map fact_of (range_with_len 1 size)

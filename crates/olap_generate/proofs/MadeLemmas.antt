@@ -20,10 +20,16 @@ use Rattle.olap_base.specs.Limits.{most_facts, most_generated}
 use Rattle.olap_base.specs.Views.{Fact, IsFactTable, View}
 use Rattle.olap_check.specs.Reports.{IsFirstReport}
 use Rattle.olap_check.specs.declared.violations.Violation.{Violation}
+use Rattle.olap_base.specs.declared.refusals.Fault.{Fault}
+use Rattle.olap_facts.specs.FactMeaning.{facts_meant}
 use Rattle.olap_facts.specs.FactText.{facts_read_within}
+use Rattle.olap_facts.specs.Kinds.{name_of_kind}
+use Rattle.olap_facts.specs.declared.kinds.FactKind.{FactKind}
+use Rattle.olap_facts.proofs.MeaningLemmas.{facts-named, meant-facts}
 use Rattle.olap_instance.specs.InstanceText.{instance_read}
 use Rattle.olap_instance.specs.Made.{IsMadeFor}
 use Rattle.olap_records.specs.Records.{records_of}
+use Rattle.olap_records.specs.Tables.{named}
 use Rattle.olap_records.specs.Texts.{text_of_rows}
 use Rattle.olap_schema_text.specs.Judging.{schema_read}
 use Rattle.olap_view.specs.RollingUp.{AreRolledUp}
@@ -47,6 +53,7 @@ no_fault {T} {E} read x fault a b = absurd (let e : ◌≡◌ {A = Result T E} (
 
 -- ---- the schema
 
+-- the schema's text has no fault
 pub schema_faultless : (fault : _) → schema_read location_text ≡ Err fault → ⊥
 schema_faultless fault e = no_fault (schema_read location_text) location_schema fault location_is_read e
 
@@ -114,26 +121,26 @@ module _ (seed size : ℕ) (few : size ≤ most_generated) (s : Schema) (read : 
       subst (λ (t : Schema). P t.graph i) (sym (schema_is s read))
       (subst (P location_graph) (sym (members_are seed size few s read i told)) p)
 
-  facts_stand : facts_read_within most_facts s.graph i (fact_rows seed size) ≡ Ok (made_facts seed size)
-  facts_stand = of_read (λ g j. facts_read_within most_facts g j (fact_rows seed size) ≡ Ok (made_facts seed size))
+  facts_stand : facts_meant most_facts s.graph i (fact_rows seed size) ≡ Ok (made_facts seed size)
+  facts_stand = of_read (λ g j. facts_meant most_facts g j (fact_rows seed size) ≡ Ok (made_facts seed size))
       (input_is_made seed size few).fact_text
 
   -- what a reader of the text of the facts reads
   facts_in : (g : Graph) (text : List ℕ) → g ≡ s.graph → text ≡ text_of_rows (fact_rows seed size)
-      → facts_read_within most_facts g i (records_of text) ≡ facts_read_within most_facts s.graph i
-      (fact_rows seed size)
+      → facts_meant most_facts g i (records_of text) ≡ facts_meant most_facts s.graph i (fact_rows seed size)
   facts_in g text same e =
-      ap (λ (h : Graph). facts_read_within most_facts h i (records_of text)) same
-      ∙ ap (facts_read_within most_facts s.graph i) (ap records_of e ∙ fact_rows_read_back seed size)
+      ap (λ (h : Graph). facts_meant most_facts h i (records_of text)) same
+      ∙ ap (facts_meant most_facts s.graph i) (ap records_of e ∙ fact_rows_read_back seed size)
 
   pub facts_faultless : (g : Graph) (text : List ℕ) → g ≡ s.graph → text ≡ text_of_rows (fact_rows seed size)
-      → (fault : _) → facts_read_within most_facts g i (records_of text) ≡ Err fault → ⊥
+      → (fault : Fault FactKind) → facts_read_within most_facts g i (records_of text) ≡ Err fault → ⊥
   facts_faultless g text same e fault is =
-      no_fault (facts_read_within most_facts s.graph i (fact_rows seed size)) (made_facts seed size) fault facts_stand
-      (sym (facts_in g text same e) ∙ is)
+      no_fault (facts_meant most_facts s.graph i (fact_rows seed size)) (made_facts seed size)
+      (record { at = fault.at; kind = name_of_kind fault.kind }) facts_stand
+      (sym (facts_in g text same e) ∙ facts-named most_facts g i (records_of text) ∙ ap (named name_of_kind) is)
 
   -- the views that are rolled up
-  pub views_made : (g : Graph) (text : List ℕ) (views : List View) → g ≡ s.graph
+  pub views_made : (g : Graph) (text : List ℕ) (views : List (View ℕ ℕ)) → g ≡ s.graph
       → text ≡ text_of_rows (fact_rows seed size)
       → AreRolledUp g i (records_of text) (state ∷ province ∷ city ∷ []) views → IsLegal s i
       → AreMadeViews seed size s i views
@@ -143,15 +150,16 @@ module _ (seed size : ℕ) (few : size ≤ most_generated) (s : Schema) (read : 
       schema_text = read;
       member_text = told;
       legal = legal;
-      fact_text = sym (facts_in g text same e) ∙ r.read;
+      fact_text = sym (facts_in g text same e) ∙ meant-facts most_facts g i (records_of text) r.facts r.read;
     };
     direct = r.direct;
   }
 
-  module _ (facts : List Fact) (stand : facts_read_within most_facts s.graph i (fact_rows seed size) ≡ Ok facts) where
+  module _ (facts : List (Fact ℕ))
+      (stand : facts_meant most_facts s.graph i (fact_rows seed size) ≡ Ok facts) where
     facts_are : facts ≡ made_facts seed size
     facts_are =
-        only_one (facts_read_within most_facts s.graph i (fact_rows seed size)) facts
+        only_one (facts_meant most_facts s.graph i (fact_rows seed size)) facts
         (made_facts seed size) stand facts_stand
 
     pub facts_table : IsFactTable s.graph i facts
@@ -163,7 +171,7 @@ module _ (seed size : ℕ) (few : size ≤ most_generated) (s : Schema) (read : 
 
     -- the values have 64 bits
     pub facts_fit : All (λ f. SFits w64 f.value) facts
-    facts_fit = subst (All (λ (f : Fact). SFits w64 f.value)) (sym facts_are)
-        (All-map (λ (f : Fact). SFits w64 f.value) (fact_of seed size) (range_with_len 1 size)
+    facts_fit = subst (All (λ (f : Fact ℕ). SFits w64 f.value)) (sym facts_are)
+        (All-map (λ (f : Fact ℕ). SFits w64 f.value) (fact_of seed size) (range_with_len 1 size)
         (λ k d h. small_fits (value seed (get_or (range_with_len 1 size) k d))
         (value-mag seed (get_or (range_with_len 1 size) k d))))

@@ -5,17 +5,13 @@
 use Rattle.std.proofs.Common.{◌≡◌, ◌<◌, ◌≤◌, ◌⊎◌, inl, inr, ℕ, List, [], ◌∷◌, map, ap, sym, subst, ◌∙◌, arith}
 use Rattle.std.specs.Prelude.{◌≢◌, Contains}
 use Rattle.olap_base.specs.Chains.{IsChain}
-use Rattle.olap_base.specs.Deciding.{below_is_member, contains_cases}
+use Rattle.olap_base.specs.Deciding.{below_is_member}
 use Rattle.olap_base.specs.Graph.{Graph, HasEdge}
 use Rattle.olap_base.specs.Instance.{Instance, IsBelow, IsLawful, IsMember, Reaches, category_of, name_of, parents_of}
 use Rattle.olap_base.specs.Steps.{Climb, Climb.climb, Climb-from_leads, Climb-steps, Steps, Steps.here, Steps.step, Steps-cases, Steps-from_reaches}
 use Rattle.olap_base.proofs.AboveLemmas.{reached_once}
-use Rattle.olap_base.proofs.ListLemmas.{Contains-nil, contains_head}
+use Rattle.olap_base.proofs.ListLemmas.{Contains-nil, contains_head, Contains-only}
 use Rattle.olap_ast.specs.Formula.{HasPath, ReachesNamed}
-
--- in a list of one, what is in it is that one
-alone : {A : Type 0} (x y : A) → Contains (x ∷ []) y → x ≡ y
-alone x y c = elim (contains_cases y x [] c) [ inl e ↦ e | inr n ↦ absurd (Contains-nil y n) ]
 
 -- each edge leads to a category of a lower rank
 abbrev pub Falls : Graph → (ℕ → ℕ) → Type 0
@@ -93,7 +89,7 @@ module _ (i : Instance) (x p c d : ℕ) (u : IsUnder i x p c d) where
   under_below = subst (λ ps. Contains ps p) (sym u.parents) (contains_head p [])
 
   pub under_one : (y : ℕ) → IsBelow i x y → y ≡ p
-  under_one y b = sym (alone p y (subst (λ ps. Contains ps y) u.parents b))
+  under_one y b = sym (Contains-only p y (subst (λ ps. Contains ps y) u.parents b))
 
   -- a path to the parent's category, and to no other
   pub path_up : HasPath i x (d ∷ [])

@@ -1,7 +1,7 @@
 -- Below what each made member stands, and that the made instance is lawful.
 --     Standing, standing   each member with its way up
 --     made_is_lawful       the five laws
-use Rattle.std.proofs.Common.{◌≡◌, ◌==◌, ◌+◌, ◌*◌, ◌/◌, ◌%◌, ◌<◌, ◌⊎◌, inl, inr, ℕ, true, false, [], ◌∷◌, codes, refl, ap, sym, ◌∙◌, arith}
+use Rattle.std.proofs.Common.{◌≡◌, ◌+◌, ◌*◌, ◌/◌, ◌%◌, ◌<◌, ◌⊎◌, inl, inr, ℕ, [], ◌∷◌, codes, refl, ap, sym, ◌∙◌, arith}
 use Rattle.std.specs.Prelude.{◌≢◌, slice_index}
 use Rattle.olap_base.specs.Instance.{Instance, IsLawful, IsMember, Member, category_of, member_at, name_of, parents_of}
 use Rattle.olap_generate.specs.Location.{city, country, province, region, state, store}
@@ -10,6 +10,7 @@ use Rattle.olap_generate.proofs.Location.{location_falls, location_graph, rank}
 use Rattle.olap_generate.proofs.Made.{above_city, canada, canadian_regions, cities, made, mexican_regions, mexican_states, mexico, provinces, states, top, usa}
 use Rattle.olap_generate.proofs.OneParent.{IsPlaced, IsPlaced.at_top, IsPlaced.below_one, IsUnder, lawful_if_placed}
 use Rattle.olap_generate.proofs.Places.{Place, Place.of_store, Place.of_city, Place.of_state, Place.of_mexican_state, Place.of_province, Place.of_mexican_region, Place.of_canadian_region, Place.of_usa, Place.of_canada, Place.of_mexico, Place.of_all, at_store, at_city, at_state, at_mexican_state, at_province, at_mexican_region, at_canadian_region, at_usa, at_canada, at_mexico, at_all, place}
+use Rattle.std.proofs.lemmas.Bool.{eq-eqb, ne_eqb}
 
 -- where the members of two places are known, and the one names the other as its parent
 under : (i : Instance) (x p : ℕ) (m n : Member) → member_at i x ≡ m → member_at i p ≡ n → m.parents ≡ p ∷ []
@@ -30,21 +31,13 @@ not_washington j e = let q : ◌≡◌ {A = ℕ} 99 87 = ap (λ t. slice_index t
 four : (j : ℕ) → (j % 4 ≡ 0) ⊎ ((j % 4 ≡ 1) ⊎ ((j % 4 ≡ 2) ⊎ (j % 4 ≡ 3)))
 four j = grind arith
 
--- equal numbers pass the test
-passes : (a b : ℕ) → a ≡ b → (a == b) ≡ true
-passes a b e = grind arith
-
--- different ones don't
-fails : (a b : ℕ) → a ≢ b → (a == b) ≡ false
-fails a b n = grind arith
-
 -- the name of a city that isn't a fourth one
 other_name : (j : ℕ) → j % 4 ≢ 0 → city_name j ≢ codes "Washington"
-other_name j n = rw (fails (j % 4) 0 n) (not_washington j)
+other_name j n = rw (ne_eqb (j % 4) 0 n) (not_washington j)
 
 -- the name of a fourth one
 first_name : (j : ℕ) → j % 4 ≡ 0 → city_name j ≡ codes "Washington"
-first_name j e = rw (passes (j % 4) 0 e) refl
+first_name j e = rw (eq-eqb (j % 4) 0 e) refl
 
 -- ---- the ways up
 
@@ -71,17 +64,17 @@ module _ (seed size : ℕ) where
   i = made seed size
 
   above_first : (j : ℕ) → j % 4 ≡ 0 → above_city seed size j ≡ usa seed size
-  above_first j e = rw (passes (j % 4) 0 e) refl
+  above_first j e = rw (eq-eqb (j % 4) 0 e) refl
 
   above_second : (j : ℕ) → j % 4 ≡ 1 → above_city seed size j ≡ states seed size + j / 4
-  above_second j e = rw (fails (j % 4) 0 (omega arith), passes (j % 4) 1 e) refl
+  above_second j e = rw (ne_eqb (j % 4) 0 (omega arith), eq-eqb (j % 4) 1 e) refl
 
   above_third : (j : ℕ) → j % 4 ≡ 2 → above_city seed size j ≡ mexican_states seed size + j / 4
-  above_third j e = rw (fails (j % 4) 0 (omega arith), fails (j % 4) 1 (omega arith), passes (j % 4) 2 e) refl
+  above_third j e = rw (ne_eqb (j % 4) 0 (omega arith), ne_eqb (j % 4) 1 (omega arith), eq-eqb (j % 4) 2 e) refl
 
   above_fourth : (j : ℕ) → j % 4 ≡ 3 → above_city seed size j ≡ provinces seed size + j / 4
   above_fourth j e =
-      rw (fails (j % 4) 0 (omega arith), fails (j % 4) 1 (omega arith), fails (j % 4) 2 (omega arith)) refl
+      rw (ne_eqb (j % 4) 0 (omega arith), ne_eqb (j % 4) 1 (omega arith), ne_eqb (j % 4) 2 (omega arith)) refl
 
   city_name_is : (j : ℕ) → j < 4 * groups size → name_of i (cities seed size + j) ≡ city_name j
   city_name_is j l = ap (λ (m : Member). m.name) (at_city seed size j l)

@@ -4,19 +4,14 @@
 --     groups_more   the records of one group more
 --     all_groups    the records of all members
 --     same_row      a record that is known field by field
-use Rattle.std.proofs.Common.{◌≡◌, ℕ, zero, suc, ◌+◌, ◌*◌, arith, List, [], ◌∷◌, ◌++◌, ap, map, refl, sym, ◌∙◌, append_assoc}
+use Rattle.std.proofs.Common.{◌≡◌, ℕ, zero, suc, ◌+◌, ◌*◌, arith, List, [], ◌∷◌, ◌++◌, ap, map, sym, ◌∙◌, append_assoc}
 use Rattle.std.specs.List.{range_with_len}
 use Rattle.std.proofs.lemmas.List.{append-nil, map-append}
 use Rattle.olap_records.specs.Texts.{text_of_row, text_of_rows}
 use Rattle.olap_records.proofs.ReadingBack.{texts-push}
 use Rattle.olap_instance.specs.InstanceText.{header}
 use Rattle.olap_generate.specs.Members.{canadian_region_row, city_row, country_rows, mexican_region_row, mexican_state_row, named_row, province_row, state_row, store_row}
-
--- the text of records after others
-texts_append : (xs ys : List (List (List ℕ))) → text_of_rows (xs ++ ys) ≡ text_of_rows xs ++ text_of_rows ys
-texts_append [] ys = refl
-texts_append (x ∷ xs) ys = ap (λ (t : List ℕ). text_of_row x ++ t) (texts_append xs ys)
-    ∙ sym (append_assoc (text_of_row x) (text_of_rows xs) (text_of_rows ys))
+use Rattle.olap_view.proofs.StoreTextLemmas.{texts-append}
 
 -- one number more
 one_more : (start k : ℕ) → range_with_len start (k + 1) ≡ range_with_len start k ++ (start + k) ∷ []
@@ -48,7 +43,7 @@ rows_more row start k n place before old new next is eo en =
 pub groups_more : (rows group : List (List (List ℕ))) (old new : List ℕ) → old ≡ text_of_rows rows
     → new ≡ old ++ text_of_rows group → new ≡ text_of_rows (rows ++ group)
 groups_more rows group old new eo en =
-    en ∙ ap (λ (t : List ℕ). t ++ text_of_rows group) eo ∙ sym (texts_append rows group)
+    en ∙ ap (λ (t : List ℕ). t ++ text_of_rows group) eo ∙ sym (texts-append rows group)
 
 -- the first record
 pub header_first : (first : List (List ℕ)) (old new : List ℕ) → old ≡ [] → new ≡ old ++ text_of_row first
@@ -64,7 +59,7 @@ same_row category id name parent as_id as_name as_parent e f g =
     ∙ ap (λ (x : List ℕ). named_row as_id category x parent) f
     ∙ ap (λ (x : List ℕ). named_row as_id category as_name x) g
 
--- all records of the members, where there are so many groups
+-- all records of the members, if there are this many groups
 abbrev pub rows_of_groups : ℕ → ℕ → ℕ → List (List (List ℕ))
 rows_of_groups seed size g =
     header

@@ -11,5 +11,5 @@ use Rattle.olap_nav.specs.Plans.{Serves}
 
 -- some of the stored views of what is made serve the regions
 abbrev pub RegionsAreServed : Type 0
-RegionsAreServed = (seed size : ℕ) (s : Schema) (i : Instance) (facts : List Fact) → IsMade seed size s i facts
+RegionsAreServed = (seed size : ℕ) (s : Schema) (i : Instance) (facts : List (Fact ℕ)) → IsMade seed size s i facts
     → (mask : ℕ) × Serves s (stored_views i facts) region mask

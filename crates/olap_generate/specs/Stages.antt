@@ -21,7 +21,7 @@ pub record AreMadeMembers (seed size : ℕ) (schema : Schema) (members : Instanc
   pub made_for : IsMadeFor schema.graph members
 
 -- so are the facts, and these are the views that are stored of them
-pub record AreMadeViews (seed size : ℕ) (schema : Schema) (members : Instance) (views : List View) : Type 0 where
-  pub facts : List Fact
+pub record AreMadeViews (seed size : ℕ) (schema : Schema) (members : Instance) (views : List (View ℕ ℕ)) : Type 0 where
+  pub facts : List (Fact ℕ)
   pub made : IsMade seed size schema members facts
   pub direct : views ≡ stored_views members facts

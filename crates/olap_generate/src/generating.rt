@@ -2,7 +2,7 @@
 ghost use Rattle.std.specs.Prelude.{◌≡◌, ◌++◌, ◌-◌, ◌≤◌, All, IfOk, Ok, OnOk, codes, decimal, length, sum_by};
 ghost use Rattle.std.specs.Fmt.{signed_decimal};
 ghost use Rattle.olap_base.specs.Graph.{IsCategory};
-ghost use Rattle.olap_base.specs.Views.{rows_from_views};
+ghost use Rattle.olap_base.specs.Views.{members as points, rows_from_views};
 ghost use Rattle.olap_nav.specs.PlanText.{plan_text};
 ghost use Rattle.olap_nav.specs.Plans.{IsPlan, sources_in};
 ghost use Rattle.olap_schema.specs.Schemas.{schema_of};
@@ -40,7 +40,7 @@ fn answer(
 
     ensures plan { IfOk result (λ a. IsPlan (schema_of schema.now) (views_of store.now) region a.0.mask) }
     ensures rows { IfOk result (λ a. rows_of a.1.rows
-        ≡ rows_from_views legal.now region (chosen (views_of store.now) a.0.mask)) }
+        ≡ rows_from_views (points legal.now) region (chosen (views_of store.now) a.0.mask)) }
     ensures fit { IfOk result (λ a. All IsStored (rows_of a.1.rows)) }
     ensures few { IfOk result (λ a. length a.1.rows ≤ length legal.now) }
 {
@@ -60,7 +60,7 @@ fn add_plan(
     text: &mut Vec<u8>,
 ) -> Result<(), Memory>
     requires store { IsStore (views_of store.now) }
-    requires categories { All (λ v. IsCategory (schema_of schema.now).graph v.category) (views_of store.now) }
+    requires categories { All (λ v. IsCategory (schema_of schema.now).graph v.target) (views_of store.now) }
     ensures { OnOk result (text.new.items ≡ text.old.items
         ++ plan_text (schema_of schema.now).graph (sources_in (views_of store.now) mask)) }
 {
@@ -94,7 +94,7 @@ fn shown(
     view: &View,
 ) -> Result<Vec<u8>, Memory>
     requires store { IsStore (views_of store.now) }
-    requires categories { All (λ v. IsCategory (schema_of schema.now).graph v.category) (views_of store.now) }
+    requires categories { All (λ v. IsCategory (schema_of schema.now).graph v.target) (views_of store.now) }
     requires fit { All IsStored (rows_of view.now.rows) }
     requires few { length view.now.rows ≤ length legal.now }
     ensures { IfOk result (λ text. text.items
@@ -113,7 +113,7 @@ fn shown(
     Ok(text)
 }
 
-/// What is told of the made views.
+/// What is printed about the made views.
 fn for_store(
     alloc: Global,
     schema: &Schema,
@@ -130,7 +130,7 @@ fn for_store(
     Ok(Text::from_vec(text))
 }
 
-/// What is told of the views that are made of the made members.
+/// What is printed about the views that are made of the made members.
 fn for_members(alloc: Global, schema: &Schema, legal: &Legal, input: &Input) -> Result<Text, Memory>
     requires { AreMadeMembers input.now.seed input.now.size (schema_of schema.now) legal.now }
     ensures { IfOk result (λ text. ShowsGenerated input.now.seed input.now.size text) }
@@ -139,7 +139,7 @@ fn for_members(alloc: Global, schema: &Schema, legal: &Legal, input: &Input) -> 
     for_store(alloc, schema, legal, &store, input)
 }
 
-/// What is told of the input that is made for the made schema.
+/// What is printed about the input that is made for the made schema.
 fn for_schema(alloc: Global, schema: &Schema, input: &Input) -> Result<Text, Memory>
     requires { schema_read location_text ≡ Ok (schema_of schema.now) }
     ensures { IfOk result (λ text. ShowsGenerated input.now.seed input.now.size text) }
@@ -149,7 +149,7 @@ fn for_schema(alloc: Global, schema: &Schema, input: &Input) -> Result<Text, Mem
 }
 
 /// Makes a schema, an instance and facts from a seed and a number of stores, reads and checks them, stores the views of
-/// the states, the provinces and the cities as a text, and answers for the regions from these. The lines tell how much
+/// the states, the provinces and the cities as a text, and returns for the regions from these. The lines tell how much
 /// there is of each.
 ///
 /// No text is at fault, the instance is legal, and there is a plan: nothing is refused unless memory runs out. Linear

@@ -23,7 +23,7 @@ fn row_count(store: &Store) -> u64
     count
 }
 
-/// What the counts of rows come to.
+/// The total of the rows' counts.
 fn count(rows: &[Row]) -> u64
     requires fit { All IsStored (rows_of rows.now) }
     requires few { length rows.now ≤ most_members }
@@ -36,7 +36,7 @@ fn count(rows: &[Row]) -> u64
     count
 }
 
-/// What the sums of rows come to.
+/// The total of the rows' sums.
 fn sum(rows: &[Row]) -> i128
     requires fit { All IsStored (rows_of rows.now) }
     requires few { length rows.now ≤ most_members }
@@ -65,7 +65,7 @@ pub(crate) fn input_lines(
     Ok(format!(in alloc; "members {members}\nfacts {facts}\nstored {stored}\n")?)
 }
 
-/// The lines after the plan's: the rows of its view, and what their counts and sums come to.
+/// The lines after the plan's: the rows of its view, and the totals of their counts and sums.
 pub(crate) fn view_lines(alloc: Global, rows: &[Row]) -> Result<String, Memory>
     requires fit { All IsStored (rows_of rows.now) }
     requires few { length rows.now ≤ most_members }

@@ -60,7 +60,7 @@ fn city_name<'a>(id: &'a str, j: u32) -> &'a str
     if j % 4 == 0 { "Washington" } else { id }
 }
 
-/// Adds the cities, of which every fourth is called Washington.
+/// Adds the cities. Every fourth is called Washington.
 fn add_cities(alloc: Global, out: &mut Printer, count: u32) -> Result<(), Memory>
     requires width { out.old.width ≡ 4 }
     ensures text { OnOk result (out.new.text
@@ -76,7 +76,7 @@ fn add_cities(alloc: Global, out: &mut Printer, count: u32) -> Result<(), Memory
     Ok(())
 }
 
-/// Adds so many members whose ids begin with this letter, all below one.
+/// Adds this many members whose ids begin with this letter, all below one.
 fn add_below(
     alloc: Global,
     out: &mut Printer,
@@ -97,7 +97,7 @@ fn add_below(
     Ok(())
 }
 
-/// Adds so many members whose ids begin with this letter, each below the one of its number with the other letter.
+/// Adds this many members whose ids begin with this letter, each below the one of its number with the other letter.
 fn add_beside(
     alloc: Global,
     out: &mut Printer,

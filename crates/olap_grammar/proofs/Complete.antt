@@ -1,5 +1,5 @@
 -- What is a formula is read, with its tree.
-use Rattle.std.proofs.Common.{◌≡◌, ◌≤◌, ◌<◌, ℕ, suc, List, [], ◌∷◌, ◌++◌, refl, arith, true, false, nat_le, ap, ◌∙◌, Some}
+use Rattle.std.proofs.Common.{◌≡◌, ◌≤◌, ◌<◌, ℕ, suc, List, [], ◌∷◌, refl, arith, false, nat_le, ap, ◌∙◌, Some}
 use Rattle.olap_numerals.specs.Comparing.{Op}
 use Rattle.std.specs.List.{fold}
 use Rattle.olap_grammar.specs.Forms as words
@@ -11,12 +11,8 @@ use Rattle.olap_grammar.specs.declared.tokens.Joint.{Joint}
 use Rattle.olap_grammar.specs.Grammar.{Atoms, level, left_level, right_level, comparing, digits_of, IsFormula, looser, joined, negated, bracketed, listed, plain, equal, compared, IsList, none, some, IsItems, last, more}
 use Rattle.olap_grammar.specs.Machine.{trees, Frame, Negation, Left, Bracket, Listing, Part, State, Wants, WantsPart, Named, Compared, Has, settled, list_closed, after, after_word, after_compared, has_atom, step, alone, ended, formula_read}
 use Rattle.olap_grammar.proofs.Levels.{row, apart}
-
--- a fold over two lists, one after the other
-pub fold-append : {A B : Type 0} (f : B → A → B) (b : B) (xs ys : List A)
-    → fold f b (xs ++ ys) ≡ fold f (fold f b xs) ys
-fold-append f b [] ys = refl
-fold-append f b (x ∷ xs) ys = fold-append f (f b x) xs ys
+use Rattle.std.proofs.lemmas.Bool.{le-leb}
+use Rattle.std.proofs.lemmas.List.Sums.{fold-append}
 
 -- a formula of the level may stand on what is open
 abbrev pub Admits : ℕ → List (Frame Form) → Type 0
@@ -55,10 +51,6 @@ stands_less : (a : Atoms Form) (m n : ℕ) (f : Form) (s : List (Frame Form)) (s
 stands_less a m n f s st l h =
     record { joint = λ j k. h.joint j (omega arith); close = h.close; comma = h.comma; end = h.end }
 
--- at most, as the test has it
-le_true : (m n : ℕ) → m ≤ n → nat_le m n ≡ true
-le_true m n h = grind (arith)
-
 -- more, as the test has it
 lt_false : (m n : ℕ) → n < m → nat_le m n ≡ false
 lt_false m n h = grind (arith)
@@ -76,9 +68,9 @@ settled_stays j f (Part g ∷ s) h = refl
 -- what is read on top of a formula with its mark joins it
 settled_joins : (n : ℕ) (j : Joint) (f g : Form) (s : List (Frame Form)) → n ≤ level j
     → settled trees n g (Left j f ∷ s) ≡ settled trees n (words.Form.Joined j f g) s
-settled_joins n j f g s h = rw (le_true n (level j) h) refl
+settled_joins n j f g s h = rw (le-leb n (level j) h) refl
 
--- a formula behind a connective stands for both joined
+-- a formula after a connective stands for both joined
 stands_joined : (a : Atoms Form) (j : Joint) (f g : Form) (s : List (Frame Form)) (st : State Form)
     → Stands a (right_level j) g (Left j f ∷ s) st → Stands a (level j) (words.Form.Joined j f g) s st
 stands_joined a j f g s st h = record {
@@ -88,7 +80,7 @@ stands_joined a j f g s st h = record {
   end = h.end ∙ rw (settled_joins 1 j f g s (row j).some) refl;
 }
 
--- and one behind a `!` for its negation
+-- and one after a `!` for its negation
 stands_negated : (a : Atoms Form) (f : Form) (s : List (Frame Form)) (st : State Form)
     → Stands a 6 f (Negation ∷ s) st → Stands a 6 (words.Form.Not f) s st
 stands_negated a f s st h = record { joint = h.joint; close = h.close; comma = h.comma; end = h.end }
@@ -105,7 +97,7 @@ names_op a w Op.Equal s = refl
 names_op a w Op.Less s = refl
 names_op a w Op.AtMost s = refl
 
--- behind a comparison a word has the digits
+-- after a comparison a word has the digits
 pub after_word_digits : (a : Atoms Form) (w : List ℕ) (op : Op) (s : List (Frame Form)) (v : List ℕ)
     → after_compared a w op s (token.Word v) ≡ has_atom (a.compare w op v) s
 after_word_digits a w Op.Equal s v = refl
@@ -119,7 +111,7 @@ after_signed_digits a w Op.Equal s v = refl
 after_signed_digits a w Op.Less s v = refl
 after_signed_digits a w Op.AtMost s v = refl
 
--- behind it the digits of a number are compared with
+-- after it the digits of a number are compared with
 after_digits : (a : Atoms Form) (w : List ℕ) (op : Op) (s : List (Frame Form)) (t : Token) (v : List ℕ)
     → digits_of t ≡ Some v → after_compared a w op s t ≡ has_atom (a.compare w op v) s
 after_digits a w op s (token.Word u) v e = let same : u ≡ v = cc in rw same (after_word_digits a w op s v)

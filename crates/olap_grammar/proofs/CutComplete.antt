@@ -68,19 +68,19 @@ number_ends v ts w (b ∷ bs) h = rw h refl
 digit_other : (d : ℕ) → is_ascii_digit d ≡ true → d == 62 ≡ false
 digit_other d h = grind arith
 
--- a digit behind `-` begins a number
+-- a digit after `-` begins a number
 begins_number : (ts : List Token) (d : ℕ) → is_ascii_digit d ≡ true
     → cut_step version.Two (Dash ts) d ≡ InSigned ts (45 ∷ d ∷ [])
 begins_number ts d h = rw (digit_other d h, h) refl
 
--- behind `<` and `-`, where no arrow ends, the rest is cut as behind a `-` after the mark `<`
+-- after `<` and `-`, where no arrow ends, the rest is cut as after a `-` after the mark `<`
 dash_on : (ts : List Token) (bs : List ℕ) → EndsDash bs
     → cut_ended version.Two (fold (cut_step version.Two) (LessDash ts) bs)
     ≡ cut_ended version.Two (fold (cut_step version.Two) (Dash (ts ++ token.Mark mark.Less ∷ [])) bs)
 dash_on ts [] h = refl
 dash_on ts (b ∷ bs) h = rw h refl
 
--- behind `<`, where no longer mark goes on, the rest is cut as after the mark `<`
+-- after a `<` that is no part of a longer mark, the rest is cut as after the mark `<`
 less_on : (ts : List Token) (bs : List ℕ) → EndsLess bs
     → cut_ended version.Two (fold (cut_step version.Two) (Less ts) bs)
     ≡ cut_ended version.Two (fold (cut_step version.Two) (Between (ts ++ token.Mark mark.Less ∷ [])) bs)

@@ -1,5 +1,5 @@
 -- A line is cut into the tokens that are found.
-use Rattle.std.proofs.Common.{◌≡◌, ◌==◌, ◌⊎◌, ◌&&◌, inl, inr, ℕ, Bool, true, false, List, [], ◌∷◌, ◌++◌, refl, sym, ◌∙◌, Option, Some, None, append_assoc, append-nil, arith, if◌then◌else◌}
+use Rattle.std.proofs.Common.{◌≡◌, ◌==◌, ◌⊎◌, ◌&&◌, inl, inr, ℕ, Bool, true, false, List, [], ◌∷◌, ◌++◌, refl, sym, ◌∙◌, Option, Some, None, append_assoc, append-nil, if◌then◌else◌}
 use Rattle.std.specs.List.{fold}
 use Rattle.std.specs.Char.{is_ascii_digit}
 use Rattle.olap_base.proofs.ListLemmas.{first_true, second_true}
@@ -15,7 +15,8 @@ use Rattle.olap_grammar.specs.declared.tokens.Mark.TheVariants as mark
 use Rattle.olap_grammar.specs.declared.tokens.Joint.TheVariants as joint
 use Rattle.olap_grammar.specs.declared.tokens.Version.{Version}
 use Rattle.olap_grammar.specs.declared.tokens.Version.TheVariants as version
-use Rattle.olap_grammar.proofs.LongestLemmas.{cut_mark, same_byte}
+use Rattle.olap_grammar.proofs.LongestLemmas.{cut_mark}
+use Rattle.std.proofs.lemmas.Bool.{eqb-true}
 
 -- the tokens before, and the rest of the line is cut into the tokens after them
 pub record Follows (v : Version) (done : List Token) (bs : List ℕ) (all : List Token) : Type 0 where
@@ -92,7 +93,7 @@ first_mark : (b c : ℕ) (first m : Mark) (others : Option Mark) → mark_bytes 
 first_mark b c first m others spelt later h = go (b == c) refl h
   where
     go : (t : Bool) → b == c ≡ t → (if t then Some first else others) ≡ Some m → mark_bytes m ≡ b ∷ []
-    go true e q = let same : first ≡ m = cc in rw (← same, same_byte b c e) spelt
+    go true e q = let same : first ≡ m = cc in rw (← same, eqb-true b c e) spelt
     go false e q = later q
 
 -- the mark that a byte is by itself is spelt by it
@@ -151,22 +152,22 @@ between_gives v ts b bs all =
       cut = rw h.line (word b h.more (e, h.bytes) h.ends h.follows.cut);
     })
     (λ n. choose P Q (b == 32) _ _
-    (λ e h. rw (same_byte b 32 e) (record { later = h.later; whole = h.whole; cut = blank h.cut }))
+    (λ e h. rw (eqb-true b 32 e) (record { later = h.later; whole = h.whole; cut = blank h.cut }))
     (λ n. choose P Q (b == 9) _ _
-    (λ e h. rw (same_byte b 9 e) (record { later = h.later; whole = h.whole; cut = tabbed h.cut }))
+    (λ e h. rw (eqb-true b 9 e) (record { later = h.later; whole = h.whole; cut = tabbed h.cut }))
     (λ n. choose P Q (b == 34) _ _
-    (λ e h. rw (same_byte b 34 e, h.line)
+    (λ e h. rw (eqb-true b 34 e, h.line)
     (record {
       later = token.Quoted h.text ∷ h.follows.later;
       whole = rw h.follows.whole
           (simp append_assoc);
       cut = quoted h.spelt h.follows.cut;
     }))
-    (λ n. choose P Q (b == 45) _ _ (λ e h. rw (same_byte b 45 e) h)
-    (λ n. choose P Q (b == 60) _ _ (λ e h. rw (same_byte b 60 e) h)
+    (λ n. choose P Q (b == 45) _ _ (λ e h. rw (eqb-true b 45 e) h)
+    (λ n. choose P Q (b == 60) _ _ (λ e h. rw (eqb-true b 60 e) h)
     (λ n h. mark_gives v ts b bs all (mark_of b) refl h))))))
 
--- a byte behind `-` that ends no arrow
+-- a byte after `-` that ends no arrow
 dash_gives : (v : Version) (ts : List Token) (b : ℕ) (bs : List ℕ) (all : List Token)
     → Gives v (after_dash v ts b) bs all → Follows v ts (45 ∷ b ∷ bs) all
 dash_gives v ts b bs all = choose (λ s. Gives v s bs all) (Follows v ts (45 ∷ b ∷ bs) all)
@@ -175,7 +176,7 @@ dash_gives v ts b bs all = choose (λ s. Gives v s bs all) (Follows v ts (45 ∷
     (second_true (has_numbers v) (is_ascii_digit b) e) h)
     (λ n h. absurd h)
 
--- a byte behind `<` that isn't `-`
+-- a byte after `<` that isn't `-`
 less_gives : (v : Version) (ts : List Token) (b : ℕ) (bs : List ℕ) (all : List Token) → b == 45 ≡ false
     → Gives v (after_less v ts b) bs all → Follows v ts (60 ∷ b ∷ bs) all
 less_gives v ts b bs all m =
@@ -183,7 +184,7 @@ less_gives v ts b bs all m =
     let Q : Type 0 = Follows v ts (60 ∷ b ∷ bs) all in
     choose P Q (has_numbers v) _ _
     (λ e. choose P Q (b == 61) _ _
-    (λ f h. rw (same_byte b 61 f) (after_mark v mark.AtMost ts bs all (is_two v e) tt h))
+    (λ f h. rw (eqb-true b 61 f) (after_mark v mark.AtMost ts bs all (is_two v e) tt h))
     (λ n h. after_mark v mark.Less ts (b ∷ bs) all (is_two v e)
     (n, λ y. absurd (let z : true ≡ false = sym y ∙ m in cc))
     (between_gives v (ts ++ token.Mark mark.Less ∷ []) b bs all h)))
@@ -235,11 +236,11 @@ step_gives v (InQuotes ts k) b bs all h =
       text = [];
       rest = bs;
       line = rw
-          (same_byte b 34 e) refl;
+          (eqb-true b 34 e) refl;
       spelt = nothing;
       follows = rw append-nil h;
     })
-    (λ n. choose P Q (b == 92) _ _ (λ e h. escaped (same_byte b 92 e) h.0 h.1 h.2 h.3 h.4)
+    (λ n. choose P Q (b == 92) _ _ (λ e h. escaped (eqb-true b 92 e) h.0 h.1 h.2 h.3 h.4)
     (λ m h. record {
       body = b ∷ h.body;
       text = b ∷ h.text;
@@ -280,18 +281,18 @@ step_gives v (InQuotes ts k) b bs all h =
 step_gives v (Escaped ts k) b bs all h =
     let P : Cut → Type 0 = λ s. Gives v s bs all in
     let Q : Type 0 = Gives v (Escaped ts k) (b ∷ bs) all in
-    choose P Q (b == 34) _ _ (λ e h. (b, bs, refl, inl (same_byte b 34 e), h))
-    (λ n. choose P Q (b == 92) _ _ (λ e h. (b, bs, refl, inr (same_byte b 92 e), h)) (λ m h. absurd h)) h
+    choose P Q (b == 34) _ _ (λ e h. (b, bs, refl, inl (eqb-true b 34 e), h))
+    (λ n. choose P Q (b == 92) _ _ (λ e h. (b, bs, refl, inr (eqb-true b 92 e), h)) (λ m h. absurd h)) h
 step_gives v (Dash ts) b bs all h =
     choose (λ s. Gives v s bs all) (Follows v ts (45 ∷ b ∷ bs) all) (b == 62) _ _
-    (λ e h. rw (same_byte b 62 e) (after_mark v (mark.Joint joint.Implies) ts bs all tt tt h))
+    (λ e h. rw (eqb-true b 62 e) (after_mark v (mark.Joint joint.Implies) ts bs all tt tt h))
     (λ n h. dash_gives v ts b bs all h) h
 step_gives v (Less ts) b bs all h =
     choose (λ s. Gives v s bs all) (Follows v ts (60 ∷ b ∷ bs) all) (b == 45) _ _
-    (λ e h. rw (same_byte b 45 e) h) (λ n h. less_gives v ts b bs all n h) h
+    (λ e h. rw (eqb-true b 45 e) h) (λ n h. less_gives v ts b bs all n h) h
 step_gives v (LessDash ts) b bs all h =
     choose (λ s. Gives v s bs all) (Follows v ts (60 ∷ 45 ∷ b ∷ bs) all) (b == 62) _ _
-    (λ e h. rw (same_byte b 62 e) (after_mark v (mark.Joint joint.Iff) ts bs all tt tt h))
+    (λ e h. rw (eqb-true b 62 e) (after_mark v (mark.Joint joint.Iff) ts bs all tt tt h))
     (λ n. choose (λ s. Gives v s bs all) (Follows v ts (60 ∷ 45 ∷ b ∷ bs) all) (has_numbers v && is_ascii_digit b) _ _
     (λ e h.
     let two = is_two v (first_true (has_numbers v) (is_ascii_digit b) e) in

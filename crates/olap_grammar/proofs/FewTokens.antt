@@ -17,11 +17,11 @@ use Rattle.olap_grammar.proofs.TokenLemmas.{joint_node, not_node, word_node, ope
 
 -- ---- products
 
--- with room for so many brackets more, tokens for each node
+-- with room for this many brackets more, tokens for each node
 abbrev each : ℕ → ℕ
 each room = 2 * room + 3
 
--- and a comma behind a part
+-- and a comma after a part
 abbrev each_part : ℕ → ℕ
 each_part room = 2 * room + 4
 
@@ -85,7 +85,7 @@ atom_fits room (suc n) h = let e = one_node (each room) n in omega (arith, e)
 
 -- ---- formulas
 
--- a formula has few tokens, its brackets are closed behind it, and no mark that compares stands at its end
+-- a formula has few tokens, its brackets are closed after it, and no mark that compares stands at its end
 record Fits (v : Version) (room : ℕ) (ts rest : List Token) : Type 0 where
   goes : Goes room rest
   adds : Adds v ts
@@ -98,7 +98,7 @@ record PartsFit (v : Version) (room : ℕ) (ts rest : List Token) : Type 0 where
   adds : Adds v ts
   few : length ts ≤ each_part room * nodes_of v ts
 
--- what stands behind a mark that is a node or none is counted by itself
+-- what stands after a mark that is a node or none is counted by itself
 joined_adds : (v : Version) (j : Joint) (left right : List Token) → Adds v left → Adds v right
     → Adds v (left ++ token.Mark (mark.Joint j) ∷ right)
 joined_adds v j left right p q us =
@@ -144,17 +144,17 @@ in_brackets v ts p =
           omega (arith, e, a, b, n, m, z);
     }
 
--- behind an open bracket
+-- after an open bracket
 opened_adds : (v : Version) (ts : List Token) → Adds v ts → Adds v (token.Mark mark.Open ∷ ts)
 opened_adds v ts p us =
     let a = open_none v (ts ++ us) in let b = open_none v ts in let c = p us in omega (arith, a, b, c)
 
--- behind a word
+-- after a word
 worded_adds : (v : Version) (w : List ℕ) (ts : List Token) → Adds v ts → Adds v (token.Word w ∷ ts)
 worded_adds v w ts p us =
     let a = word_node v w (ts ++ us) in let b = word_node v w ts in let c = p us in omega (arith, a, b, c)
 
--- behind a `!`
+-- after a `!`
 negated_adds : (v : Version) (ts : List Token) → Adds v ts → Adds v (token.Mark mark.Not ∷ ts)
 negated_adds v ts p us =
     let a = not_node v (ts ++ us) in let b = not_node v ts in let c = p us in omega (arith, a, b, c)

@@ -147,7 +147,7 @@ tally-on v (t ∷ ts) k =
     tally-on v ts (keep v k t)
     ∙ ap (λ y. fold (tallied v) y ts) (tally-of (nat_lt (length k.first) k.most) _ _ (tallied v k.tally t) refl refl)
 
--- where there is room there are no more
+-- if there is room there are no more
 no-more : (b : Bool) (most n : ℕ) → n < most → (b ≡ true → most ≤ n) → b ≡ false
 no-more true most n l f = let h = f refl in absurd (omega (arith, l, h))
 no-more false most n l f = refl

@@ -15,4 +15,4 @@ mod KeepingLemmas
 mod StackLemmas
 pub mod ReaderLemmas
 pub mod WordLemmas
-pub mod LeafLemmas
+mod LeafLemmas

@@ -1,8 +1,7 @@
--- The longest mark is the one behind which none goes on.
---     same_byte    equal by the test is equal
---     longest      no longer mark begins where none goes on
+-- The longest mark is the one after which none goes on.
+--     longest      if none goes on, no mark that is longer begins there
 --     ends_of      and none goes on where no longer one begins
---     cut_mark     so a line is cut after a mark behind which none goes on
+--     cut_mark     so a line is cut after a mark after which none goes on
 use Rattle.std.proofs.Common.{◌≡◌, ◌==◌, ◌≤◌, ℕ, Bool, true, false, List, [], ◌∷◌, ◌++◌, length, drop, get_or, refl, sym, ap, subst, arith}
 use Rattle.olap_grammar.specs.Cutting.{IsCut, IsLongest, IsMarkIn, mark_bytes, marked}
 use Rattle.olap_grammar.specs.Longest.{EndsDash, EndsLess, EndsMark}
@@ -13,10 +12,7 @@ use Rattle.olap_grammar.specs.declared.tokens.Mark.TheVariants as mark
 use Rattle.olap_grammar.specs.declared.tokens.Joint.TheVariants as joint
 use Rattle.olap_grammar.specs.declared.tokens.Version.{Version}
 use Rattle.olap_grammar.specs.declared.tokens.Version.TheVariants as version
-
--- equal by the test is equal
-pub same_byte : (a b : ℕ) → a == b ≡ true → a ≡ b
-same_byte a b h = grind (arith)
+use Rattle.std.proofs.lemmas.Bool.{eqb-true}
 
 -- the byte at a place
 abbrev byte_at : ℕ → List ℕ → ℕ
@@ -66,14 +62,14 @@ no_double_arrow (mark.Joint joint.Iff) bs rest h e = omega arith
 no_double_arrow m bs rest h e =
     let s : 60 ≡ byte_at 0 (mark_bytes m ++ bs) = ap (byte_at 0) e in absurd (omega (arith, s))
 
--- no longer mark begins where none goes on
+-- if none goes on, no mark that is longer begins there
 pub longest : (v : Version) (m : Mark) (bs : List ℕ) → EndsMark m bs → IsLongest v m bs
 longest v m bs h mark.AtMost rest k e = no_at_most m bs rest h e
 longest v m bs h (mark.Joint joint.Implies) rest k e = no_arrow m bs rest e
 longest v m bs h (mark.Joint joint.Iff) rest k e = no_double_arrow m bs rest h e
 longest v m bs h n rest k e = some_byte m
 
--- behind `<` no arrow begins with a `-`
+-- after `<` no arrow begins with a `-`
 ends_dash : (v : Version) (b : ℕ) (bs : List ℕ) → IsLongest v mark.Less (b ∷ bs) → b ≡ 45 → EndsDash bs
 ends_dash v b [] h s = tt
 ends_dash v b (c ∷ bs) h s = go (c == 62) refl
@@ -81,18 +77,18 @@ ends_dash v b (c ∷ bs) h s = go (c == 62) refl
     go : (t : Bool) → c == 62 ≡ t → c == 62 ≡ false
     go false e = e
     go true e =
-        let u : c ≡ 62 = same_byte c 62 e in
+        let u : c ≡ 62 = eqb-true c 62 e in
         let f : 3 ≤ 1 = h (mark.Joint joint.Iff) bs tt (λ i. 60 ∷ sym s i ∷ sym u i ∷ bs) in absurd (omega (arith, f))
 
 -- nor `<=`
 ends_less : (v : Version) (bs : List ℕ) → v ≡ version.Two → IsLongest v mark.Less bs → EndsLess bs
 ends_less v [] k h = tt
-ends_less v (b ∷ bs) k h = (go (b == 61) refl, λ e. ends_dash v b bs h (same_byte b 45 e))
+ends_less v (b ∷ bs) k h = (go (b == 61) refl, λ e. ends_dash v b bs h (eqb-true b 45 e))
   where
     go : (t : Bool) → b == 61 ≡ t → b == 61 ≡ false
     go false e = e
     go true e =
-        let u : b ≡ 61 = same_byte b 61 e in
+        let u : b ≡ 61 = eqb-true b 61 e in
         let f : 2 ≤ 1 = h mark.AtMost bs k (λ i. 60 ∷ sym u i ∷ bs) in absurd (omega (arith, f))
 
 -- none goes on where no longer one begins
@@ -100,7 +96,7 @@ pub ends_of : (v : Version) (m : Mark) (bs : List ℕ) → IsMarkIn m v → IsLo
 ends_of v mark.Less bs k h = ends_less v bs k h
 ends_of v m bs k h = tt
 
--- a line is cut after a mark behind which none goes on
+-- a line is cut after a mark after which none goes on
 pub cut_mark : {v : Version} (m : Mark) {bs : List ℕ} {ts : List Token} → IsMarkIn m v → EndsMark m bs → IsCut v bs ts
     → IsCut v (mark_bytes m ++ bs) (token.Mark m ∷ ts)
 cut_mark {v = v} m {bs = bs} k h d = marked m k (longest v m bs h) d

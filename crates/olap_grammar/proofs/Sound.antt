@@ -14,6 +14,7 @@ use Rattle.olap_grammar.specs.Grammar.{Atoms, level, left_level, right_level, co
 use Rattle.olap_grammar.specs.Machine.{trees, Frame, Negation, Left, Bracket, Listing, Part, State, Wants, WantsPart, Named, Compared, Has, Bad, settled, list_closed, closed, parted, after, after_atom, after_word, after_compared, has_atom, begun, begun_part, is_one, step, alone, ended, formula_read}
 use Rattle.olap_grammar.proofs.Levels.{row}
 use Rattle.olap_grammar.proofs.Complete.{Admits, admits_more, after_signed_digits, after_word_digits}
+use Rattle.std.proofs.lemmas.Bool.{leb-true}
 
 -- a formula of a tighter level is one of a looser level
 down : {a : Atoms Form} {ts : List Token} {f : Form} (k n : ℕ) → IsFormula a (k + n) ts f → IsFormula a n ts f
@@ -80,10 +81,6 @@ le_or_above : (m n : ℕ) (b : Bool) → nat_le m n ≡ b → Type 0
 le_or_above m n true e = m ≤ n
 le_or_above m n false e = n < m
 
--- at most, by the test
-true_le : (m n : ℕ) → nat_le m n ≡ true → m ≤ n
-true_le m n e = grind (arith)
-
 -- more, by the test
 false_lt : (m n : ℕ) → nat_le m n ≡ false → n < m
 false_lt m n e = grind (arith)
@@ -126,7 +123,7 @@ settles a k n f (Left j g ∷ s) b l m h r = go (nat_le k (level j)) refl
     go : (t : Bool) → nat_le k (level j) ≡ t
         → (k ≤ level j → IsReached a k (settled trees k (words.Form.Joined j g f) s) b)
         → IsReached a k (cond t (settled trees k (words.Form.Joined j g f) s) (f, Left j g ∷ s)) b
-    go true e ih = ih (true_le k (level j) e)
+    go true e ih = ih (leb-true k (level j) e)
     go false e ih = (loosened a k n f _ b l r, false_lt k (level j) e)
 settles a k n f (Bracket ∷ s) b l m h r = (loosened a k n f _ b l r, tt)
 settles a k n f (Listing ∷ s) b l m h r = (loosened a k n f _ b l r, tt)
@@ -230,7 +227,7 @@ left_tells : (a : Atoms Form) (j : Joint) (r : Form × List (Frame Form)) (b : L
 left_tells a j (f, s) b h = let r = h.0 in
     (r.earlier, r.own, rw r.all (simp append_assoc), r.formula, settled_admits j s h.1, r.opened)
 
--- any token behind a formula
+-- any token after a formula
 after_tells : (a : Atoms Form) (f : Form) (s : List (Frame Form)) (t : Token) (b : List Token)
     → Reached a 7 f s b → Tells a (after trees f s t) (b ++ t ∷ [])
 after_tells a f s (token.Mark (mark.Joint j)) b r =
@@ -291,7 +288,7 @@ part_tells a s (token.Mark mark.Less) b o = tt
 part_tells a s (token.Mark mark.AtMost) b o = tt
 part_tells a s (token.Mark (mark.Joint j)) b o = tt
 
--- any behind an atom
+-- any after an atom
 atom_tells : (a : Atoms Form) (w : List ℕ) (s : List (Frame Form)) (t : Token) (b c : List Token)
     → b ≡ c ++ token.Word w ∷ [] → Opened a s c → (o : Option Form) → a.plain w ≡ o
     → Tells a (after_atom trees o s t) (b ++ t ∷ [])
@@ -299,7 +296,7 @@ atom_tells a w s t b c e h None p = tt
 atom_tells a w s t b c e h (Some f) p =
     after_tells a f s t b (record { earlier = c; own = token.Word w ∷ []; all = e; formula = plain p; opened = h })
 
--- any behind a word
+-- any after a word
 word_tells : (a : Atoms Form) (w : List ℕ) (s : List (Frame Form)) (t : Token) (b : List Token)
     → Tells a (Named w s) b → Tells a (after_word trees a w s t) (b ++ t ∷ [])
 word_tells a w s (token.Mark mark.Open) b h = go (is_one w) refl
@@ -321,7 +318,7 @@ word_tells a w s (token.Signed v) b h = atom_tells a w s (token.Signed v) b h.0 
 word_tells a w s (token.Mark mark.Colon) b h = atom_tells a w s (token.Mark mark.Colon) b h.0 h.1 h.2 (a.plain w) refl
 word_tells a w s (token.Mark mark.Not) b h = atom_tells a w s (token.Mark mark.Not) b h.0 h.1 h.2 (a.plain w) refl
 
--- a string behind a word and `=`
+-- a string after a word and `=`
 equal_tells : (a : Atoms Form) (w k : List ℕ) (s : List (Frame Form)) (b c : List Token)
     → b ≡ c ++ token.Word w ∷ token.Mark mark.Equal ∷ [] → Opened a s c → (o : Option Form) → a.equal w k ≡ o
     → Tells a (has_atom o s) (b ++ token.Quoted k ∷ [])
@@ -336,7 +333,7 @@ equal_tells a w k s b c e h (Some f) p =
       opened = h;
     }
 
--- a number behind a word and its mark
+-- a number after a word and its mark
 number_tells : (a : Atoms Form) (w : List ℕ) (op : Op) (t : Token) (v : List ℕ) (s : List (Frame Form))
     (b c : List Token) → b ≡ c ++ token.Word w ∷ token.Mark (comparing op) ∷ [] → Opened a s c → digits_of t ≡ Some v
     → (o : Option Form) → a.compare w op v ≡ o → Tells a (has_atom o s) (b ++ t ∷ [])
@@ -351,7 +348,7 @@ number_tells a w op t v s b c e h d (Some f) p =
       opened = h;
     }
 
--- any token behind these
+-- any token after these
 compared_tells : (a : Atoms Form) (w : List ℕ) (op : Op) (s : List (Frame Form)) (t : Token) (b : List Token)
     → Tells a (Compared w op s) b → Tells a (after_compared a w op s t) (b ++ t ∷ [])
 compared_tells a w Op.Equal s (token.Quoted k) b h = equal_tells a w k s b h.0 h.1 h.2 (a.equal w k) refl

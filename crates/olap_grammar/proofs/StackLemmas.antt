@@ -32,11 +32,13 @@ pub popped : (old new : List Frame) (n m : ℕ) (r : Option Frame) → length ol
 popped old new n m None k l e h = (no_items old (omega arith), no_items new (omega arith))
 popped old new n m (Some x) k l e h = rw e (frames_more new x)
 
+-- frames put on a stack make it longer by their number
 length_fold : (xs : List Frame) (s : List (machine.Frame Built))
     → length (fold (λ s x. frame_of x ∷ s) s xs) ≡ length xs + length s
 length_fold [] s = omega arith
 length_fold (x ∷ xs) s = let e = length_fold xs (frame_of x ∷ s) in omega (arith, e)
 
+-- the machine's stack has as many frames as the program's
 pub length_frames : (xs : List Frame) → length (frames_of xs) ≡ length xs
 unfolding frames_of
 length_frames xs = let e = length_fold xs [] in omega (arith, e)
@@ -63,6 +65,7 @@ takes_part xs ys x b same e h f =
     let t = on_top xs [] (length xs - 1) x (omega (arith, l)) e in
     rw (sym same, t.1) (h f t.0)
 
+-- with nothing open, a comma makes the form bad
 pub takes_no_part : (xs ys : List Frame) → xs ≡ ys → slice_get xs (length xs - 1) ≡ None → (f : Built)
     → parted f (frames_of ys) ≡ machine.State.Bad
 takes_no_part xs [] same e f = rw frames_none refl

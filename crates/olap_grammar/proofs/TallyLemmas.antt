@@ -16,7 +16,7 @@ use Rattle.olap_grammar.specs.declared.tokens.Version.{Version}
 
 -- ---- nodes
 
--- so many are counted of so many
+-- this many are counted of this many
 record Counts (n all : ℕ) : Type 0 where
   few : n ≤ all
   exact : n < counted_nodes → n ≡ all

@@ -1,6 +1,6 @@
 -- Nodes and open brackets, token by token.
---     Adds    behind these tokens nodes are counted as by themselves
---     Goes    behind some tokens so many more brackets may be opened
+--     Adds    after these tokens nodes are counted as by themselves
+--     Goes    after some tokens this many more brackets may be opened
 use Rattle.std.proofs.Common.{◌≡◌, ◌+◌, ◌++◌, ◌∷◌, ℕ, zero, suc, Bool, true, false, cond, List, [], nat_lt, Some, refl, arith}
 use Rattle.std.proofs.lemmas.Bool.{ltb-false}
 use Rattle.olap_numerals.specs.Comparing.{Op}
@@ -17,7 +17,7 @@ use Rattle.olap_grammar.specs.declared.tokens.Version.TheVariants as version
 
 -- ---- nodes
 
--- none of these marks compares, so what stands behind is counted by itself
+-- none of these marks compares, so what stands after is counted by itself
 pub joint_node : (v : Version) (j : Joint) (us : List Token) → nodes_of v (token.Mark (mark.Joint j) ∷ us)
     ≡ 1 + nodes_of v us
 unfolding nodes_behind
@@ -59,21 +59,21 @@ pub no_nodes : (v : Version) → nodes_of v [] ≡ 0
 unfolding nodes_behind
 no_nodes v = refl
 
--- behind these tokens nodes are counted as by themselves
+-- after these tokens nodes are counted as by themselves
 abbrev pub Adds : Version → List Token → Type 0
 Adds v ts = (us : List Token) → nodes_of v (ts ++ us) ≡ nodes_of v ts + nodes_of v us
 
--- what stands behind three tokens is counted by itself where the last doesn't compare
+-- what stands after three tokens is counted by itself where the last doesn't compare
 pub three_add : (v : Version) (t u w : Token) → compares v w ≡ false → Adds v (t ∷ u ∷ w ∷ [])
 unfolding nodes_behind
 three_add v t u w e us = rw e (omega arith)
 
--- nothing is compared with what comes behind a string
+-- nothing is compared with what comes after a string
 pub quoted_ends : (v : Version) (k : List ℕ) → compares v (token.Quoted k) ≡ false
 quoted_ends version.One k = refl
 quoted_ends version.Two k = refl
 
--- nor behind a number
+-- nor after a number
 pub number_ends : (v : Version) (t : Token) (digits : List ℕ) → digits_of t ≡ Some digits → compares v t ≡ false
 number_ends version.One (token.Word w) digits e = refl
 number_ends version.Two (token.Word w) digits e = refl
@@ -84,14 +84,14 @@ number_ends v (token.Mark m) digits e = absurd cc
 
 -- ---- brackets
 
--- behind some tokens as many more may be opened, and with the rest too many are never open
+-- after some tokens as many more may be opened, and with the rest too many are never open
 pub record Goes (room : ℕ) (rest : List Token) : Type 0 where
   pub opened : ℕ
   pub closed : ℕ
   pub left : opened + room ≡ closed + most_depth
   pub on : opens_over opened closed rest ≡ false
 
--- behind a `(` there is less room
+-- after a `(` there is less room
 pub opens : (room o c : ℕ) (rest : List Token) → o + room ≡ c + most_depth
     → opens_over o c (token.Mark mark.Open ∷ rest) ≡ false
     → (less : ℕ) × (room ≡ suc less) × (o + 1 + less ≡ c + most_depth) × (opens_over (o + 1) c rest ≡ false)
@@ -105,7 +105,7 @@ opens room o c rest e h = go room (nat_lt (c + most_depth) (o + 1)) refl e h
     go zero false p f g = let l = ltb-false (c + most_depth) (o + 1) p in absurd (omega (arith, l, f))
     go (suc less) false p f g = (less, refl, omega (arith, f), g)
 
--- behind a `)` there is more room
+-- after a `)` there is more room
 pub closes : (room less o c : ℕ) (rest : List Token) → room ≡ suc less → o + less ≡ c + most_depth
     → opens_over o c (token.Mark mark.Close ∷ rest) ≡ false → Goes room rest
 unfolding opens_over

@@ -30,7 +30,7 @@ pub each_is_digit : (ds : List ℕ) → list_all is_ascii_digit ds ≡ all_ascii
 each_is_digit [] = refl
 each_is_digit (d ∷ ds) = ap (λ r. is_ascii_digit d && r) (each_is_digit ds)
 
--- a root and what stands behind it are a path
+-- a root and what stands after it are a path
 pub path_on : (root : List ℕ) (mark : ℕ) (w : List ℕ)
     → path_of (root ∷ pieces_of mark w) ≡ Some (words.Atom.Path root (pieces_of mark w))
 path_on root mark w = go (pieces_of mark w) (some_pieces mark w (pieces_of mark w) refl)

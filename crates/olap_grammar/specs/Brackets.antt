@@ -1,6 +1,6 @@
 -- Brackets that are open, and how many tokens a formula may have.
 --     opens_over      too many brackets are open
---     most_tokens     the most tokens of a formula of so many nodes that never opens too many
+--     most_tokens     the most tokens of a formula of this many nodes that never opens too many
 use Rattle.std.specs.Prelude.{◌+◌, ◌*◌, ℕ, Bool, true, false, List, [], ◌∷◌, nat_lt, if◌then◌else◌}
 use Rattle.olap_base.specs.Limits.{most_depth}
 use Rattle.olap_grammar.specs.declared.tokens.Token.{Token}
@@ -17,7 +17,7 @@ abbrev pub is_close : Token → Bool
 is_close (token.Mark mark.Close) = true
 is_close t = false
 
--- after so many `(` and so many `)`, some `(` is too far above the `)`
+-- after this many `(` and this many `)`, some `(` is too far above the `)`
 unfoldable pub opens_over : ℕ → ℕ → List Token → Bool
 opens_over o c [] = false
 opens_over o c (token.Mark mark.Open ∷ ts) =

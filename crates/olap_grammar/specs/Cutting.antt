@@ -58,7 +58,7 @@ IsMarkIn mark.Less v = v ≡ version.Two
 IsMarkIn mark.AtMost v = v ≡ version.Two
 IsMarkIn m v = Unit {0}
 
--- no longer mark of the version begins where this one stands in front of these bytes
+-- if this mark stands before these bytes, no mark of the version that is longer begins there
 abbrev pub IsLongest : Version → Mark → List ℕ → Type 0
 IsLongest v m bs = (n : Mark) (rest : List ℕ) → IsMarkIn n v → mark_bytes n ++ rest ≡ mark_bytes m ++ bs
     → length (mark_bytes n) ≤ length (mark_bytes m)

@@ -59,11 +59,11 @@ between ts b =
     else if b == less_than_sign then Less ts
     else marked ts (mark_of b)
 
--- after a byte behind `-` that ends no arrow
+-- after a `-`, and a byte with which it is no arrow
 abbrev pub after_dash : Version → List Token → ℕ → Cut
 after_dash v ts b = if has_numbers v && is_ascii_digit b then InSigned ts (hyphen ∷ b ∷ []) else Stuck
 
--- after a byte behind `<` that isn't `-`
+-- after a `<`, and a byte that isn't `-`
 abbrev pub after_less : Version → List Token → ℕ → Cut
 after_less v ts b =
     if has_numbers v then (if b == equals_sign then Between (ts ++ token.Mark mark.AtMost ∷ [])

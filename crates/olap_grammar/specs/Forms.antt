@@ -1,5 +1,5 @@
 -- Formulas as they are written: over words, before any name is looked up.
---     Atom        what a word says, by itself or with a constant behind it
+--     Atom        what a word says, by itself or with a constant after it
 --     Form        an atom, or a connective of formulas
 --     depth_of    its levels
 use Rattle.std.specs.Prelude.{ℕ, ◌+◌, max, List}

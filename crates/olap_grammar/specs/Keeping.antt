@@ -37,7 +37,7 @@ keep v k t =
     record { most = k.most; first = k.first ++ t ∷ []; more = k.more; tally = tallied v k.tally t }
     else record { most = k.most; first = k.first; more = true; tally = tallied v k.tally t }
 
--- no token yet, where so many may be kept
+-- no token yet, with room to keep this many
 abbrev pub nothing_kept : ℕ → Kept
 nothing_kept most = record { most = most; first = []; more = false; tally = nothing_tallied }
 
@@ -70,11 +70,11 @@ between v k b =
     else if b == less_than_sign then Less k
     else marked v k (mark_of b)
 
--- after a byte behind `-` that ends no arrow
+-- after a `-`, and a byte with which it is no arrow
 abbrev pub after_dash : Version → Kept → ℕ → Going
 after_dash v k b = if has_numbers v && is_ascii_digit b then InSigned k (hyphen ∷ b ∷ []) else Stuck
 
--- after a byte behind `<` that isn't `-`
+-- after a `<`, and a byte that isn't `-`
 abbrev pub after_less : Version → Kept → ℕ → Going
 after_less v k b =
     if has_numbers v then (if b == equals_sign then Between (keep v k (token.Mark mark.AtMost))

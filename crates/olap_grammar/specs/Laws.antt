@@ -15,11 +15,11 @@ use Rattle.olap_grammar.specs.Nodes.{nodes_of}
 use Rattle.olap_grammar.specs.declared.tokens.Token.{Token}
 use Rattle.olap_grammar.specs.declared.tokens.Version.{Version}
 
--- these tokens are found exactly where the line is cut into them
+-- these tokens are found exactly if the line is cut into them
 abbrev pub FoundAsCut : Type 0
 FoundAsCut = (v : Version) (line : List ℕ) (ts : List Token) → (tokens_of v line ≡ Some ts) ↔ IsCut v line ts
 
--- this formula is found exactly where the tokens are one with this tree
+-- this formula is found exactly if the tokens are a formula with this tree
 abbrev pub FoundAsFormula : Type 0
 FoundAsFormula = (a : Atoms Form) (ts : List Token) (f : Form) → (the_formula a ts ≡ Some f) ↔ IsFormula a 1 ts f
 

@@ -22,7 +22,7 @@ compares version.Two (token.Mark mark.Less) = true
 compares version.Two (token.Mark mark.AtMost) = true
 compares v t = false
 
--- the nodes of tokens that stand right after a mark that compares, or not: what does is none
+-- the number of nodes of these tokens, the first of which doesn't count if it comes right after a comparing mark
 unfoldable pub nodes_behind : Version → Bool → List Token → ℕ
 nodes_behind v after [] = 0
 nodes_behind v after (t ∷ ts) = (if not after && is_node t then 1 else 0) + nodes_behind v (compares v t) ts

@@ -1,4 +1,4 @@
--- The definitions' formulas over words behind the program's.
+-- The definitions' formulas over words that the program's stand for.
 --     atom_of            an atom
 --     form_of, forms_of  a formula, and the parts of a list
 use Rattle.olap_ast.specs.Trees.{op_of}

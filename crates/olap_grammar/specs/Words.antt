@@ -1,6 +1,6 @@
 -- The meaning of words in a formula.
 --     pieces_of      the parts of a word between marks
---     pieces_behind  the parts behind the first mark
+--     pieces_behind  the parts after the first mark
 --     plain_of       a word by itself
 --     equal_of       a word with a string
 --     compare_of     a word with a number
@@ -24,7 +24,7 @@ use Rattle.olap_grammar.specs.declared.tokens.Version.{Version}
 unfoldable pub pieces_of : ℕ → List ℕ → List (List ℕ)
 pieces_of mark w = slice_split (λ b. b == mark) w
 
--- the parts of what stands after a mark; where there is no mark, not even an empty part
+-- the parts of what stands after a mark; if there is no mark, not even an empty part
 abbrev pub pieces_behind : ℕ → Option (Bor (List ℕ)) → List (List ℕ)
 pieces_behind mark None = []
 pieces_behind mark (Some text) = pieces_of mark text.now

@@ -48,7 +48,7 @@ fn is_word_byte(byte: u8) -> bool
     byte.is_ascii_alphanumeric() || byte == b'_' || byte == b'.'
 }
 
-/// The token after the others. Nothing is begun behind it.
+/// The token after the others. Nothing is begun after it.
 fn add(version: Version, tokens: &mut FirstTokens, token: Token) -> Result<Begun, Refusal<NoTokens>>
     requires { HasRoom tokens.old.tally }
     ensures goes { (bs : Items ℕ) → CutsTo result bs (kept_of tokens.new)
@@ -164,7 +164,7 @@ fn has_numbers(version: Version) -> bool
     }
 }
 
-/// A byte behind `-` that ends no arrow: it begins a number.
+/// A byte after `-` that ends no arrow: it begins a number.
 fn after_dash(version: Version, bytes: &mut Vec<u8>, byte: u8) -> Result<Begun, Refusal<NoTokens>>
     ensures { (k : Kept) → CutsTo result bytes.new.items k (keeping.after_dash version k byte) }
 {
@@ -176,7 +176,7 @@ fn after_dash(version: Version, bytes: &mut Vec<u8>, byte: u8) -> Result<Begun, 
     Err(Refusal::Kind(NoTokens))
 }
 
-/// A byte behind `<` that isn't `-`.
+/// A byte after `<` that isn't `-`.
 fn after_less(
     version: Version,
     tokens: &mut FirstTokens,
@@ -262,7 +262,7 @@ fn end(
     }
 }
 
-/// The first tokens of the line, where nothing is kept before. The bytes are room for what is begun.
+/// The first tokens of the line, with nothing kept before. The bytes are room for what is begun.
 #[tactic(auto, unfolding(crate::specs::Keeping::kept_tokens))]
 fn cut(
     alloc: Global,
@@ -289,7 +289,7 @@ fn cut(
 
 /// The tokens that the line is cut into by the version, with spaces and tabs between them. As many are kept as `most`.
 ///
-/// `NoTokens` exactly where it can't be cut, and `Memory` where there is no room. One pass.
+/// `NoTokens` exactly if it can't be cut, and `Memory` if there is no room. One pass.
 pub fn first_tokens(
     alloc: Global,
     version: Version,

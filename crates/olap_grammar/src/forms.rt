@@ -3,7 +3,7 @@ use crate::Joint;
 use olap_ast::Op;
 use olap_base::Text;
 
-/// What a word says, by itself or with a constant behind it. Each name is a category's by its letters; whether a
+/// What a word says, by itself or with a constant after it. Each name is a category's by its letters; whether a
 /// category has it isn't known.
 #[derive(Drop)]
 pub enum Atom {

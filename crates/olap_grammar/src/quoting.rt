@@ -1,6 +1,6 @@
 // Texts as strings.
-ghost use Rattle.olap_grammar.specs.Quoting.{escaped, escaped_byte, quoted};
-ghost use Rattle.std.specs.Prelude.{◌≡◌, ◌++◌, OnOk};
+ghost use Rattle.olap_grammar.specs.Quoting.{escaped_byte, quoted};
+ghost use Rattle.std.specs.Prelude.{◌≡◌, ◌++◌, OnOk, flat_map};
 
 use std::alloc::AllocError;
 
@@ -15,9 +15,8 @@ fn push_byte(out: &mut Vec<u8>, byte: u8) -> Result<(), AllocError>
     }
 }
 
-#[tactic(auto, unfolding(crate::specs::Quoting::escaped))]
 fn push_escaped(out: &mut Vec<u8>, text: &[u8]) -> Result<(), AllocError>
-    ensures { OnOk result (out.new.items ≡ out.old.items ++ escaped text.now) }
+    ensures { OnOk result (out.new.items ≡ out.old.items ++ flat_map escaped_byte text.now) }
 {
     let mut left = text;
     'bytes: while let Some((byte, others)) = left.split_first() {

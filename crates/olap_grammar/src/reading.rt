@@ -328,8 +328,8 @@ fn read_tokens(
 
 /// The formula of the version that the tokens are.
 ///
-/// `BadForm` where they are none, and else `TooDeep` where it is deeper than `MOST_DEPTH`. One pass, and no tree that
-/// is deeper than one more comes about, whatever the tokens are. `Memory` where there is no room.
+/// `BadForm` if they are none, and else `TooDeep` if it is deeper than `MOST_DEPTH`. One pass, and no tree that
+/// is deeper than one more comes about, whatever the tokens are. `Memory` if there is no room.
 pub fn formula(
     alloc: Global,
     version: Version,

@@ -58,7 +58,7 @@ pub enum Token {
     Word(Text),
     /// What a string stands for, its escapes resolved.
     Quoted(Text),
-    /// A `-` before a digit, with the bytes of a word behind it.
+    /// A `-` before a digit, with the bytes of a word after it.
     Signed(Text),
     /// A mark.
     Mark(Mark),

@@ -73,7 +73,7 @@ fn push_pieces(alloc: Global, mark: u8, word: &[u8], texts: &mut Vec<Text>) -> R
     Ok(())
 }
 
-/// The parts of a word between marks; there is at least one. `Memory` where there is no room.
+/// The parts of a word between marks; there is at least one. `Memory` if there is no room.
 #[tactic(auto, using(crate::proofs::WordLemmas::some_pieces))]
 pub fn pieces(alloc: Global, mark: u8, word: &[u8]) -> Result<Vec<Text>, Memory>
     ensures found { IfOk result (λ v. v.items ≡ pieces_of mark word.now) }
@@ -214,7 +214,7 @@ pub(crate) fn equality(alloc: Global, word: &[u8], text: &[u8]) -> Result<Option
     }
 }
 
-/// What stands behind a `-`, if one stands in front.
+/// What stands after a `-`, if one stands in front.
 fn behind_sign(text: &[u8]) -> &[u8]
     ensures { result.now ≡ digits_in text.now }
 {

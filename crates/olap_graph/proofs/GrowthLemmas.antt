@@ -98,7 +98,7 @@ unfinished-with_edge g c d u hc hd loop from_all none = record {
       | inr e ↦ subst (λ (x : Edge). P x.child x.parent) e p
     ]
 
--- ---- the lists behind
+-- ---- the lists afterwards
 
 -- the names with one more, where `All` is the first
 pub drop-headed : (names : List (List ℕ)) (name : List ℕ) → IsHeaded names

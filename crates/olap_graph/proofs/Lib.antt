@@ -1,9 +1,10 @@
 -- Lemmas.
+pub mod NamesApart
 pub mod PlaceLemmas
 pub mod GrowthLemmas
 mod RefusalLemmas
 pub mod MarkLemmas
-mod TableLemmas
+pub mod TableLemmas
 pub mod RowLemmas
 mod EdgeLemmas
-pub mod NameLemmas
+mod NameLemmas

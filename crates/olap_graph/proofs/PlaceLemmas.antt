@@ -106,7 +106,7 @@ joins-Decides c d e =
     (λ q. (ap (λ (x : Edge). x.child) q, ap (λ (x : Edge). x.parent) q))
     (Decides-and (e.child == c) (e.parent == d) (Decides-eqb e.child c) (Decides-eqb e.parent d))
 
--- an edge is found exactly where the list has it
+-- an edge is found exactly if the list has it
 pub joins-found : (edges : List Edge) (c d : ℕ) (r : Option EdgeId)
     → option_map (λ e. e.0) r ≡ position_from (joins c d) 0 edges
     → IsSome r ↔ Contains edges (record { child = c; parent = d })

@@ -4,7 +4,7 @@ use Rattle.std.specs.Cmp.{nat_cmp_total}
 use Rattle.std.specs.FinSet.{FinSet, contains, empty, insert, union, contains-empty, contains-union}
 use Rattle.std.specs.Ordering.{nat_cmp}
 use Rattle.std.proofs.Math.ListN.{length-set}
-use Rattle.std.proofs.lemmas.Bool.{or_cases, or_left, or_right}
+use Rattle.std.proofs.lemmas.Bool.{or_cases, or_left, or_right, cases_eq}
 use Rattle.std.proofs.lemmas.List.{get_or-map, get_or_past, length-map, map-set, get_or-set_same, get_or-set_other}
 use Rattle.olap_base.specs.Deciding.{Through, through_from_Steps, Steps-from_through}
 use Rattle.olap_base.specs.Graph.{Edge, Graph, HasEdge}
@@ -24,10 +24,6 @@ use Rattle.olap_graph.proofs.TableLemmas.{edge_at-drawn, has_edge_at, nowhere, p
 -- below c + 1 is below c, or c
 pub newest : (a c : ℕ) → a < c + 1 → (a ≢ c) × (a < c) ⊎ (a ≡ c)
 newest a c h = grind arith
-
--- two numbers are equal, or they aren't
-pub same_or_not : (a c : ℕ) → (a ≡ c) ⊎ (a ≢ c)
-same_or_not a c = grind arith
 
 module _ {W : ℕ} (rows : List (CatSet W)) where
   -- there is a set for each place
@@ -137,7 +133,7 @@ pub joined_more : {W : ℕ} (J K : ℕ → ℕ → Type 0) (c d : ℕ) (rows : L
     → AreJoined J rows → AreJoined K (set rows c x)
 joined_more J K c d rows x more h e joined a b l =
     let inner : a < length rows = let n = length-set rows c x in omega (arith, l) in
-    elim (same_or_not a c) [
+    elim (cases_eq a c) [
       | inl q ↦ has_at (row (set rows c x) a) (insert (row rows c) d) b ((a ≡ b) ⊎ K a b)
           (ap (row (set rows c x)) q ∙ row_same rows c x h ∙ e) (
             λ m. elim ((has_insert (row rows c) d b).0 m) [

@@ -21,11 +21,11 @@ use Rattle.olap_graph.specs.Rows.{AreReached, row}
 use Rattle.olap_graph.specs.Tables.{drawn, IsMarked, LiesWithin, AreOut, AreBottoms, IsFirstWithout, HaveAll}
 use Rattle.olap_graph.specs.declared.listing.Ends.{Ends}
 
--- what is read where there are no ends
+-- what is read if there are no ends
 abbrev pub nowhere : Ends
 nowhere = record { child = record { 0 = 0 }; parent = record { 0 = 0 } }
 
--- what is read where there is no edge
+-- what is read if there is no edge
 abbrev pub no_edge : EdgeId
 no_edge = record { 0 = 0 }
 

@@ -17,36 +17,23 @@ use Rattle.olap_instance.specs.InstanceText.{category_field, category_number, id
 use Rattle.olap_numerals.specs.Numerals.{number_of}
 use Rattle.olap_instance.specs.Drafts.{numbers_in}
 use Rattle.olap_instance.proofs.PlaceFacts.{id-at-place, place-within}
+use Rattle.std.proofs.lemmas.Bool.{or_parts}
+use Rattle.olap_base.proofs.GeneralLemmas.{none_from_is_some}
 
 -- ---- checks
 
--- where there is no fault the first check passes, and the others
+-- if there is no fault the first check passes, and the others
 pub else-none : {K : Type 0} (b : Bool) (k : K) (o : Option K) → (if b then Some k else o) ≡ None
     → (b ≡ false) × (o ≡ None)
 else-none true k o e = cc e
 else-none false k o e = (refl, e)
-
--- where not one of two is so, neither is
-pub neither : (a b : Bool) → (a || b) ≡ false → (a ≡ false) × (b ≡ false)
-neither true b e = cc e
-neither false b e = (refl, e)
-
--- what isn't false is true
-pub isnt : (b : Bool) → not b ≡ false → b ≡ true
-isnt true e = refl
-isnt false e = cc e
 
 -- what isn't none is something
 pub there : {A : Type 0} (o : Option A) → is_none o ≡ false → (x : A) × (o ≡ Some x)
 there None e = cc e
 there (Some x) e = (x, refl)
 
--- what isn't some is none
-pub missing : {A : Type 0} (o : Option A) → is_some o ≡ false → o ≡ None
-missing None e = refl
-missing (Some x) e = cc e
-
--- where there is no kind of fault there is no fault
+-- if there is no kind of fault there is no fault
 pub no-second : {K : Type 0} (o : Option (ℕ × K)) → option_map (λ (p : ℕ × K). p.1) o ≡ None → o ≡ None
 no-second None e = refl
 no-second (Some p) e = cc e
@@ -108,12 +95,12 @@ pub kinds-more : (g : Graph) (c : ℕ) (kinds now : List Bool) (k : Bool) → c 
 kinds-more g c kinds now k l e ek en =
     en ∙ rw (e, ek, ← kind-at g c) (sym (take_more (numbers_in g) c false l))
 
--- an id that isn't known is neither `all` nor that of an earlier record
+-- an id that isn't known is or_parts `all` nor that of an earlier record
 pub fresh-parts : (before : List (List (List ℕ))) (id : List ℕ) → is_known before id ≡ false
     → (bytes_eq id (codes "all") ≡ false) × (place_of id (map id_field before) ≡ None)
 fresh-parts before id e =
-    let n = neither (bytes_eq id (codes "all")) (is_some (place_of id (map id_field before))) e in
-    (n.0, missing (place_of id (map id_field before)) n.1)
+    let n = or_parts (bytes_eq id (codes "all")) (is_some (place_of id (map id_field before))) e in
+    (n.0, none_from_is_some (place_of id (map id_field before)) n.1)
 
 -- of four tests that all pass the first and the third do
 pub four : (a b c d : Bool) → (not a || not b || not c || not d) ≡ false → (a ≡ true) × (c ≡ true)

@@ -20,7 +20,9 @@ use Rattle.olap_instance.specs.InstanceText.{is_bad_id, is_bad_number, is_too_lo
 use Rattle.olap_instance.specs.Members.{IsMemberId, childless}
 use Rattle.olap_instance.specs.Passes.{ids_in}
 use Rattle.olap_instance.proofs.Completing.{AreComplete}
-use Rattle.olap_instance.proofs.Checks.{absent-at, else-none, good-number, missing, neither, within}
+use Rattle.olap_instance.proofs.Checks.{absent-at, else-none, good-number, within}
+use Rattle.olap_base.proofs.GeneralLemmas.{not_zero, none_from_is_some}
+use Rattle.std.proofs.lemmas.Bool.{or_parts, cases_lt}
 
 -- a draft without members
 pub draft-none : (g : Graph) → IsHierarchy g → IsDraft (no_members g)
@@ -43,10 +45,6 @@ past-end [] x l = refl
 past-end (y ∷ ys) zero l = absurd (omega arith)
 past-end (y ∷ ys) (suc x) l = past-end ys x (omega arith)
 
--- a place is below a bound, or past it
-inside-or-past : (x n : ℕ) → (x < n) ⊎ (n ≤ x)
-inside-or-past x n = grind arith
-
 -- ---- one member more
 
 -- a member that isn't refused: what its id, its category and its name are
@@ -58,7 +56,7 @@ record IsAccepted (d : Draft) (id : List ℕ) (category : ℕ) (name : List ℕ)
   fresh : (bytes_eq id (codes "all") || is_some (place_of id (ids_in d.members))) ≡ false
   room : nat_le most_members (length d.members + 1) ≡ false
 
--- what the refusal tells where there is none
+-- what the refusal tells if there is none
 accepted : (d : Draft) (id : List ℕ) (category : ℕ) (name : List ℕ) → named_refusal d id category name ≡ None
     → IsAccepted d id category name
 accepted d id category name e =
@@ -69,10 +67,6 @@ accepted d id category name e =
     let f = else-none (bytes_eq id (codes "all") || is_some (place_of id (ids_in d.members))) _ _ n.1 in
     let g = else-none (nat_le most_members (length d.members + 1)) _ _ f.1 in
     record { good = a.0; short = b.0; declared = c.0; numeral = n.0; fresh = f.0; room = g.0 }
-
--- what the test says isn't 0 isn't
-not-zero : (n : ℕ) → (n == 0) ≡ false → n ≢ 0
-not-zero n f e = cc (rw e at f)
 
 module _ (d : Draft) (h : IsDraft d) (id : List ℕ) (category : ℕ) (name : List ℕ)
     (passes : named_refusal d id category name ≡ None) where
@@ -87,8 +81,8 @@ module _ (d : Draft) (h : IsDraft d) (id : List ℕ) (category : ℕ) (name : Li
 
   pub fresh-is : (bytes_eq id (codes "all") ≡ false) × (place_of id (ids_in d.members) ≡ None)
   fresh-is =
-      let n = neither (bytes_eq id (codes "all")) (is_some (place_of id (ids_in d.members))) ok.fresh in
-      (n.0, missing (place_of id (ids_in d.members)) n.1)
+      let n = or_parts (bytes_eq id (codes "all")) (is_some (place_of id (ids_in d.members))) ok.fresh in
+      (n.0, none_from_is_some (place_of id (ids_in d.members)) n.1)
 
   old-at : (x : ℕ) → x < length d.members → member_at more x ≡ member_at d.members x
   old-at x l = get_or_append_left d.members (new ∷ []) nobody x l
@@ -115,7 +109,7 @@ module _ (d : Draft) (h : IsDraft d) (id : List ℕ) (category : ℕ) (name : Li
       absent-at id (ids_in d.members) 0 x fresh-is.1 (omega arith) (at ∙ e)
 
   old-parents : (x : ℕ) → get_or (d.parents ++ [] ∷ []) x [] ≡ get_or d.parents x []
-  old-parents x = elim (inside-or-past x (length d.parents)) [
+  old-parents x = elim (cases_lt x (length d.parents)) [
     | inl l ↦ get_or_append_left d.parents ([] ∷ []) [] x l
     | inr l ↦ by d.parents x l
   ]
@@ -162,7 +156,7 @@ module _ (d : Draft) (h : IsDraft d) (id : List ℕ) (category : ℕ) (name : Li
     not_all = not-all;
     declared = λ x l. elim (old-or-new x l) [
       | inl a ↦ rw (category_of, old-at x a) (h.declared x a)
-      | inr a ↦ rw (category_of, a, new-at) (not-zero category ok.declared, known)
+      | inr a ↦ rw (category_of, a, new-at) (not_zero category ok.declared, known)
     ];
     texts = λ x l. elim (old-or-new x l) [
       | inl a ↦ rw (old-at x a) (h.texts x a)
@@ -180,9 +174,9 @@ module _ (d : Draft) (h : IsDraft d) (id : List ℕ) (category : ℕ) (name : Li
 
       good-texts : IsMemberId id × IsTrue (is_utf8 name)
       good-texts =
-          let b = neither (length id == 0) (list_any (λ b. b == semicolon) id) ok.good in
+          let b = or_parts (length id == 0) (list_any (λ b. b == semicolon) id) ok.good in
           let id-good : IsMemberId id =
-          record { utf8 = text1; short = within (length id) ok.short; filled = not-zero (length id) b.0; whole = b.1 }
+          record { utf8 = text1; short = within (length id) ok.short; filled = not_zero (length id) b.0; whole = b.1 }
           in
           (id-good, text2)
 

@@ -13,7 +13,8 @@ use Rattle.olap_base.specs.Naming.{place_of}
 use Rattle.olap_instance.specs.InstanceText.{category_field, category_number, id_field, is_bad_id, is_bad_number, is_no_text, is_too_long, member_fault, member_read, name_field}
 use Rattle.olap_instance.specs.Members.{childless}
 use Rattle.olap_instance.specs.Passes.{ids_in}
-use Rattle.olap_instance.proofs.Passing.{differ-zero, two, unrefused}
+use Rattle.olap_instance.proofs.Passing.{differ-zero, unrefused}
+use Rattle.std.proofs.lemmas.Bool.{false_from_ne_true, or_from}
 
 -- the ids of records are those of their members
 pub ids-read : (g : Graph) (rows : List (List (List ℕ))) → map id_field rows ≡ ids_in (map (member_read g) rows)
@@ -48,14 +49,9 @@ absent-from x (z ∷ zs) y n h e = by (bytes_eq x z) h (λ t. absent-from x zs y
     by true h again = cc h
     by false h again = again h
 
--- what can't be true is false
-not-so : (b : Bool) → (b ≡ true → ⊥) → b ≡ false
-not-so true h = absurd (h refl)
-not-so false h = refl
-
--- two texts differ either way
+-- or_from texts differ either way
 eq-back : (x y : List ℕ) → bytes_eq x y ≡ false → bytes_eq y x ≡ false
-eq-back x y e = not-so (bytes_eq y x) (λ t. let s : y ≡ x = (bytes_eq-Decides y x).0 t in
+eq-back x y e = false_from_ne_true (bytes_eq y x) (λ t. let s : y ≡ x = (bytes_eq-Decides y x).0 t in
     let u = (bytes_eq-Decides x y).1 (sym s) in cc (u, e))
 
 -- an id that is not there isn't there after another has come
@@ -84,7 +80,7 @@ pub entered : (g : Graph) (ids : List (List ℕ)) (n : ℕ) (r : List (List ℕ)
     → (member_fault g earlier r ≡ None) × (k ≡ category_number g r)
 entered g ids n r k four text id short name named some numeral other fresh few earlier ei en =
     let number : category_number g r ≡ k = ap (λ (o : Option ℕ). unwrap_or o 0) named in (
-      unrefused g earlier r (ap (λ (m : ℕ). m == 4) four) text id (two _ _ short name)
+      unrefused g earlier r (ap (λ (m : ℕ). m == 4) four) text id (or_from _ _ short name)
           (ap (λ (o : Option ℕ). is_none o) named)
           (ap (λ (m : ℕ). m == 0) number ∙ differ-zero k some)
           (ap (λ (m : ℕ). is_bad_number (is_number g m) (name_field r)) number ∙ numeral)

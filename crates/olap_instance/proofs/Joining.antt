@@ -1,5 +1,5 @@
 -- Pieces joined by semicolons, and cut again.
-use Rattle.std.proofs.Common.{◌≡◌, ◌≢◌, ◌+◌, ◌<◌, ◌++◌, ◌∷◌, ◌∙◌, ◌==◌, ◌||◌, inl, inr, Bool, true, false, ℕ, zero, suc, List, [], length, take, get_or, if◌then◌else◌, refl, sym, ap, arith, append_assoc}
+use Rattle.std.proofs.Common.{◌≡◌, ◌≢◌, ◌+◌, ◌<◌, ◌++◌, ◌∷◌, ◌∙◌, ◌==◌, inl, inr, Bool, false, ℕ, zero, suc, List, [], length, take, get_or, if◌then◌else◌, refl, sym, ap, arith, append_assoc}
 use Rattle.std.specs.Prelude.{All}
 use Rattle.std.specs.List.{join_with_byte, list_any, slice_split}
 use Rattle.std.specs.Str.{IsUtf8}
@@ -10,8 +10,9 @@ use Rattle.std.proofs.lemmas.Str.{IsUtf8-append, IsUtf8-from_ascii, IsUtf8-nil}
 use Rattle.std.proofs.lemmas.Str.Ascii.{IsAscii-from_all}
 use Rattle.olap_base.specs.Bytes.{semicolon}
 use Rattle.olap_instance.specs.InstanceText.{pieces_of}
+use Rattle.std.proofs.lemmas.Bool.{or_parts}
 
--- one piece more, behind others
+-- one piece more, after others
 join-next : (y : List ℕ) (ys : List (List ℕ)) (x : List ℕ)
     → join_with_byte semicolon (y ∷ (ys ++ x ∷ [])) ≡ join_with_byte semicolon (y ∷ ys) ++ semicolon ∷ x
 join-next y [] x = refl
@@ -19,7 +20,7 @@ join-next y (z ∷ zs) x =
     ap (λ (t : List ℕ). y ++ semicolon ∷ t) (join-next z zs x)
     ∙ sym (append_assoc y (semicolon ∷ join_with_byte semicolon (z ∷ zs)) (semicolon ∷ x))
 
--- one piece more, behind those before it
+-- one piece more, after those before it
 pub join-more : (ids : List (List ℕ)) (i : ℕ) (old new : List ℕ) → i < length ids → old
     ≡ join_with_byte semicolon (take i ids)
     → new ≡ old ++ (if i == 0 then get_or ids i [] else semicolon ∷ get_or ids i [])
@@ -37,16 +38,11 @@ join-more ids i old new l eo en =
       | inr f ↦ rw f.0 (sym (join-next y ys (get_or ids i [])))
     ]
 
--- where not one of two is so, neither is
-any-parts : (a b : Bool) → (a || b) ≡ false → (a ≡ false) × (b ≡ false)
-any-parts true b e = cc e
-any-parts false b e = (refl, e)
-
 -- where none is so, each isn't
 none-any : (f : ℕ → Bool) (xs : List ℕ) → list_any f xs ≡ false → All (λ x. f x ≡ false) xs
 none-any f [] e i d l = absurd (omega arith)
-none-any f (x ∷ xs) e zero d l = (any-parts (f x) (list_any f xs) e).0
-none-any f (x ∷ xs) e (suc i) d l = none-any f xs (any-parts (f x) (list_any f xs) e).1 i d (omega arith)
+none-any f (x ∷ xs) e zero d l = (or_parts (f x) (list_any f xs) e).0
+none-any f (x ∷ xs) e (suc i) d l = none-any f xs (or_parts (f x) (list_any f xs) e).1 i d (omega arith)
 
 -- a piece has a byte, and no semicolon
 abbrev pub IsPiece : List ℕ → Type 0

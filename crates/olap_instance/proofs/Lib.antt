@@ -1,27 +1,27 @@
 -- Lemmas of the crate.
-pub mod Index
-pub mod RosterLemmas
-pub mod MembersLemmas
-pub mod HashingLemmas
+mod Index
+mod RosterLemmas
+mod MembersLemmas
+mod HashingLemmas
 pub mod PlaceFacts
-pub mod ListsLemmas
-pub mod LookUps
-pub mod TextLemmas
-pub mod HeaderLemmas
-pub mod PieceLemmas
-pub mod PiecesPassed
-pub mod Stamps
-pub mod EnteringLemmas
-pub mod LinkingLemmas
-pub mod Completing
+mod ListsLemmas
+mod LookUps
+mod TextLemmas
+mod HeaderLemmas
+mod PieceLemmas
+mod PiecesPassed
+mod Stamps
+mod EnteringLemmas
+mod LinkingLemmas
+mod Completing
 pub mod Checks
-pub mod Soundness
-pub mod Refusing
-pub mod DraftLemmas
-pub mod Among
+mod Soundness
+mod Refusing
+mod DraftLemmas
+mod Among
 pub mod BuilderSteps
-pub mod Joining
+mod Joining
 pub mod CategoryNames
-pub mod PrintingLemmas
+mod PrintingLemmas
 pub mod Passing
 pub mod ReadBack

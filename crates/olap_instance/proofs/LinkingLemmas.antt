@@ -86,7 +86,7 @@ fields-pass ids all parents n e seen h =
 
 -- ---- records
 
--- a fault behind so many records is the same under other names
+-- a fault after this many records is the same under other names
 after-same : (n m : ℕ) (k : Option InstanceKind) (x y : Option (ℕ × InstanceKind)) → n ≡ m → x ≡ y
     → or_after n k x ≡ or_after m k y
 after-same n m k x y e f = rw (e, f) refl

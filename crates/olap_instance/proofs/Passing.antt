@@ -63,16 +63,7 @@ short n h = grind arith
 pub differ-zero : (n : ℕ) → n ≢ 0 → (n == 0) ≡ false
 differ-zero n h = elim (eqb_tells n 0) [ inl t ↦ absurd (h t.1) | inr f ↦ f.0 ]
 
--- what can't be true is false
-pub isnt : (b : Bool) → (b ≡ true → ⊥) → b ≡ false
-isnt true h = absurd (h refl)
-isnt false h = refl
-
 -- four tests that pass
 pub four-texts : (a b c d : Bool) → a ≡ true → b ≡ true → c ≡ true → d ≡ true
     → (not a || not b || not c || not d) ≡ false
 four-texts a b c d ea eb ec ed = rw (ea, eb, ec, ed) refl
-
--- two tests of which neither finds anything
-pub two : (a b : Bool) → a ≡ false → b ≡ false → (a || b) ≡ false
-two a b ea eb = rw (ea, eb) refl

@@ -7,17 +7,12 @@ use Rattle.std.proofs.lemmas.Slice.Eq.{bytes_eq-Decides}
 use Rattle.olap_base.specs.Naming.{place_of}
 use Rattle.olap_instance.specs.InstanceText.{parent_read}
 use Rattle.olap_instance.proofs.PlaceFacts.{id-at-place}
+use Rattle.olap_base.proofs.ListLemmas.{same_truth}
 
--- two tests are equal if each follows from the other
-both : (a b : Bool) → (a ≡ true → b ≡ true) → (b ≡ true → a ≡ true) → a ≡ b
-both true b f g = sym (f refl)
-both false true f g = g refl
-both false false f g = refl
-
--- pieces are equal exactly where they name one member
+-- pieces are equal exactly if they name one member
 pub same-piece : (ids : List (List ℕ)) (p q : List ℕ) (m n : ℕ) → place_of p ids ≡ Some m → place_of q ids ≡ Some n
     → bytes_eq p q ≡ (m == n)
-same-piece ids p q m n em en = both (bytes_eq p q) (m == n) there back
+same-piece ids p q m n em en = same_truth (bytes_eq p q) (m == n) there back
   where
     same : (n : ℕ) → (n == n) ≡ true
     same n = elim (eqb_tells n n) [ inl t ↦ t.0 | inr f ↦ absurd (f.1 refl) ]
@@ -40,7 +35,7 @@ same-piece ids p q m n em en = both (bytes_eq p q) (m == n) there back
 or-same : (a b c d : Bool) → a ≡ b → c ≡ d → (a || c) ≡ (b || d)
 or-same a b c d e h = rw (e, h) refl
 
--- a piece is equal to an earlier one exactly where its member was found before
+-- a piece is equal to an earlier one exactly if its member was found before
 pub any-same : (ids : List (List ℕ)) (p : List ℕ) (m : ℕ) (before : List (List ℕ)) (found : List ℕ)
     → place_of p ids ≡ Some m
     → map (λ q. place_of q ids) before ≡ map Some found → list_any (bytes_eq p) before ≡ list_any (λ n. m == n) found

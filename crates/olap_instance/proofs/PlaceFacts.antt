@@ -6,11 +6,7 @@ use Rattle.std.proofs.lemmas.Slice.Eq.{bytes_eq-Decides}
 use Rattle.std.proofs.lemmas.List.{length-map}
 use Rattle.olap_base.specs.Instance.{Instance}
 use Rattle.olap_base.specs.Naming.{place_of}
-
--- what can't be true is false
-not-so : (b : Bool) → (b ≡ true → ⊥) → b ≡ false
-not-so true h = absurd (h refl)
-not-so false h = refl
+use Rattle.std.proofs.lemmas.Bool.{false_from_ne_true}
 
 -- the place of an id that stands nowhere before
 pub first-at : (x : List ℕ) (ids : List (List ℕ)) (n m : ℕ) → m < length ids → get_or ids m [] ≡ x
@@ -22,7 +18,7 @@ first-at x (y ∷ ys) n zero l e none =
     let k : n ≡ n + 0 = omega arith in
     rw t (ap (λ (i : ℕ). Some i) k)
 first-at x (y ∷ ys) n (suc m) l e none =
-    let f = not-so (bytes_eq x y) (λ t. none 0 (omega arith) (sym ((bytes_eq-Decides x y).0 t))) in
+    let f = false_from_ne_true (bytes_eq x y) (λ t. none 0 (omega arith) (sym ((bytes_eq-Decides x y).0 t))) in
     let k : (n + 1) + m ≡ n + suc m = omega arith in
     rw f (first-at x ys (n + 1) m (omega arith) e (λ j b. none (suc j) (omega arith)) ∙ ap (λ (i : ℕ). Some i) k)
 

@@ -32,8 +32,9 @@ use Rattle.olap_instance.proofs.PieceLemmas.{places-read}
 use Rattle.olap_instance.proofs.PlaceFacts.{AreDistinct, place-of-id}
 use Rattle.olap_instance.proofs.BuilderSteps.{not-found}
 use Rattle.olap_instance.proofs.Checks.{number-good}
-use Rattle.olap_instance.proofs.Passing.{all-full, any-none, differ-zero, four-texts, ids-kept, isnt, round, rows-full, short, two, unrefused}
+use Rattle.olap_instance.proofs.Passing.{all-full, any-none, differ-zero, four-texts, ids-kept, round, rows-full, short, unrefused}
 use Rattle.olap_records.specs.Tables.{begins_with}
+use Rattle.std.proofs.lemmas.Bool.{false_from_ne_true, or_from}
 
 -- records without faults stand for their members
 read-of : (g : Graph) (records : List (List (List ℕ))) (i : Instance) → begins_with header records ≡ true
@@ -132,7 +133,7 @@ module _ (g : Graph) (i : Instance) (hierarchy : IsHierarchy g) (sound : IsInsta
       new-piece : (k : ℕ) → k < length ids → list_any (bytes_eq (get_or ids k [])) (take k ids) ≡ false
       new-piece k l =
           any-none (bytes_eq (get_or ids k [])) (take k ids)
-          (λ j lj. isnt (bytes_eq (get_or ids k []) (get_or (take k ids) j [])) (λ t.
+          (λ j lj. false_from_ne_true (bytes_eq (get_or ids k []) (get_or (take k ids) j [])) (λ t.
           let n = as-many in
           let jk : j < k = let size = length-take k ids in omega arith in
           let same : get_or ids k [] ≡ get_or ids j [] =
@@ -199,8 +200,9 @@ module _ (g : Graph) (i : Instance) (hierarchy : IsHierarchy g) (sound : IsInsta
   fresh j l =
       let none : place_of (at j).id (map id_field (take j rows)) ≡ None =
       not-found (at j).id (map id_field (take j rows)) 0 (λ k lk. earlier-id j k l lk) in
-      two (bytes_eq (at j).id (codes "all")) (is_some (place_of (at j).id (map id_field (take j rows))))
-      (isnt (bytes_eq (at j).id (codes "all")) (λ t. id-not-all j l ((bytes_eq-Decides (at j).id (codes "all")).0 t)))
+      or_from (bytes_eq (at j).id (codes "all")) (is_some (place_of (at j).id (map id_field (take j rows))))
+      (false_from_ne_true (bytes_eq (at j).id (codes "all"))
+      (λ t. id-not-all j l ((bytes_eq-Decides (at j).id (codes "all")).0 t)))
       (rw none refl)
 
   category-found : (j : ℕ) → j < length rows
@@ -218,10 +220,10 @@ module _ (g : Graph) (i : Instance) (hierarchy : IsHierarchy g) (sound : IsInsta
       (category-utf8 g hierarchy (at j).category (made.categories j (is-member j l)) (not-all j l)) in
       unrefused g (take j rows) (member_fields g i (at j)) refl
       (four-texts _ _ _ _ h.0.utf8 category h.1 (field-utf8 (at j) (below j) (sound.parents_differ j)))
-      (two (length (at j).id == 0) (list_any (λ b. b == semicolon) (at j).id)
+      (or_from (length (at j).id == 0) (list_any (λ b. b == semicolon) (at j).id)
       (differ-zero (length (at j).id) h.0.filled)
       h.0.whole)
-      (two (is_too_long (at j).id) (is_too_long (at j).name) (short (length (at j).id) h.0.short)
+      (or_from (is_too_long (at j).id) (is_too_long (at j).name) (short (length (at j).id) h.0.short)
       (short (length (at j).name) (names j (is-member j l))))
       (rw named refl) (rw named (differ-zero (at j).category (not-all j l)))
       (rw named (number-good (is_number g (at j).category) (at j).name (made.numerals j (is-member j l)))) (fresh j l)

@@ -26,8 +26,9 @@ use Rattle.olap_instance.specs.Passes.{PassesFirst, PassesSecond, ids_in}
 use Rattle.olap_instance.proofs.Completing.{AreComplete, complete-names, complete-sound}
 use Rattle.olap_instance.proofs.EnteringLemmas.{ids-read}
 use Rattle.olap_instance.proofs.PlaceFacts.{place-within}
-use Rattle.olap_instance.proofs.Checks.{IsGood, absent-at, four, fresh-parts, good, good-number, neither, no-second, place-inside, places-differ, there, within}
+use Rattle.olap_instance.proofs.Checks.{IsGood, absent-at, four, fresh-parts, good, good-number, no-second, place-inside, places-differ, there, within}
 use Rattle.olap_records.specs.Tables.{begins_with, or_read}
+use Rattle.std.proofs.lemmas.Bool.{or_parts}
 
 -- ---- records
 
@@ -99,8 +100,8 @@ module _ (g : Graph) (rows : List (List (List ℕ))) (first : first_fault (membe
       let h = good-at x r in
       let t = four (is_utf8 (field (row x) 0)) (is_utf8 (field (row x) 1)) (is_utf8 (field (row x) 2))
       (is_utf8 (field (row x) 3)) h.text in
-      let b = neither (length (id_field (row x)) == 0) (list_any (λ b. b == semicolon) (id_field (row x))) h.id in
-      let s = neither (is_too_long (id_field (row x))) (is_too_long (name_field (row x))) h.short in
+      let b = or_parts (length (id_field (row x)) == 0) (list_any (λ b. b == semicolon) (id_field (row x))) h.id in
+      let s = or_parts (is_too_long (id_field (row x))) (is_too_long (name_field (row x))) h.short in
       rw (member-is x r) (
         record {
           utf8 = t.0;
@@ -118,7 +119,7 @@ module _ (g : Graph) (rows : List (List (List ℕ))) (first : first_fault (membe
   short-names x l =
       let r = in-rows x l in
       let h = good-at x r in
-      let s = neither (is_too_long (id_field (row x))) (is_too_long (name_field (row x))) h.short in
+      let s = or_parts (is_too_long (id_field (row x))) (is_too_long (name_field (row x))) h.short in
       rw (member-is x r) (within (length (name_field (row x))) s.1)
 
   no-all : (x : ℕ) → x < length members → (member_at members x).id ≢ codes "all"

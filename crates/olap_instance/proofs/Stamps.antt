@@ -1,5 +1,5 @@
 -- Stamps: the mark stands at the members that the pieces of one field have named so far.
-use Rattle.std.proofs.Common.{◌≡◌, ◌≢◌, ◌≤◌, ◌<◌, ◌++◌, ◌∷◌, ◌∙◌, ◌||◌, ◌==◌, inl, inr, Bool, true, false, ℕ, List, [], length, slice_index, slice_set, map, Some, None, refl, sym, ap, arith, length-set}
+use Rattle.std.proofs.Common.{◌≡◌, ◌≢◌, ◌≤◌, ◌<◌, ◌++◌, ◌∷◌, ◌∙◌, ◌==◌, inl, inr, true, false, ℕ, List, [], length, slice_index, slice_set, map, Some, None, refl, sym, ap, arith, length-set}
 use Rattle.std.specs.List.{list_any}
 use Rattle.std.proofs.lemmas.Bool.Decides.{eqb_tells}
 use Rattle.std.proofs.lemmas.List.{get_or-set_other, get_or-set_same}
@@ -9,40 +9,24 @@ use Rattle.std.specs.Str.{bytes_eq}
 use Rattle.olap_instance.specs.InstanceText.{piece_fault}
 use Rattle.olap_instance.specs.declared.refusals.InstanceKind.TheVariants as kind
 use Rattle.olap_instance.proofs.PieceLemmas.{any-push, any-same}
-
--- a number is equal to itself by the test
-same : (n : ℕ) → (n == n) ≡ true
-same n = elim (eqb_tells n n) [ inl t ↦ t.0 | inr f ↦ absurd (f.1 refl) ]
-
--- others aren't
-differ : (m n : ℕ) → m ≢ n → (m == n) ≡ false
-differ m n d = elim (eqb_tells m n) [ inl t ↦ absurd (d t.1) | inr f ↦ f.0 ]
-
--- what is so is so, whatever else
-or-true : (b : Bool) → (b || true) ≡ true
-or-true true = refl
-or-true false = refl
-
--- what isn't so adds nothing
-or-false : (b : Bool) → (b || false) ≡ b
-or-false true = refl
-or-false false = refl
+use Rattle.olap_base.proofs.GeneralLemmas.{or_false, or_true, eqb_same}
+use Rattle.std.proofs.lemmas.Bool.{ne_eqb}
 
 -- where no stamp is as high as the mark, it stands at no member
 pub stamped-none : (stamps : List ℕ) (mark : ℕ) → AreBelow stamps mark → AreStamped stamps mark []
-stamped-none stamps mark b m l = let h = b m l in differ (slice_index stamps m) mark (omega arith)
+stamped-none stamps mark b m l = let h = b m l in ne_eqb (slice_index stamps m) mark (omega arith)
 
 -- one member more is stamped
 pub stamped-more : (stamps : List ℕ) (mark place : ℕ) (found : List ℕ) → place < length stamps
     → AreStamped stamps mark found
     → AreStamped (slice_set stamps place mark) mark (found ++ place ∷ [])
 stamped-more stamps mark place found l s m lm = elim (eqb_tells m place) [
-  | inl t ↦ rw (any-push (λ n. m == n) found place, t.0, t.1, get_or-set_same stamps place mark 0 l, same mark)
-      (sym (or-true (list_any (λ n. place == n) found)))
+  | inl t ↦ rw (any-push (λ n. m == n) found place, t.0, t.1, get_or-set_same stamps place mark 0 l, eqb_same mark)
+      (sym (or_true (list_any (λ n. place == n) found)))
   | inr f ↦
       let k : m < length stamps = let e = length-set stamps place mark in omega arith in
       rw (any-push (λ n. m == n) found place, f.0, get_or-set_other stamps place m mark 0 f.1)
-      (s m k ∙ sym (or-false (list_any (λ n. m == n) found)))
+      (s m k ∙ sym (or_false (list_any (λ n. m == n) found)))
 ]
 
 -- a stamp with the mark stays below what the mark is below
@@ -65,7 +49,7 @@ pub named-twice : (ids : List (List ℕ)) (p : List ℕ) (m : ℕ) (before : Lis
     → m < length stamps → slice_index stamps m ≡ mark → piece_fault ids before p ≡ Some kind.DuplicateParent
 named-twice ids p m before found stamps mark e h s l t =
     let again : list_any (bytes_eq p) before ≡ true =
-    any-same ids p m before found e h ∙ sym (s m l) ∙ ap (λ n. n == mark) t ∙ same mark in
+    any-same ids p m before found e h ∙ sym (s m l) ∙ ap (λ n. n == mark) t ∙ eqb_same mark in
     rw (e, again) refl
 
 -- a piece that names a member for the first time
@@ -74,5 +58,5 @@ pub named-once : (ids : List (List ℕ)) (p : List ℕ) (m : ℕ) (before : List
     → m < length stamps → slice_index stamps m ≢ mark → piece_fault ids before p ≡ None
 named-once ids p m before found stamps mark e h s l t =
     let first : list_any (bytes_eq p) before ≡ false =
-    any-same ids p m before found e h ∙ sym (s m l) ∙ differ (slice_index stamps m) mark t in
+    any-same ids p m before found e h ∙ sym (s m l) ∙ ne_eqb (slice_index stamps m) mark t in
     rw (e, first) refl

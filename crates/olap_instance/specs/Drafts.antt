@@ -67,7 +67,7 @@ abbrev pub with_member : Draft → List ℕ → ℕ → List ℕ → Draft
 with_member d id category name =
     record d { members = d.members ++ childless id category name ∷ []; parents = d.parents ++ [] ∷ [] }
 
--- the draft where p is one more parent of the member x, behind the others
+-- the draft where p is one more parent of the member x, after the others
 abbrev pub with_parent : Draft → ℕ → Option ℕ → Draft
 with_parent d x p = record d { parents = slice_set d.parents x (parents_so_far d x ++ p ∷ []) }
 
@@ -95,7 +95,7 @@ named_refusal d id category name =
     else if is_too_long id then Some of_member.TextTooLong
     else place_refusal d id category name
 
--- the parents as places, where `all` comes after so many members
+-- the parents as places, where `all` comes after this many members
 abbrev pub places_of : ℕ → List (Option ℕ) → List ℕ
 places_of count parents = map (λ p. unwrap_or p count) parents
 

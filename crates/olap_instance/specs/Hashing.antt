@@ -1,6 +1,6 @@
 -- How an id is hashed: its bytes, seven at a time, are the coefficients of a polynomial, and the hash is its value at a
 -- point that is the key, modulo 2 ^ 61 - 1. Numbers that are equal modulo 2 ^ 61 - 1 stand for each other. The last
--- coefficient has the bytes that are left over, behind how many bytes there are.
+-- coefficient has the bytes that are left over, after how many bytes there are.
 --     stepped      the value after one more coefficient
 --     value_after  the value after bytes
 --     with_bytes   a hasher after bytes that are written at once
@@ -27,11 +27,11 @@ stepped point value coefficient = multiplied (summed value coefficient) point
 abbrev pub begun : ℕ → IdHasher
 begun point = record { point = point; value = 0 }
 
--- a number with one more byte behind it
+-- a number with one more byte after it
 abbrev pub with_byte : ℕ → ℕ → ℕ
 with_byte number byte = bit_or (number * 2 ^ 8 % 2 ^ 64) byte
 
--- the value after these bytes, the last of so many
+-- the value after these bytes, which are the last ones of a text of `count` bytes
 unfoldable pub value_after : ℕ → ℕ → ℕ → List ℕ → ℕ
 value_after count point value (a ∷ b ∷ c ∷ d ∷ e ∷ f ∷ g ∷ rest) =
     value_after count point (stepped point value (from_le_bytes w64 (a ∷ b ∷ c ∷ d ∷ e ∷ f ∷ g ∷ 0 ∷ []))) rest

@@ -1,4 +1,4 @@
--- The names in which faults are told.
+-- The names under which faults are reported.
 use Rattle.std.specs.Prelude.{ℕ, List, codes}
 use Rattle.olap_instance.specs.declared.refusals.InstanceKind.{InstanceKind}
 use Rattle.olap_instance.specs.declared.refusals.InstanceKind.TheVariants as kind

@@ -1,4 +1,4 @@
--- The inside of lists that stand in one list, one behind the other.
+-- The inside of lists that stand in one list, one after the other.
 --     lists_from      the lists that begin at these places
 --     AreAscending    the places ascend
 --     lists_of        the lists that a `Lists` stands for
@@ -12,7 +12,7 @@ lists_from items [] = []
 lists_from items (start ∷ starts) =
     slice_range items start (slice_index_or starts 0 (length items)) ∷ lists_from items starts
 
--- none of these places is behind the next, nor the last behind the end
+-- none of these places is after the next, nor the last after the end
 abbrev pub AreAscending : ℕ → List ℕ → Type 0
 AreAscending end [] = Unit {0}
 AreAscending end (start ∷ starts) = (start ≤ slice_index_or starts 0 end) × AreAscending end starts

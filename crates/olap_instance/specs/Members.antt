@@ -34,7 +34,7 @@ with_parents [] parents = []
 with_parents (m ∷ ms) [] = []
 with_parents (m ∷ ms) (ps ∷ parents) = record m { parents = ps } ∷ with_parents ms parents
 
--- at most so many bytes as a text of a file may have
+-- at most as many bytes as an id or a name may have
 abbrev pub IsShort : List ℕ → Type 0
 IsShort text = length text ≤ most_text_bytes
 

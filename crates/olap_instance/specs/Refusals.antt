@@ -1,4 +1,4 @@
--- The reasons behind refusals.
+-- The reasons for refusals.
 use Rattle.std.specs.Prelude.{◌≡◌, ◌+◌, ℕ, Option, Some}
 use Rattle.olap_base.specs.Refusing.{IsFor}
 use Rattle.olap_base.specs.declared.refusals.Fault.{Fault}

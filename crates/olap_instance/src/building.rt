@@ -259,7 +259,7 @@ impl InstanceBuilder {
         Ok(member)
     }
 
-    /// Adds a parent behind the child's other parents; `None` stands for `all`. The test for a duplicate
+    /// Adds a parent after the child's other parents; `None` stands for `all`. The test for a duplicate
     /// goes through the child's parents.
     pub fn add_parent(
         &mut self,

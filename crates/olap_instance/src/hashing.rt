@@ -20,7 +20,7 @@ const HALF: u128 = 0x1_0000_0000_0000_0000;
 const STEP: usize = 7;
 
 /// The value at a point of a polynomial modulo 2 ^ 61 - 1. Bytes that are written at once are its coefficients, seven
-/// at a time; the last one has those that are left over, behind how many were written.
+/// at a time; the last one has those that are left over, after how many were written.
 #[derive(Clone, Copy)]
 pub(crate) struct IdHasher {
     // Eight times the point.
@@ -50,7 +50,7 @@ fn seven(bytes: &[u8]) -> u64
     ])
 }
 
-// A number of bytes with these bytes behind it.
+// A number of bytes with these bytes after it.
 #[inline(always)]
 fn with_rest(count: usize, rest: &[u8]) -> u64
     ensures { result ≡ fold hashing.with_byte count rest.now }

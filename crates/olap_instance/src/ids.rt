@@ -15,7 +15,7 @@ use std::marker::Model;
 /// How many bytes an id may have that stands in its key. A key then takes 32.
 const SHORT: usize = 23;
 
-// At most so many bytes.
+// At most this many bytes.
 #[derive(Drop)]
 struct Short {
     bytes: [u8; SHORT],

@@ -1,11 +1,11 @@
-// Lists that stand in one list, one behind the other.
+// Lists that stand in one list, one after the other.
 ghost use Rattle.std.specs.Prelude.{◌≡◌, ◌<◌, ◌≤◌, ◌+◌, ◌^◌, ◌∷◌, ◌++◌, [], List, length, slice_index, slice_index_or, OnOk, OnErr};
 
 use olap_base::Memory;
 use std::alloc::Global;
 use std::marker::Model;
 
-/// Lists, one behind the other, so that none has memory of its own. Items are added to the last.
+/// Lists, one after the other, so that none has memory of its own. Items are added to the last.
 #[derive(Drop)]
 pub(crate) struct Lists<T: Copy> {
     items: Vec<T>,
@@ -51,7 +51,7 @@ impl<T: Copy> Lists<T> {
         }
     }
 
-    /// Makes room for so many more lists.
+    /// Makes room for this many more lists.
     pub(crate) fn reserve(&mut self, lists: usize) -> Result<(), Memory>
         ensures { self.new ≡ self.old }
     {

@@ -18,7 +18,7 @@ use olap_graph::Graph;
 use olap_records::Printer;
 use std::alloc::Global;
 
-// Adds a piece, behind a semicolon where it isn't the first.
+// Adds a piece, after a semicolon where it isn't the first.
 fn add_piece(text: &mut Vec<u8>, is_first: bool, piece: &[u8]) -> Result<(), Memory>
     ensures { OnOk result (text.new.items ≡ text.old.items
         ++ (if is_first then piece.now else semicolon ∷ piece.now)) }

@@ -136,7 +136,7 @@ impl Roster {
         Ok(())
     }
 
-    /// Adds the member `all`, where it is not there.
+    /// Adds the member `all`, if it isn't there.
     pub(crate) fn add_all(&mut self) -> Result<(), Memory>
         requires absent { place_of (codes "all") (map (λ m. m.id) self.old) ≡ None }
         requires room { length self.old < 2 ^ 32 }

@@ -36,7 +36,7 @@ pub(crate) fn is_long(text: &[u8]) -> bool
     text.len() > MOST_TEXT_BYTES
 }
 
-/// Whether the text is no numeral, where names are numbers.
+/// Whether names are numbers and the text is no numeral.
 pub(crate) fn is_bad_number(is_number: bool, name: &[u8]) -> bool
     ensures { result ≡ is_bad_number_of is_number name.now }
 {
@@ -50,7 +50,7 @@ fn first_semicolon(text: &[u8]) -> Option<usize>
     text.iter().position(|b| *b == b';')
 }
 
-/// The first piece of a text that is cut at its semicolons, and what stands behind its semicolon, if it has one.
+/// The first piece of a text that is cut at its semicolons, and what stands after its semicolon, if it has one.
 pub(crate) fn first_piece(text: &[u8]) -> (&[u8], Option<&[u8]>)
     ensures pieces { slice_split (λ b. b == semicolon) text.now ≡ result.0.now ∷ pieces_left result.1 }
     ensures less { IfSome result.1 (λ others. length others.now < length text.now) }

@@ -102,7 +102,7 @@ module _ {i : Instance} {n x : ℕ} (t : Table) (v : IsLaid i n t) (h : x < leng
       let r = v.starts.room x h in
       omega (arith, below, r)
 
-  -- where there is no slot nothing stands
+  -- if there is no slot nothing stands
   pub cell_absent : (d : ℕ) → slot_of n t.slots (category_of i x) d ≡ no_slot → cell i n t x d ≡ none
   unfolding cell
   cell_absent d e = cond-true _ _ _ (eq-eqb (slot_of n t.slots (category_of i x) d) no_slot e)

@@ -10,7 +10,7 @@ use Rattle.olap_base.specs.Limits.{most_members}
 use Rattle.olap_base.specs.Instance.{Instance, IsBelow, Reaches, category_of}
 use Rattle.olap_base.specs.Steps.{Steps}
 
--- stands where no member does
+-- the number that stands for no member
 abbrev pub none : ℕ
 none = 4294967295
 

@@ -3,14 +3,14 @@
 --     slot_of     the slot of a category among those that another one reaches
 --     order_of    the category in a slot
 --     count_of    how many categories one reaches
---     IsOrdered   so many categories stand in slots, each in its own
+--     IsOrdered   this many categories stand in slots, each in its own
 --     IsSlots     for each category those that stand in its slots
 use Rattle.std.specs.Prelude.{◌≡◌, ◌≢◌, ℕ, ◌+◌, ◌*◌, ◌<◌, ◌≤◌, List, length, slice_index}
 use Rattle.olap_base.specs.Graph.{Graph, CategoryReaches}
 use Rattle.olap_base.specs.Limits.{most_categories}
 use Rattle.olap_legal.specs.declared.slots.Slots.{Slots}
 
--- stands where no slot does
+-- the number that stands for no slot
 abbrev pub no_slot : ℕ
 no_slot = 65535
 
@@ -30,7 +30,7 @@ order_of n s c k = place n s.order.items c k
 abbrev pub count_of : Slots → ℕ → ℕ
 count_of s c = slice_index s.counts.items c
 
--- so many of n categories stand in slots, each in its own
+-- this many of n categories stand in slots, each in its own
 pub record IsOrdered (n count : ℕ) (slot order : ℕ → ℕ) : Type 0 where
   pub few : count ≤ n
   pub listed : (d : ℕ) → d < n → slot d ≢ no_slot → (slot d < count) × (order (slot d) ≡ d)
@@ -46,7 +46,7 @@ pub record IsSlots (n : ℕ) (s : Slots) : Type 0 where
 
 -- ---- inside the making
 
--- of the categories below d those that c reaches have slots, from the base on, and nothing stands behind
+-- of the categories below d those that c reaches have slots, from the base on, and nothing stands after
 pub record IsListing (g : Graph) (c n d count base : ℕ) (slots order : List ℕ) : Type 0 where
   pub few : count ≤ d
   pub listed : (e : ℕ) → e < n → slice_index slots (base + e) ≢ no_slot
@@ -56,7 +56,7 @@ pub record IsListing (g : Graph) (c n d count base : ℕ) (slots order : List �
   pub reached : (e : ℕ) → e < d → CategoryReaches g c e → slice_index slots (base + e) ≢ no_slot
   pub behind : (k : ℕ) → base + d ≤ k → k < length slots → slice_index slots k ≡ no_slot
 
--- the first c of n categories have slots for what they reach, and nothing stands behind
+-- the first c of n categories have slots for what they reach, and nothing stands after
 pub record AreListed (g : Graph) (n c : ℕ) (slots order counts : List ℕ) : Type 0 where
   pub slots_size : length slots ≡ n * n
   pub order_size : length order ≡ n * n

@@ -69,7 +69,7 @@ fn give_row(
     true
 }
 
-/// Whether all parents of z have been listed before. Else lists z again, and behind it those that haven't.
+/// Whether all parents of z have been listed before. Else lists z again, and after it those that haven't.
 fn is_ready(
     instance: &Instance,
     categories: u16,

@@ -1,24 +1,26 @@
 -- What the lists of names and the fresh name are, taken together.
-use Rattle.std.proofs.Common.{◌≡◌, suc, ℕ, ◌+◌, ◌<◌, ◌≤◌, List, [], ◌∷◌, ◌++◌, length, get_or, map, true, false, Result, Ok, Err, refl, ap, sym, subst, ◌∙◌, arith, inl, inr, ◌⊎◌}
-use Rattle.std.specs.Prelude.{All, AllPairs, Contains, IfOk, ◌==◌}
+use Rattle.std.proofs.Common.{◌≡◌, suc, ℕ, ◌+◌, ◌<◌, ◌≤◌, List, [], ◌∷◌, ◌++◌, length, get_or, map, true, false, refl, ap, sym, subst, ◌∙◌, arith, inl, inr, ◌⊎◌}
+use Rattle.std.specs.Prelude.{All, AllPairs, Contains, ◌==◌}
 use Rattle.std.specs.Str.{bytes_eq}
 use Rattle.std.specs.Cmp.Lexicographic.{slice_cmp, nat_list_cmp_total}
 use Rattle.std.specs.Ordering.{nat_cmp}
 use Rattle.std.proofs.lemmas.Cmp.{tied_itself}
-use Rattle.std.proofs.lemmas.Bool.{eqb-true}
+use Rattle.std.proofs.lemmas.Bool.{eqb-true, cases_lt}
 use Rattle.std.proofs.lemmas.List.{length-map, length_push, get_or_past, get_or_push, get_or_append_left}
 use Rattle.std.proofs.lemmas.List.Elements.{All-contains}
 use Rattle.std.proofs.lemmas.Slice.Eq.{bytes_eq-Decides}
 use Rattle.olap_base.specs.Graph.{Graph, IsHierarchy, category_count, is_number}
 use Rattle.olap_base.proofs.ListLemmas.{Distinct, Contains-nil, Contains-from_map, Distinct-map, Distinct-from_AllPairs, first_true, second_true}
-use Rattle.olap_ast.specs.Formula.{Formula, Equality}
+use Rattle.olap_ast.specs.Atoms.{Equality, texts_on}
+use Rattle.olap_ast.specs.Pairs.{distinct_pairs, is_same_pair}
+use Rattle.olap_ast.specs.Formula.{Constant.AText, Formula}
 use Rattle.olap_ast.specs.Schema.{Constraint, Schema}
-use Rattle.olap_ast.specs.Constants.{AreInByteOrder, HasKinds, IsBefore, IsFreshName, texts_on}
+use Rattle.olap_ast.specs.Constants.{AreInByteOrder, HasKinds, IsBefore, IsConstant, IsFreshName, fresh_candidate}
 use Rattle.olap_ast.specs.Frozen.{AreCandidates, AreNamesOf}
-use Rattle.olap_ast.specs.Valid.{is_same_pair, distinct_pairs}
-use Rattle.olap_ast.proofs.AtomLemmas.{atom_on_names}
+use Rattle.olap_ast.proofs.ComparedLemmas.{atom_on_names, constant_text, constants_in_order, text_constant}
 use Rattle.olap_names.specs.Names.{IsFreshAmong, Named, atoms, candidates_of, most_others, with_graph}
 use Rattle.olap_names.proofs.Counting.{few_distinct, in_fold}
+use Rattle.olap_base.proofs.GeneralLemmas.{below_or_same}
 
 -- ---- distinct pairs hold every atom
 
@@ -43,8 +45,8 @@ text_distinct texts o = Distinct-from_AllPairs texts (λ i j d below inside e.
     absurd (cc))
 
 -- a category has no more constants than there are distinct pairs
-pub few_constants : (d : ℕ) (es : List Equality) (texts : List (List ℕ)) → AreInByteOrder (texts_on d es) texts
-    → length texts ≤ length (distinct_pairs es)
+pub few_constants : (d : ℕ) (es : List Equality) (texts : List (List ℕ))
+    → AreInByteOrder (Contains (texts_on d es)) texts → length texts ≤ length (distinct_pairs es)
 few_constants d es texts o =
     let pair : List ℕ → Equality = λ t. record { category = d; text = t } in
     let l = few_distinct (map pair texts) (distinct_pairs es)
@@ -55,42 +57,34 @@ few_constants d es texts o =
     let e = length-map texts pair in
     omega (arith, l, e)
 
--- what follows from both of two facts of a result
-pub both_ok : {A E : Type 0} (r : Result A E) (P Q R : A → Type 0) → ((a : A) → P a → Q a → R a) → IfOk r P
-    → IfOk r Q → IfOk r R
-both_ok (Ok a) P Q R f p q = f a p q
-both_ok (Err e) P Q R f p q = p
-
 -- ---- the constants of each category
 
 -- each category so far has its constants in byte order
 pub record AreListed (all : List Equality) (n : ℕ) (texts : List (List (List ℕ))) : Type 0 where
   pub count : length texts ≡ n
-  pub each : (d : ℕ) → d < n → AreInByteOrder (texts_on d all) (get_or texts d [])
+  pub each : (d : ℕ) → d < n → AreInByteOrder (Contains (texts_on d all)) (get_or texts d [])
 
 -- one category more
 pub listed_more : (all : List Equality) (n : ℕ) (texts new : List (List (List ℕ))) (x : List (List ℕ))
-    → AreListed all n texts → AreInByteOrder (texts_on n all) x → new ≡ texts ++ x ∷ [] → AreListed all (n + 1) new
+    → AreListed all n texts → AreInByteOrder (Contains (texts_on n all)) x → new ≡ texts ++ x ∷ []
+    → AreListed all (n + 1) new
 listed_more all n texts new x l o e = record {
   count = ap length e ∙ length_push texts x ∙ ap (λ k. k + 1) l.count;
-  each = λ d h. subst (λ t. AreInByteOrder (texts_on d all) (get_or t d [])) (sym e) (elim (newest d n h) [
-    | inl b ↦ subst (λ t. AreInByteOrder (texts_on d all) t)
-        (sym (get_or_append_left texts (x ∷ []) [] d (let k = l.count in omega arith))) (l.each d b)
-    | inr q ↦ subst (λ k. AreInByteOrder (texts_on k all) (get_or (texts ++ x ∷ []) k [])) (sym q)
-        (subst (λ t. AreInByteOrder (texts_on n all) t) (sym (get_or_push texts x [] n l.count)) o)
-  ]);
+  each = λ d h. subst (λ t. AreInByteOrder (Contains (texts_on d all)) (get_or t d [])) (sym e)
+      (elim (below_or_same d n h) [
+        | inl b ↦ subst (λ t. AreInByteOrder (Contains (texts_on d all)) t)
+            (sym (get_or_append_left texts (x ∷ []) [] d (let k = l.count in omega arith))) (l.each d b)
+        | inr q ↦ subst (λ k. AreInByteOrder (Contains (texts_on k all)) (get_or (texts ++ x ∷ []) k [])) (sym q)
+            (subst (λ t. AreInByteOrder (Contains (texts_on n all)) t) (sym (get_or_push texts x [] n l.count)) o)
+      ]);
 }
   where
-    newest : (d n : ℕ) → d < n + 1 → (d < n) ⊎ (d ≡ n)
-    newest d n h = grind arith
-
--- a category is below a bound, or past it
-below_or_past : (d n : ℕ) → (d < n) ⊎ (n ≤ d)
-below_or_past d n = grind arith
+    below_or_same : (d n : ℕ) → d < n + 1 → (d < n) ⊎ (d ≡ n)
+    below_or_same d n h = grind arith
 
 -- a category of which no atom speaks has no constants
 no_constants : (d : ℕ) (all : List Equality) → ((a : Equality) → Contains all a → a.category ≡ d → ⊥)
-    → AreInByteOrder (texts_on d all) []
+    → AreInByteOrder (Contains (texts_on d all)) []
 no_constants d all none = record {
   ordered = λ i j e below inside. absurd (omega arith);
   sound = λ text c. absurd (Contains-nil text c);
@@ -99,10 +93,10 @@ no_constants d all none = record {
 
 -- with all categories that atoms speak of, it is so of each
 pub listed_everywhere : (all : List Equality) (n : ℕ) (texts : List (List (List ℕ))) → All (λ a. a.category < n) all
-    → AreListed all n texts → (d : ℕ) → AreInByteOrder (texts_on d all) (get_or texts d [])
-listed_everywhere all n texts w l d = elim (below_or_past d n) [
+    → AreListed all n texts → (d : ℕ) → AreInByteOrder (Contains (texts_on d all)) (get_or texts d [])
+listed_everywhere all n texts w l d = elim (cases_lt d n) [
   | inl h ↦ l.each d h
-  | inr h ↦ subst (λ t. AreInByteOrder (texts_on d all) t)
+  | inr h ↦ subst (λ t. AreInByteOrder (Contains (texts_on d all)) t)
       (sym (get_or_past texts d [] (let e = l.count in omega arith)))
       (no_constants d all (λ a b e. let u : a.category < n =
       All-contains (λ (x : Equality). x.category < n) all a w b in absurd (omega arith)))
@@ -128,10 +122,6 @@ none_named s q = record {
   few = λ d h. absurd (omega arith);
 }
 
--- a category below the next is earlier, or this one
-newest : (d n : ℕ) → d < n + 1 → (d < n) ⊎ (d ≡ n)
-newest d n h = grind arith
-
 -- one category more
 pub named_more : (s : Schema) (q : Formula) (n : ℕ) (first : List (List ℕ)) (texts : List (List (List ℕ)))
     (name : List ℕ) (others : List (List ℕ)) → AreNamed s q n first texts
@@ -140,12 +130,12 @@ pub named_more : (s : Schema) (q : Formula) (n : ℕ) (first : List (List ℕ)) 
 named_more s q n first texts name others a is few = record {
   first_count = length_push first name ∙ ap (λ k. k + 1) a.first_count;
   count = length_push texts others ∙ ap (λ k. k + 1) a.count;
-  each = λ d z h. elim (newest d n h) [
+  each = λ d z h. elim (below_or_same d n h) [
     | inl b ↦ before d z b
     | inr e ↦ subst (λ k. AreNamesOf (is_number s.graph k) s q k (get_or (first ++ name ∷ []) k z)
         (get_or (texts ++ others ∷ []) k [])) (sym e) (here z)
   ];
-  few = λ d h. elim (newest d n h) [
+  few = λ d h. elim (below_or_same d n h) [
     | inl b ↦ subst (λ (l : List (List ℕ)). length l ≤ most_others) (sym (old_texts d b)) (a.few d b)
     | inr e ↦ subst (λ k. length (get_or (texts ++ others ∷ []) k []) ≤ most_others) (sym e)
         (subst (λ (l : List (List ℕ)). length l ≤ most_others) (sym new_texts) few)
@@ -176,7 +166,7 @@ named_more s q n first texts name others a is few = record {
 -- no category has more names than there is room for
 pub few_named : (s : Schema) (q : Formula) (n : ℕ) (first : List (List ℕ)) (texts : List (List (List ℕ)))
     → AreNamed s q n first texts → (d : ℕ) → length (get_or texts d []) ≤ most_others
-few_named s q n first texts a d = elim (below_or_past d n) [
+few_named s q n first texts a d = elim (cases_lt d n) [
   | inl l ↦ a.few d l
   | inr l ↦ subst (λ (t : List (List ℕ)). length t ≤ most_others)
       (sym (get_or_past texts d [] (let e = a.count in omega arith))) (omega arith)
@@ -193,7 +183,7 @@ pub are_candidates : (g : Graph) (cs : List Constraint) (q : Formula) (k : Named
     → AreCandidates (with_graph g cs) q (candidates_of k)
 are_candidates g cs q k h w kinds fresh named = record {
   kinds = kinds;
-  names = λ c. elim (below_or_past (suc c) (category_count g)) [
+  names = λ c. elim (cases_lt (suc c) (category_count g)) [
     | inl l ↦ named.each (suc c) k.fresh l
     | inr l ↦ past c l
   ];
@@ -213,19 +203,22 @@ are_candidates g cs q k h w kinds fresh named = record {
     past c l = subst (λ b. AreNamesOf b (with_graph g cs) q (suc c) (get_or k.first (suc c) k.fresh)
         (get_or k.texts (suc c) [])) (sym (no_number g c h (omega arith))) (
           subst (λ f. IsFreshName (with_graph g cs) q f) (sym (first_past c l)) fresh,
-          subst (λ t. AreInByteOrder (texts_on (suc c) (atoms cs q)) t) (sym (texts_past c l))
+          subst (λ t. AreInByteOrder (λ text. IsConstant (with_graph g cs) q (suc c) (AText text)) t)
+              (sym (texts_past c l))
+              (constants_in_order (with_graph g cs) q (suc c) []
               (no_constants (suc c) (atoms cs q) (λ a b e. let u : a.category < category_count g =
               All-contains (λ (x : Equality). x.category < category_count g) (atoms cs q) a w b in
-              absurd (omega arith))),
+              absurd (omega arith)))),
         )
 
 -- the first of nk, nk_, .. that is none of the constants of the categories is the fresh name
 pub is_fresh : (g : Graph) (cs : List Constraint) (q : Formula) (texts : List (List (List ℕ))) (name : List ℕ)
-    → ((d : ℕ) → AreInByteOrder (texts_on d (atoms cs q)) (get_or texts d [])) → IsFreshAmong texts name
+    → ((d : ℕ) → AreInByteOrder (Contains (texts_on d (atoms cs q))) (get_or texts d [])) → IsFreshAmong texts name
     → IsFreshName (with_graph g cs) q name
 is_fresh g cs q texts name all f = record {
   underscores = f.underscores;
   spelled = f.spelled;
-  free = λ d c. f.free (d, (all d).complete name c);
-  first = λ m h. let t = f.first m h in (t.0, (all t.0).sound _ t.1);
+  free = λ d c. f.free (d, (all d).complete name (constant_text (with_graph g cs) q d name c));
+  first = λ m h. let t = f.first m h in
+      (t.0, text_constant (with_graph g cs) q t.0 (fresh_candidate m) ((all t.0).sound _ t.1));
 }

@@ -1,13 +1,16 @@
 -- The names of a valid schema and a question.
 --     can_be_named    where the constraints and the question are of the graph, and the constants few, they can be named
 --     valid_named     so they can where the schema and the question are valid
-use Rattle.std.proofs.Common.{ℕ, ◌<◌, ◌≤◌, List}
+use Rattle.std.proofs.Common.{ℕ, ◌<◌, ◌≤◌, List, subst}
 use Rattle.olap_base.specs.Graph.{Graph, category_count}
 use Rattle.olap_base.specs.Limits.{most_constants}
-use Rattle.olap_ast.specs.Formula.{Equality, Formula}
+use Rattle.olap_ast.specs.Atoms.{Equality}
+use Rattle.olap_ast.specs.Pairs.{pair_count}
+use Rattle.olap_ast.specs.Formula.{Formula}
 use Rattle.olap_ast.specs.Schema.{Constraint}
-use Rattle.olap_ast.specs.Valid.{IsFormulaAt, IsQuestion, IsValidSchema, pair_count}
+use Rattle.olap_ast.specs.Valid.{IsFormulaAt, IsQuestion, IsValidSchema}
 use Rattle.olap_ast.proofs.AtomLemmas.{AreOf, all_each, has_kinds}
+use Rattle.olap_ast.proofs.ComparedLemmas.{constants_counted}
 use Rattle.olap_names.specs.Names.{CanBeNamed, atoms, number_atoms, with_graph}
 
 -- atoms of the graph, few of them, can be named
@@ -22,4 +25,5 @@ can_be_named g cs r q f v few = record {
 -- so those of a valid schema and a question can
 pub valid_named : (g : Graph) (cs : List Constraint) (r : ℕ) (q : Formula) → IsValidSchema (with_graph g cs)
     → IsQuestion (with_graph g cs) r q → CanBeNamed g cs q
-valid_named g cs r q v t = can_be_named g cs r q v.formulas t.formula t.constants_fit
+valid_named g cs r q v t = can_be_named g cs r q v.formulas t.formula
+    (subst (λ n. n ≤ most_constants) (constants_counted cs q) t.constants_fit)

@@ -12,10 +12,9 @@ use Rattle.std.proofs.lemmas.Int.{ints}
 use Rattle.std.proofs.lemmas.List.{length-append, length-map}
 use Rattle.std.proofs.lemmas.List.Elements.{Contains-append_left, Contains-append_right, Contains-push}
 use Rattle.olap_base.proofs.ListLemmas.{Contains-from_map, Contains-map, Contains-nil, Distinct, Distinct-from_AllPairs, Distinct-map, contains_head, first_true, second_true}
-use Rattle.olap_ast.specs.Constants.{AreAscending, numbers_on}
-use Rattle.olap_ast.specs.Formula.{Comparison}
-use Rattle.olap_ast.specs.Valid.{distinct_numbers, is_same_number}
-use Rattle.olap_ast.proofs.AtomLemmas.{atom_on_numbers}
+use Rattle.olap_ast.specs.Atoms.{AreAscending, Comparison, numbers_on}
+use Rattle.olap_ast.specs.Pairs.{distinct_numbers, is_same_number}
+use Rattle.olap_ast.proofs.ComparedLemmas.{atom_on_numbers}
 use Rattle.olap_numerals.specs.Numerals.{canonical}
 use Rattle.olap_numerals.specs.Representatives.{AreNumberNames, AreRepresentatives, AreSmall, IsLastNear, IsLeast, IsNear, IsNumberName, IsUpTo, before_least, least, representative}
 use Rattle.olap_numerals.proofs.EnteringLemmas.{name_cases}

@@ -1,9 +1,10 @@
 // The names of each category: of texts the fresh name and the constants, and of numbers numerals.
 ghost use Rattle.std.specs.Prelude.{◌≡◌, ◌+◌, ◌*◌, ◌<◌, ◌≤◌, ◌↔◌, All, Contains, IfOk, IsTrue, codes, length, map, slice_index_or, [], ◌∷◌, ℕ};
-ghost use Rattle.olap_ast.specs.Constants.{AreAscending, AreInByteOrder, IsFreshName, numbers_on, texts_on};
+ghost use Rattle.olap_ast.specs.Atoms.{AreAscending, numbers_on, texts_on};
+ghost use Rattle.olap_ast.specs.Pairs.{distinct_numbers};
+ghost use Rattle.olap_ast.specs.Constants.{AreInByteOrder, IsFreshName};
 ghost use Rattle.olap_ast.specs.Frozen.{AreCandidates, AreNamesOf};
 ghost use Rattle.olap_ast.specs.Trees.{constraint_of, formula_of};
-ghost use Rattle.olap_ast.specs.Valid.{distinct_numbers};
 ghost use Rattle.olap_base.specs.Graph.{IsCategory, category_count, is_number};
 ghost use Rattle.olap_names.specs.Names.{CanBeNamed, IsConstantSomewhere, IsFreshAmong, atoms, candidates_of, most_others, name_at, names_of, number_atoms, with_graph};
 ghost use Rattle.olap_numerals.specs.Numerals.{canonical};
@@ -80,7 +81,7 @@ fn constants_of(
     c: CatId,
 ) -> Result<List<Text>, Memory>
     ensures { let all = atoms (map constraint_of constraints.now) (formula_of question.now) in
-        IfOk result (AreInByteOrder (texts_on c.0 all)) }
+        IfOk result (AreInByteOrder (Contains (texts_on c.0 all))) }
 {
     let mut texts = Vec::new(alloc);
     'constraints: for constraint in constraints {
@@ -102,7 +103,7 @@ fn all_constants(
     requires { All (λ a. a.category < categories)
         (atoms (map constraint_of constraints.now) (formula_of question.now)) }
     ensures { let all = atoms (map constraint_of constraints.now) (formula_of question.now) in
-        IfOk result (λ v. (c : ℕ) → AreInByteOrder (texts_on c all) (slice_index_or v.items c [])) }
+        IfOk result (λ v. (c : ℕ) → AreInByteOrder (Contains (texts_on c all)) (slice_index_or v.items c [])) }
 {
     let mut texts = Vec::new(alloc);
     'categories: for c in 0..categories {
@@ -171,7 +172,7 @@ fn text_names(
 ) -> Result<(Text, List<Text>), Memory>
     ensures fresh { IfOk result (λ p. p.0 ≡ fresh.now) }
     ensures constants { let all = atoms (map constraint_of constraints.now) (formula_of question.now) in
-        IfOk result (λ p. AreInByteOrder (texts_on c.0 all) p.1) }
+        IfOk result (λ p. AreInByteOrder (Contains (texts_on c.0 all)) p.1) }
 {
     let others = constants_of(alloc, constraints, question, c)?;
     let first = Text::from_bytes(alloc, fresh.bytes())?;

@@ -63,7 +63,7 @@ fewer (x ∷ new) (y ∷ old) (suc m) e w h n =
 
 -- ---- the cheapest so far
 
-module _ (views : List View) (bits : List Bool) (next : Plan) (here : MayServe bits next.mask)
+module _ (views : List (View ℕ ℕ)) (bits : List Bool) (next : Plan) (here : MayServe bits next.mask)
     (rows : next.rows ≡ rows_in views next.mask) where
   -- what costs no more than each earlier one and the next
   until : (best : Plan) → ((m : ℕ) → m < next.mask → MayServe bits m → IsNoDearer views best.mask m)
@@ -116,8 +116,8 @@ module _ (views : List View) (bits : List Bool) (next : Plan) (here : MayServe b
           cases : (a d : ℕ) → a ≤ d → (a < d) ⊎ (a ≡ d)
           cases a d h = grind arith
 
--- where there is no cheapest, none may serve
-pub none_left : (views : List View) (bits : List Bool) (n : ℕ) (best : Option Plan) → IsCheapest views bits n best
+-- if there is no cheapest, none may serve
+pub none_left : (views : List (View ℕ ℕ)) (bits : List Bool) (n : ℕ) (best : Option Plan) → IsCheapest views bits n best
     → ((p : Plan) → best ≡ Some p → ⊥) → (m : ℕ) → m < n → MayServe bits m → ⊥
 none_left views bits n None c none = c
 none_left views bits n (Some p) c none = absurd (none p refl)

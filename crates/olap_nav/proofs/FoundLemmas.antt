@@ -1,24 +1,20 @@
 -- What is known of a counterexample that was found: its root, and by way of what the root reaches the target.
-use Rattle.std.proofs.Common.{◌≡◌, ℕ, List, Bool, ap, sym, subst, ◌∙◌, ◌↔◌}
+use Rattle.std.proofs.Common.{◌≡◌, ℕ, List, Bool, sym, subst, ◌↔◌}
 use Rattle.olap_ast.proofs.SameAtoms.{candidates_too, frozen_too}
 use Rattle.olap_ast.proofs.SourceLemmas.{question_free, question_numberless}
 use Rattle.olap_ast.specs.Formula.{Formula, Formula.Via}
 use Rattle.olap_ast.specs.Frozen.{AreCandidates, Candidates, Frozen, IsFrozen, chosen, name_in, root_place}
-use Rattle.olap_ast.specs.Schema.{Constraint, Schema}
+use Rattle.olap_ast.specs.Schema.{Schema}
 use Rattle.olap_ast.specs.Summarizable.{not_by_one}
-use Rattle.olap_base.specs.Graph.{Graph, IsBottom, IsCategory, IsHierarchy}
+use Rattle.olap_base.specs.Graph.{IsBottom, IsCategory, IsHierarchy}
 use Rattle.olap_base.specs.Instance.{ReachesVia}
 use Rattle.olap_base.specs.Views.{View}
 use Rattle.olap_frozen.specs.declared.founding.Found.{Found}
 use Rattle.olap_frozen.specs.LeastFound.{frozen_of}
 use Rattle.olap_frozen.proofs.ChosenInstance as made
 use Rattle.olap_frozen.proofs.ChosenLemmas.{choice_of}
-use Rattle.olap_names.specs.Names.{candidates_of, with_graph}
+use Rattle.olap_names.specs.Names.{candidates_of}
 use Rattle.olap_nav.specs.Patterns.{AreWays, IsPattern, IsSomeCounterexample, found_instance, found_root}
-
--- a schema is its graph and its constraints
-pub whole_is : (s : Schema) (g : Graph) (cs : List Constraint) → g ≡ s.graph → cs ≡ s.constraints → with_graph g cs ≡ s
-whole_is s g cs e f = ap (λ h. with_graph h cs) e ∙ ap (λ l. with_graph s.graph l) f
 
 -- ---- the root
 
@@ -54,7 +50,7 @@ module _ (s : Schema) (c : ℕ) (found : Found) (hier : IsHierarchy s.graph) (t 
   pub candidates_for : (v : ℕ) → AreCandidates s (Via v c) k
   candidates_for v = candidates_too s q (Via v c) (question_free c t.0) (question_numberless c t.0) k t.1.one.candidates
 
-  -- the same choice is a frozen dimension for the question on a way exactly where the root has that way
+  -- the same choice is a frozen dimension for the question on a way exactly if the root has that way
   pub way_is : (v : ℕ) → IsFrozen s (Via v c) r k f ↔ ReachesVia (found_instance s found) (found_root s found) v c
   way_is v = (
     λ w. subst (λ x. ReachesVia (found_instance s found) x v c)
@@ -64,7 +60,7 @@ module _ (s : Schema) (c : ℕ) (found : Found) (hier : IsHierarchy s.graph) (t 
   )
 
   -- its ways are a pattern
-  pub pattern_is : (views : List View) (ways : List Bool)
+  pub pattern_is : (views : List (View ℕ ℕ)) (ways : List Bool)
       → AreWays (found_instance s found) (found_root s found) c views ways → IsPattern s views c ways
   pattern_is views ways a =
       let x = is_one.stands_for.root in record {

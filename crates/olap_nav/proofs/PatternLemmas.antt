@@ -34,7 +34,7 @@ once P (x ∷ xs) n (inr one) (inr t) = once P xs n one.1 t.1
 -- ---- the member reaches c by as many of a mask's views as are ways
 
 module _ (i : Instance) (x c : ℕ) where
-  counted : (k : ℕ) (views : List View) (ways : List Bool) (mask : ℕ) → AreWays i x c views ways
+  counted : (k : ℕ) (views : List (View ℕ ℕ)) (ways : List Bool) (mask : ℕ) → AreWays i x c views ways
       → HoldsTimes (λ s. ReachesVia i x s c) (categories_of (chosen_from k views mask)) (ways_from k ways mask)
   counted k [] [] mask a = refl
   counted k [] (b ∷ ways) mask a = absurd a
@@ -43,7 +43,7 @@ module _ (i : Instance) (x c : ℕ) where
       go b (bit_at mask k == 1) a.0 (chosen_from (k + 1) views mask) (ways_from (k + 1) ways mask)
       (counted (k + 1) views ways mask a.1)
     where
-      go : (b t : Bool) → IsTrue b ↔ ReachesVia i x v.category c → (more : List View) (n : ℕ)
+      go : (b t : Bool) → IsTrue b ↔ ReachesVia i x v.target c → (more : List (View ℕ ℕ)) (n : ℕ)
           → HoldsTimes (λ s. ReachesVia i x s c) (categories_of more) n
           → HoldsTimes (λ s. ReachesVia i x s c) (categories_of (cond t (v ∷ more) more)) (cond (b && t) (suc n) n)
       go true true w more n h = inl (w.0 refl, n, refl, h)
@@ -52,8 +52,8 @@ module _ (i : Instance) (x c : ℕ) where
       go false false w more n h = h
 
   -- another view, and whether it is a way
-  pub ways_more : (views : List View) (ways : List Bool) (v : View) (b : Bool) → AreWays i x c views ways
-      → IsTrue b ↔ ReachesVia i x v.category c → AreWays i x c (views ++ v ∷ []) (ways ++ b ∷ [])
+  pub ways_more : (views : List (View ℕ ℕ)) (ways : List Bool) (v : View ℕ ℕ) (b : Bool) → AreWays i x c views ways
+      → IsTrue b ↔ ReachesVia i x v.target c → AreWays i x c (views ++ v ∷ []) (ways ++ b ∷ [])
   ways_more [] [] v b a w = (w, tt)
   ways_more [] (d ∷ ways) v b a w = absurd a
   ways_more (u ∷ views) [] v b a w = absurd a
@@ -62,7 +62,8 @@ module _ (i : Instance) (x c : ℕ) where
 -- ---- what serves meets every pattern in exactly one
 
 -- what serves has exactly one way in each pattern
-pub serves_by_one : (s : Schema) (views : List View) (c : ℕ) (ways : List Bool) (mask : ℕ) → IsPattern s views c ways
+pub serves_by_one : (s : Schema) (views : List (View ℕ ℕ)) (c : ℕ) (ways : List Bool) (mask : ℕ)
+    → IsPattern s views c ways
     → Serves s views c mask → ways_in ways mask ≡ 1
 serves_by_one s views c ways mask p serves =
     let agree = serves.summarizable p.instance p.legal in

@@ -28,14 +28,14 @@ abbrev pub found_root : Schema → Found → ℕ
 found_root s found = root_place s found.frozen.root.0 (frozen_of found.frozen)
 
 -- for each view whether the member x reaches c by way of the view's category
-abbrev pub AreWays : Instance → ℕ → ℕ → List View → List Bool → Type 0
+abbrev pub AreWays : Instance → ℕ → ℕ → List (View ℕ ℕ) → List Bool → Type 0
 AreWays i x c [] [] = Unit {0}
 AreWays i x c [] (b ∷ ways) = ⊥
 AreWays i x c (v ∷ views) [] = ⊥
-AreWays i x c (v ∷ views) (b ∷ ways) = (IsTrue b ↔ ReachesVia i x v.category c) × AreWays i x c views ways
+AreWays i x c (v ∷ views) (b ∷ ways) = (IsTrue b ↔ ReachesVia i x v.target c) × AreWays i x c views ways
 
 -- in some legal instance a member of a bottom category reaches c, by way of these views and of no others
-pub record IsPattern (s : Schema) (views : List View) (c : ℕ) (ways : List Bool) : Type 0 where
+pub record IsPattern (s : Schema) (views : List (View ℕ ℕ)) (c : ℕ) (ways : List Bool) : Type 0 where
   pub instance : Instance
   pub legal : IsLegal s instance
   pub member : ℕ

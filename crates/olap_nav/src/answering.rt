@@ -3,7 +3,7 @@ ghost use Rattle.std.specs.Prelude.{◌≡◌, ◌<◌, ℕ, All, IfErr, IfOk, L
 ghost use Rattle.olap_ast.specs.Schema.{IsLegal};
 ghost use Rattle.olap_base.specs.Graph.{IsCategory};
 ghost use Rattle.olap_base.specs.Refusing.{IsFor};
-ghost use Rattle.olap_base.specs.Views.{Fact, IsFactTable, direct_view, direct_views, rows_from_views};
+ghost use Rattle.olap_base.specs.Views.{Fact, IsFactTable, direct_view, direct_views, members, rows_from_views};
 ghost use Rattle.olap_nav.specs.Plans.{IsPlan, Serves, categories_of, rows_in};
 ghost use Rattle.olap_schema.specs.Schemas.{schema_of};
 ghost use Rattle.olap_view.specs.Seen.{view_of, views_of};
@@ -20,7 +20,7 @@ use std::alloc::Global;
 /// The plan for the target, and the view of the target from the plan's views.
 ///
 /// Where the stored views are the direct views of one fact table on the instance, this is the target's direct view.
-/// `NotAnswerable`: exactly where there is no plan. `Memory`: out of memory.
+/// `NotAnswerable`: exactly if there is no plan. `Memory`: out of memory.
 pub fn answer(
     alloc: Global,
     schema: &Schema,
@@ -35,14 +35,15 @@ pub fn answer(
     ensures plan { IfOk result (λ a. IsPlan (schema_of schema.now) (views_of store.now) target.0 a.0.mask) }
     ensures rows { IfOk result (λ a. a.0.rows ≡ rows_in (views_of store.now) a.0.mask) }
     ensures view { IfOk result (λ a. view_of a.1 ≡ record {
-      category = target.0;
-      rows = rows_from_views legal.now target.0 (chosen (views_of store.now) a.0.mask);
+      target = target.0;
+      rows = rows_from_views (members legal.now) target.0 (chosen (views_of store.now) a.0.mask);
     }) }
     ensures members { IfOk result (λ a. All (λ r. r.member.0 < length legal.now) a.1.rows) }
 
-    ensures direct { IfOk result (λ a. (facts : Items Fact) → IsFactTable (schema_of schema.now).graph legal.now facts
-        → views_of store.now ≡ direct_views legal.now facts (categories_of (views_of store.now))
-        → view_of a.1 ≡ direct_view legal.now facts target.0) }
+    ensures direct { IfOk result
+        (λ a. (facts : Items (Fact ℕ)) → IsFactTable (schema_of schema.now).graph legal.now facts
+        → views_of store.now ≡ direct_views (members legal.now) facts (categories_of (views_of store.now))
+        → view_of a.1 ≡ direct_view (members legal.now) facts target.0) }
 
     ensures not_answerable { IfErr result (IsFor (λ _. (m : ℕ)
         → Serves (schema_of schema.now) (views_of store.now) target.0 m → ⊥)) }

@@ -8,6 +8,6 @@ pub struct Plan {
     pub rows: u64,
 }
 
-/// Why there is no plan: from no stored views, not even from none, is the target summarizable.
+/// Why there is no plan: the target isn't summarizable from any of the stored views, nor from none of them.
 #[derive(Clone, Copy, PartialEq, Eq, Debug)]
 pub struct NotAnswerable;

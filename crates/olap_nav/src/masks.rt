@@ -1,4 +1,4 @@
-// Masks over the stored views, and what the views of a mask come to.
+// Masks over the stored views, and what the views of a mask cost.
 ghost use Rattle.std.specs.Int.{bit_at};
 ghost use Rattle.std.specs.Prelude.{◌≡◌, ◌==◌, ◌<◌, ◌≤◌, IfOk, length};
 ghost use Rattle.olap_base.specs.Limits.{most_views};

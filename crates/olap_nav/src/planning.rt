@@ -37,7 +37,7 @@ fn all_masks(alloc: Global, store: &Store) -> Result<List<bool>, Memory>
 
 /// The cheaper of the cheapest so far and the next, and the earlier where they cost the same.
 fn cheaper(best: Option<Plan>, next: Plan) -> Plan
-    ensures { (views : Items View) (marks : Items Bool) → IsCheapest views marks next.mask best
+    ensures { (views : Items (View ℕ ℕ)) (marks : Items Bool) → IsCheapest views marks next.mask best
         → MayServe marks next.mask → next.rows ≡ rows_in views next.mask
         → IsCheapestOf views marks (next.mask + 1) result }
 {
@@ -86,7 +86,7 @@ fn counterexample(
     }
 }
 
-/// The pattern of a counterexample to summarizability from these sources, which differ. None exactly where the target
+/// The pattern of a counterexample to summarizability from these sources, which differ. None exactly if the target
 /// is summarizable from them.
 fn pattern_of(
     alloc: Global,
@@ -125,7 +125,7 @@ fn pattern_against(
 ) -> Result<Option<Vec<bool>>, Memory>
     requires target { IsCategory (schema_of schema.now).graph target.0 }
     requires store { IsStore (views_of store.now) }
-    requires categories { All (λ v. IsCategory (schema_of schema.now).graph v.category) (views_of store.now) }
+    requires categories { All (λ v. IsCategory (schema_of schema.now).graph v.target) (views_of store.now) }
     requires room { length room.old.rows.items ≡ category_count (schema_of schema.now).graph }
     ensures none { IfOk result (λ o. IsNone o
         ↔ IsSummarizable (schema_of schema.now) target.0 (sources_in (views_of store.now) mask)) }
@@ -150,7 +150,7 @@ fn cheapest_plan(
 ) -> Result<Plan, Refusal<NotAnswerable>>
     requires target { IsCategory (schema_of schema.now).graph target.0 }
     requires store { IsStore (views_of store.now) }
-    requires categories { All (λ v. IsCategory (schema_of schema.now).graph v.category) (views_of store.now) }
+    requires categories { All (λ v. IsCategory (schema_of schema.now).graph v.target) (views_of store.now) }
     requires all { (m : ℕ) → m < 2 ^ length store.now.views → MayServe may_serve.old m }
     requires count { length may_serve.old ≡ 2 ^ length store.now.views }
     requires few { length may_serve.old ≤ 2 ^ most_views }
@@ -173,7 +173,7 @@ fn cheapest_plan(
 /// The plan: of all choices of stored views from whose categories the target is summarizable, no view at all among
 /// them, the one with the fewest rows, and among these the one with the smallest mask.
 ///
-/// `NotAnswerable`: exactly where there is no such choice. `Memory`: out of memory.
+/// `NotAnswerable`: exactly if there is no such choice. `Memory`: out of memory.
 pub fn plan(
     alloc: Global,
     schema: &Schema,
@@ -182,7 +182,7 @@ pub fn plan(
 ) -> Result<Plan, Refusal<NotAnswerable>>
     requires target { IsCategory (schema_of schema.now).graph target.0 }
     requires store { IsStore (views_of store.now) }
-    requires categories { All (λ v. IsCategory (schema_of schema.now).graph v.category) (views_of store.now) }
+    requires categories { All (λ v. IsCategory (schema_of schema.now).graph v.target) (views_of store.now) }
 
     ensures plan { IfOk result (λ p. IsPlan (schema_of schema.now) (views_of store.now) target.0 p.mask) }
     ensures rows { IfOk result (λ p. p.rows ≡ rows_in (views_of store.now) p.mask) }

@@ -31,7 +31,7 @@ fn print_sources(alloc: Global, graph: &Graph, sources: &[CatId]) -> Result<Vec<
 /// memory.
 pub fn print_plan(alloc: Global, graph: &Graph, store: &Store, mask: u16) -> Result<Text, Memory>
     requires few { length store.now.views ≤ most_views }
-    requires categories { All (λ v. IsCategory graph.now v.category) (views_of store.now) }
+    requires categories { All (λ v. IsCategory graph.now v.target) (views_of store.now) }
     ensures { IfOk result (λ text. text ≡ plan_text graph.now (sources_in (views_of store.now) mask)) }
 {
     let sources = sources(alloc, store, mask)?;

@@ -6,7 +6,7 @@ use native.Mathlib.Decide.{ℕ_discrete}
 use Rattle.olap_base.specs.Deciding.{decide_contains}
 use Rattle.olap_base.specs.Graph.{IsBottom}
 use Rattle.olap_base.specs.Instance.{Instance, IsMemberOf, category_of}
-use Rattle.olap_base.specs.Views.{ViewsAgree}
+use Rattle.olap_base.specs.Views.{IsFactTable, ViewsAgree, members}
 use Rattle.olap_base.proofs.ListLemmas.{Contains-map, Contains-from_map, Contains-nil, contains_head}
 use Rattle.olap_base.proofs.ViewLemmas.{agree_exactly}
 use Rattle.olap_ast.specs.Findings.{IsUnsatisfiable}
@@ -71,11 +71,11 @@ all_met s c sources bs n i l m b bottom = go (decide_contains ℕ_discrete bs b)
 pub needs_are_exact : NeedsAreExact
 needs_are_exact s c sources bs i n l = (to, from)
   where
-    to : MeetsNeeds c sources bs i → ViewsAgree s.graph i c sources
+    to : MeetsNeeds c sources bs i → ViewsAgree (IsFactTable s.graph i) (members i) c sources
     to m = (agree_exactly s.graph i c sources l.is_instance l.lawful).1
         (λ x h b r. (one_of i x c sources).0 (all_met s c sources bs n i l m (category_of i x) b x (h, refl) r))
 
-    from : ViewsAgree s.graph i c sources → MeetsNeeds c sources bs i
+    from : ViewsAgree (IsFactTable s.graph i) (members i) c sources → MeetsNeeds c sources bs i
     from a b k x h r = (one_of i x c sources).1
         ((agree_exactly s.graph i c sources l.is_instance l.lawful).0 a x h.0
         (subst (λ d. IsBottom s.graph d) (sym h.1) (n.sound b k).0) r)

@@ -7,14 +7,16 @@ use Rattle.std.proofs.lemmas.List.Elements.{Contains-append_cases, Contains-appe
 use Rattle.std.proofs.lemmas.List.Sums.{sum_by-append, sum_by-cons}
 use Rattle.olap_base.specs.Graph.{IsDeclared}
 use Rattle.olap_base.proofs.ListLemmas.{Contains-from_map, contains_head}
-use Rattle.olap_ast.specs.Formula.{comparisons, equalities}
+use Rattle.olap_ast.specs.Atoms.{comparisons, equalities}
+use Rattle.olap_ast.specs.Pairs.{pair_count}
 use Rattle.olap_ast.specs.Schema.{Constraint, Schema}
 use Rattle.olap_ast.specs.Summarizable.{vias}
 use Rattle.olap_ast.specs.Trees.{formula_of}
-use Rattle.olap_ast.specs.Valid.{IsFormulaAt, depth_of, depth_of_terms, node_count, node_count_of_terms, pair_count}
+use Rattle.olap_ast.specs.Valid.{IsFormulaAt, depth_of, depth_of_terms, node_count, node_count_of_terms}
 use Rattle.olap_ast.specs.declared.formulas.Constraint as stored
 use Rattle.olap_base.specs.Limits.{most_constants, most_constraints, most_depth, most_nodes, most_schema_nodes, most_words}
 use Rattle.olap_ast.proofs.SourceLemmas.{no_more_constants, question_at, question_free, question_numberless}
+use Rattle.olap_ast.proofs.ComparedLemmas.{constants_counted, constraints_counted}
 use Rattle.olap_schema.specs.Readable.{AreTexts}
 use Rattle.olap_needs.specs.Needs.{HasRoom, by_one, need, with_needs}
 use Rattle.olap_needs.specs.Laws.{EachNeedIsQuestion, NeedsStayReadable}
@@ -83,11 +85,14 @@ needs_stay_readable s c sources bs r t cs n room =
         all_nodes_fit = room.nodes;
         depth_fits = both s c sources bs (λ d. depth_of d.formula ≤ most_depth) r.valid.depth_fits
             (λ b k. few_levels c sources);
-        constants_fit = subst (λ xs. pair_count xs
+        constants_fit = subst (λ n. n ≤ most_constants)
+            (sym (constraints_counted (with_needs s c sources bs).constraints))
+            (subst (λ xs. pair_count xs
             (flat_map (λ d. comparisons d.formula) (with_needs s c sources bs).constraints) ≤ most_constants)
             (sym texts)
             (subst (λ ys. pair_count (flat_map (λ d. equalities d.formula) s.constraints) ys ≤ most_constants)
-            (sym numbers) r.valid.constants_fit);
+            (sym numbers)
+            (subst (λ n. n ≤ most_constants) (constraints_counted s.constraints) r.valid.constants_fit)));
       };
       texts = subst AreTexts (sym texts) r.texts;
     }
@@ -106,8 +111,8 @@ each_need_is_question s c sources bs r t cs few n b k = record {
   formula = question_at s.graph b c sources t cs;
   nodes_fit = let e = source_nodes c sources in few_nodes (node_count_of_terms (vias c sources)) (omega arith);
   depth_fits = few_levels c sources;
-  constants_fit = no_more_constants s (by_one c sources) r.valid (question_free c sources)
-      (question_numberless c sources);
+  constants_fit = subst (λ n. n ≤ most_constants) (sym (constants_counted s.constraints (by_one c sources)))
+      (no_more_constants s (by_one c sources) r.valid (question_free c sources) (question_numberless c sources));
 }
   where
     few_nodes : (m : ℕ) → m ≤ most_words → 1 + 1 + (1 + m) ≤ most_nodes
@@ -123,11 +128,11 @@ nodes_of d = node_count d.formula
 abbrev pub stored_nodes : stored.Constraint → ℕ
 stored_nodes d = node_count (formula_of d.formula)
 
--- no time so many
+-- no time this many
 no_times : (n : ℕ) → 0 ≡ 0 * n
 no_times n = grind arith
 
--- one more time so many
+-- one more time this many
 once_more : (m k n : ℕ) → n ≡ 3 + k → n + m * (3 + k) ≡ suc m * (3 + k)
 once_more m k n e = more ∙ ap (λ w. w * (3 + k)) next
   where
@@ -151,7 +156,7 @@ needed_nodes c sources (b ∷ bs) =
 need_nodes : (c : ℕ) (sources : List ℕ) (b : ℕ) → nodes_of (need c sources b) ≡ 3 + length sources
 need_nodes c sources b = let e = source_nodes c sources in omega arith
 
--- so where each has few nodes, and there is one of them, so many are few
+-- so where each has few nodes, and there is one of them, this many are few
 few_of_one : (s : Schema) (c : ℕ) (sources bs : List ℕ)
     → ((d : Constraint) → Contains (with_needs s c sources bs).constraints d → nodes_of d ≤ most_nodes)
     → 0 < length bs → 3 + length sources ≤ most_nodes
@@ -171,7 +176,7 @@ HasRoomFor s sources bs = (length s.constraints + length bs ≤ most_constraints
     × (sum_by (λ (d : Constraint). node_count d.formula) s.constraints + length bs * (3 + length sources)
     ≤ most_schema_nodes)
 
--- with them a schema whose constraints have few nodes each is within the limits exactly if so many constraints, and
+-- with them a schema whose constraints have few nodes each is within the limits exactly if this many constraints, and
 -- their nodes, are
 pub room_exactly : (s : Schema) (c : ℕ) (sources bs : List ℕ)
     → ((d : Constraint) → Contains s.constraints d → node_count d.formula ≤ most_nodes)

@@ -1,32 +1,27 @@
--- The text of a schema with the constraints that are needed is that of the schema with their lines behind it.
-use Rattle.std.proofs.Common.{◌≡◌, ◌∙◌, ℕ, List, [], ◌∷◌, ◌++◌, append_assoc, map, refl, ap, sym}
+-- The text of a schema with the constraints that are needed is that of the schema with their lines after it.
+use Rattle.std.proofs.Common.{◌≡◌, ◌∙◌, ℕ, List, [], ◌∷◌, ◌++◌, append_assoc, map, ap, sym}
+use Rattle.std.specs.Prelude.{zip}
 use Rattle.std.proofs.lemmas.List.{map-append}
 use Rattle.olap_ast.specs.Schema.{Schema}
 use Rattle.olap_needs.specs.Laws.{NeedsAreRead}
 use Rattle.olap_needs.specs.Needs.{need, needs_text, with_needs}
 use Rattle.olap_needs.proofs.RoomLemmas.{needs_stay_readable}
 use Rattle.olap_schema_text.specs.Judging.{schema_read}
-use Rattle.olap_schema_text.specs.Printing.{category_texts, constraint_text, edge_text, schema_text, text_of_lines, version_text}
+use Rattle.olap_schema_text.specs.Printing.{category_text, constraint_text, edge_text, schema_text, text_of_lines, version_text}
 use Rattle.olap_schema_text.specs.PrintingLaws.{PrintedIsRead}
+use Rattle.olap_schema_text.proofs.PrintLemmas.{text_of_lines-append}
 
--- the texts of lines in two parts
-lines-append : (xs ys : List (List ℕ)) → text_of_lines (xs ++ ys) ≡ text_of_lines xs ++ text_of_lines ys
-unfolding text_of_lines
-lines-append [] ys = refl
-lines-append (x ∷ xs) ys = ap (λ t. x ++ 10 ∷ t) (lines-append xs ys)
-    ∙ sym (append_assoc x (10 ∷ text_of_lines xs) (text_of_lines ys))
-
--- the lines behind the text
+-- the lines after the text
 text_with : (s : Schema) (c : ℕ) (sources bs : List ℕ)
     → schema_text s ++ needs_text s.graph c sources bs ≡ schema_text (with_needs s c sources bs)
 text_with s c sources bs =
     let g = s.graph in
     let line = constraint_text g in
-    let categories = category_texts g.names g.numbers in
+    let categories = map category_text (zip g.names g.numbers) in
     let edges = map (edge_text g) g.edges in
     let old = map line s.constraints in
     let new = map line (map (need c sources) bs) in
-    sym (lines-append (version_text ∷ (categories ++ (edges ++ old))) new)
+    sym (text_of_lines-append (version_text ∷ (categories ++ (edges ++ old))) new)
     ∙ ap (λ xs. text_of_lines (version_text ∷ xs))
     (append_assoc categories (edges ++ old) new ∙ ap (λ xs. categories ++ xs) (append_assoc edges old new
     ∙ ap (λ xs. edges ++ xs) (sym (map-append line s.constraints (map (need c sources) bs)))))

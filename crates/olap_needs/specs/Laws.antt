@@ -2,7 +2,7 @@
 use Rattle.std.specs.Prelude.{◌≡◌, ◌↔◌, ◌≤◌, ℕ, List, [], ◌++◌, All, Contains, Ok, length}
 use Rattle.olap_base.specs.Graph.{IsBottom, IsCategory}
 use Rattle.olap_base.specs.Instance.{Instance, IsMemberOf}
-use Rattle.olap_base.specs.Views.{ViewsAgree}
+use Rattle.olap_base.specs.Views.{IsFactTable, ViewsAgree, members}
 use Rattle.olap_ast.specs.Findings.{IsUnsatisfiable}
 use Rattle.olap_ast.specs.Formula.{Holds}
 use Rattle.olap_ast.specs.Schema.{Constraint, IsLegal, Meets, Schema}
@@ -27,7 +27,7 @@ NeedsSuffice = (s : Schema) (c : ℕ) (sources bs : List ℕ) → AreNeeded s c 
 -- view
 abbrev pub NeedsAreExact : Type 0
 NeedsAreExact = (s : Schema) (c : ℕ) (sources bs : List ℕ) (i : Instance) → AreNeeded s c sources bs → IsLegal s i
-    → MeetsNeeds c sources bs i ↔ ViewsAgree s.graph i c sources
+    → MeetsNeeds c sources bs i ↔ ViewsAgree (IsFactTable s.graph i) (members i) c sources
 
 -- the instances that are legal with them are the legal ones that meet them
 abbrev pub NeedsAreAdded : Type 0

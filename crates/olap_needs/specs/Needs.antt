@@ -1,6 +1,6 @@
 -- What must be added to a schema so that a target is summarizable from sources.
---     by_one        a member reaches the target by one source, if at all
---     IsNeeded      a bottom category whose members needn't do so
+--     by_one        the formula: a member reaches the target by one source, if at all
+--     IsNeeded      a bottom category with a member, in some legal instance, that doesn't
 --     AreNeeded     all such categories
 --     with_needs    the schema with a constraint more for each of them
 --     AreEmptied    those of them that can then have no member
@@ -17,11 +17,11 @@ use Rattle.olap_ast.specs.Summarizable.{vias}
 use Rattle.olap_ast.specs.Valid.{node_count}
 use Rattle.olap_schema_text.specs.Printing.{constraint_text, text_of_lines}
 
--- a member that reaches c does so by exactly one of the sources
+-- the formula: if a member reaches c, it does so by exactly one of the sources
 abbrev pub by_one : ℕ → List ℕ → Formula
 by_one c sources = Implies (Reach c) (One (vias c sources))
 
--- as a constraint on the members of b
+-- this formula as a constraint on the members of b
 abbrev pub need : ℕ → List ℕ → ℕ → Constraint
 need c sources b = record { root = b; formula = by_one c sources }
 
@@ -35,7 +35,7 @@ pub record AreAscending (P : ℕ → Type 0) (bs : List ℕ) : Type 0 where
   pub sound : (b : ℕ) → Contains bs b → P b
   pub complete : (b : ℕ) → P b → Contains bs b
 
--- exactly these categories, in declaration order
+-- exactly the categories that need a constraint, in declaration order
 abbrev pub AreNeeded : Schema → ℕ → List ℕ → List ℕ → Type 0
 AreNeeded s c sources = AreAscending (IsNeeded s c sources)
 
@@ -43,12 +43,12 @@ AreNeeded s c sources = AreAscending (IsNeeded s c sources)
 abbrev pub with_needs : Schema → ℕ → List ℕ → List ℕ → Schema
 with_needs s c sources bs = record s { constraints = s.constraints ++ map (need c sources) bs }
 
--- exactly those of the categories that can have no member with the constraints, in declaration order
+-- exactly those of these categories that can have no member once the constraints are added, in declaration order
 abbrev pub AreEmptied : Schema → ℕ → List ℕ → List ℕ → List ℕ → Type 0
 AreEmptied s c sources bs =
     AreAscending (λ b. Contains bs b × IsUnsatisfiable (with_needs s c sources bs) b)
 
--- there are no more of them than the limits allow
+-- the schema's constraints are within the limits
 pub record HasRoom (s : Schema) : Type 0 where
   pub constraints : length s.constraints ≤ most_constraints
   pub each : (c : Constraint) → Contains s.constraints c → node_count c.formula ≤ most_nodes

@@ -1,4 +1,8 @@
 //! What must be added to a schema so that a target is summarizable from sources.
+//!
+//! `needed` returns a constraint for each bottom category that needs one, and those of these categories that can then
+//! have no member (`specs/Needs.antt`); `has_room` says whether the schema with the constraints is within the limits.
+//! What is printed about them isn't known here.
 #![tactic(auto)]
 
 mod laws;

@@ -1,5 +1,5 @@
 // The constraints that are needed.
-ghost use Rattle.olap_ast.specs.Constants.{all_comparisons, all_equalities};
+ghost use Rattle.olap_ast.specs.Atoms.{all_comparisons, all_equalities};
 ghost use Rattle.olap_ast.specs.Formula.{Formula.Not};
 ghost use Rattle.olap_ast.specs.Questions.{IsImplied};
 ghost use Rattle.olap_ast.specs.Summarizable.{vias};

@@ -25,7 +25,7 @@ fn count(constraints: &[Constraint]) -> u64
     count
 }
 
-// Whether each of so many constraints that are needed, for so many sources, has few nodes.
+// Whether each of this many constraints that are needed, for this many sources, has few nodes.
 fn are_small(sources: usize, needed: usize) -> bool
     ensures few { result ≡ true → 0 < needed → 3 + sources ≤ most_nodes }
     ensures some { result ≡ false → 0 < needed }
@@ -37,7 +37,7 @@ fn are_small(sources: usize, needed: usize) -> bool
     OWN_NODES + sources as u128 <= MOST_NODES as u128
 }
 
-/// Whether the schema with so many constraints that are needed, for so many sources, is within the limits.
+/// Whether the schema with this many constraints that are needed, for this many sources, is within the limits.
 pub fn has_room(schema: &Schema, sources: usize, needed: usize) -> bool
     ensures { (c : ℕ) (ss bs : List ℕ) → length ss ≡ sources → length bs ≡ needed
         → IsTrue result ↔ HasRoom (with_needs (schema_of schema.now) c ss bs) }

@@ -89,7 +89,7 @@ entered_none xs n m a = (
   λ h. elim h [ inl d ↦ d | inr u ↦ let t = u.0.0 in let e = u.1 in absurd (omega (arith, ints)) ],
 )
 
--- 0 was entered, where there is no constant
+-- 0 was entered, if there is no constant
 pub entered_zero : (xs : List ℤ) (a : ℤ) → Contains (xs ++ pos 0 ∷ []) a ↔ (Contains xs a ⊎ IsLastNear None a)
 entered_zero xs a = (
   λ c. elim (one_cases xs (pos 0) a c) [ inl d ↦ inl d | inr e ↦ inr (sym e) ],

@@ -2,7 +2,7 @@
 pub mod NumeralLemmas
 pub mod Spelling
 mod Digits
-pub mod FoundLemmas
+mod FoundLemmas
 pub mod RepresentativeLemmas
 pub mod OrderLemmas
 pub mod EnteringLemmas

@@ -1,5 +1,5 @@
 -- What std's parse gives, by the words of this crate.
-use Rattle.std.proofs.Common.{◌≡◌, ◌<◌, ◌==◌, ◌∷◌, zero, suc, inl, inr, ◌^◌, ◌&&◌, ℕ, ℤ, pos, negsuc, neg_ℤ, ◌-◌, Bool, true, false, List, [], length, Result, Ok, Err, Option, Some, None, if◌then◌else◌, refl, sym, ap, true≢false, ◌∙◌, arith, rules, nat_lt}
+use Rattle.std.proofs.Common.{◌≡◌, ◌<◌, ◌==◌, ◌∷◌, inl, inr, ◌^◌, ◌&&◌, ℕ, ℤ, pos, negsuc, neg_ℤ, ◌-◌, Bool, true, false, List, [], length, Result, Ok, Err, Option, Some, None, if◌then◌else◌, refl, sym, ap, true≢false, ◌∙◌, arith, rules, nat_lt}
 use Rattle.std.specs.Bool.{Decides}
 use Rattle.std.specs.Result.{OkIff, result_ok}
 use Rattle.std.specs.Int.RustNames.{FitsSigned}
@@ -16,9 +16,10 @@ use Rattle.olap_numerals.proofs.ComparingLemmas.{within_is}
 use mir.Syntax.{Width, w64}
 use Rattle.std.specs.Fmt.{signed_decimal}
 use Rattle.std.specs.Int.Signed.{mag}
+use Rattle.std.proofs.lemmas.Str.Ascii.{IsAscii-cons}
 
 -- std's numerals of base ten
-own : IsNumeralModel (λ ds. all_ascii_digits ds ≡ true) (digits_value 10)
+pub own : IsNumeralModel (λ ds. all_ascii_digits ds ≡ true) (digits_value 10)
 own = numerals_by_value _ (search rules)
 
 -- the test of a numeral decides std's word
@@ -48,24 +49,19 @@ ok-where (Ok x) t v h d = rw (d.1 h.0, h.1) refl
 ok-where (Err e) true v h d = absurd (h (d.0 refl))
 ok-where (Err e) false v h d = refl
 
--- one byte of ASCII more
-ascii-front : (c : ℕ) (cs : List ℕ) → c < 128 → IsAscii cs → IsAscii (c ∷ cs)
-ascii-front c cs h a zero = h
-ascii-front c cs h a (suc i) = a i
-
 -- a sign is ASCII
 pub ascii-signed : (bs : List ℕ) → IsAscii (without_leading_sign bs) → IsAscii bs
 ascii-signed [] a = a
 ascii-signed (c ∷ cs) a = elim (cases_Bool (c == 45)) [
-  | inl m ↦ let e : c ≡ 45 = eqb-true c 45 m in ascii-front c cs (omega arith) (rw m at a)
+  | inl m ↦ let e : c ≡ 45 = eqb-true c 45 m in IsAscii-cons c cs (omega arith) (rw m at a)
   | inr n ↦ elim (cases_Bool (c == 43)) [
-    | inl p ↦ let e : c ≡ 43 = eqb-true c 43 p in ascii-front c cs (omega arith) (rw (n, p) at a)
+    | inl p ↦ let e : c ≡ 43 = eqb-true c 43 p in IsAscii-cons c cs (omega arith) (rw (n, p) at a)
     | inr q ↦ rw (n, q) at a
   ]
 ]
 
 -- nothing, where the test can't hold
-none-unless : {T : Type 0} {P : Type 0} (t : Bool) (v : T) → Decides t P → ¬ P
+pub none-unless : {T : Type 0} {P : Type 0} (t : Bool) (v : T) → Decides t P → ¬ P
     → ◌≡◌ {A = Option T} None (if t then Some v else None)
 none-unless true v d n = absurd (n (d.0 refl))
 none-unless false v d n = refl

@@ -17,12 +17,12 @@ pub record IsLeast (ns : List ℤ) (a : ℤ) : Type 0 where
   pub is_one : Contains ns a
   pub least : (n : ℤ) → Contains ns n → a ≤ℤ n
 
--- a constant, one more than a constant, one less than the least, or 0 where there are none
+-- a constant, one more than a constant, one less than the least, or 0 if there are none
 abbrev pub IsNear : List ℤ → ℤ → Type 0
 IsNear ns a = Contains ns a ⊎ (((n : ℤ) × Contains ns n × (a ≡ n +ℤ pos 1))
     ⊎ (((n : ℤ) × IsLeast ns n × (a ≡ n +ℤ negsuc 0)) ⊎ ((ns ≡ []) × (a ≡ pos 0))))
 
--- and within the bounds
+-- a number that stands for others: near the constants, and within the bounds
 abbrev pub IsNumberName : List ℤ → ℤ → Type 0
 IsNumberName ns a = IsSmall a × IsNear ns a
 
@@ -44,7 +44,7 @@ pub record AreRepresentatives (ns reps : List ℤ) : Type 0 where
 abbrev pub IsUpTo : List ℤ → ℤ → Type 0
 IsUpTo ns a = IsSmall a × (Contains ns a ⊎ ((n : ℤ) × Contains ns n × (a ≡ n +ℤ pos 1)))
 
--- one less than the least, within the bounds, or 0 where there is none
+-- one less than the least, within the bounds, or 0 if there is none
 abbrev pub IsLastNear : Option ℤ → ℤ → Type 0
 IsLastNear None a = a ≡ pos 0
 IsLastNear (Some n) a = IsSmall a × (a ≡ n +ℤ negsuc 0)
@@ -61,12 +61,12 @@ abbrev pub least : List ℤ → Option ℤ
 least [] = None
 least (n ∷ ns) = Some (fold int_min n ns)
 
--- one less than the number, or 0 where there is none
+-- one less than the number, or 0 if there is none
 abbrev pub before_least : Option ℤ → ℤ
 before_least None = pos 0
 before_least (Some n) = n +ℤ negsuc 0
 
--- one more than the number; where there is none, what stands before the least
+-- one more than the number; if there is none, what stands before the least
 abbrev pub after_greatest : Option ℤ → Option ℤ → ℤ
 after_greatest None l = before_least l
 after_greatest (Some n) l = n +ℤ pos 1

@@ -21,6 +21,6 @@ value_within from to bs =
     then Some (signed_digits_value 10 bs)
     else None
 
--- where it has 64 bits
+-- the number that a text spells so, if it fits 64 bits
 abbrev pub value_of : List ℕ → Option ℤ
 value_of bs = value_within (neg_ℤ (pos (2 ^ 63))) (pos (2 ^ 63 - 1)) bs

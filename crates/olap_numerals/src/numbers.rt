@@ -28,7 +28,7 @@ fn has_plus(text: &[u8]) -> bool
     }
 }
 
-// What stands behind a `-`, if one stands in front.
+// What stands after a `-`, if one stands in front.
 fn digits_in(text: &[u8]) -> &[u8]
     ensures { result.now ≡ digits_in_of text.now }
 {

@@ -42,7 +42,7 @@ fn enter(numbers: &mut Vec<i64>, n: i64) -> Result<(), Memory>
     Ok(())
 }
 
-// One less than the least, where that is within the bounds, or 0 where there is none.
+// One less than the least, where that is within the bounds, or 0 if there is none.
 fn enter_last(numbers: &mut Vec<i64>, least: Option<i64>) -> Result<(), Memory>
     requires { (n : ℤ) → least ≡ Some n → IsSmall n }
     ensures { OnOk result ((a : ℤ) → Contains numbers.new.items a

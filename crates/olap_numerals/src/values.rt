@@ -3,10 +3,10 @@ ghost use Rattle.std.specs.Prelude.{◌≡◌, ◌<◌, ◌≤◌, ◌^◌, IfSo
 ghost use Rattle.std.specs.Str.Parse.{IsNumeral, digits_value, starts_with_minus, without_leading_sign};
 ghost use Rattle.olap_numerals.specs.Values.{value_of};
 
-// Numbers of so many digits have 64 bits, and a sign.
+// Numbers of this many digits have 64 bits, and a sign.
 const FEW_DIGITS: usize = 18;
 
-/// What stands behind a sign, and whether that is a minus. Where there is no sign, all.
+/// What stands after a sign, and whether that is a minus. If there is no sign, all.
 #[inline(always)]
 fn unsigned(text: &[u8]) -> (&[u8], bool)
     ensures digits { result.0.now ≡ without_leading_sign text.now }

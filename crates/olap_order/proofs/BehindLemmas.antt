@@ -1,19 +1,16 @@
--- Orders by so many words: those that the code takes one by one are those of all words.
---     one_is, two_is, three_is, four_is    by exactly so many
---     two_or_more_is, three_or_more_is     by so many or more
-use Rattle.std.proofs.Common.{◌≡◌, ◌<◌, ◌≤◌, ◌==◌, ℕ, suc, List, [], ◌∷◌, Bool, true, false, cond, Option, None, Some, length, nat_le, ap, refl, sym, arith}
+-- Orders by this many words: those that the code takes one by one are those of all words.
+--     one_is, two_is, three_is, four_is    by exactly this many
+--     two_or_more_is, three_or_more_is     by this many or more
+use Rattle.std.proofs.Common.{◌≡◌, ◌<◌, ◌≤◌, ◌==◌, ℕ, List, [], ◌∷◌, false, cond, None, Some, length, ap, refl, sym, arith}
 use Rattle.std.proofs.lemmas.Bool.Decides.{nat_tests}
 use Rattle.olap_order.specs.Arguments.{at_least, exactly}
 use Rattle.olap_order.specs.Behind.{by_four, by_one, by_three, by_three_or_more, by_two, by_two_or_more}
 use Rattle.olap_order.specs.Order.{Order}
+use Rattle.std.proofs.lemmas.Bool.{le-leb}
 
 -- a number isn't a smaller one
 isnt_less : (m n : ℕ) → n < m → (m == n) ≡ false
 isnt_less m n l = grind (arith, nat_tests)
-
--- a number is at most a greater one
-is_at_most : (m n : ℕ) → m ≤ n → nat_le m n ≡ true
-is_at_most m n l = grind (arith, nat_tests)
 
 module _ {Q : Type 0} (order : List (List ℕ) → Order Q) where
   -- more words than that are no command
@@ -22,7 +19,7 @@ module _ {Q : Type 0} (order : List (List ℕ) → Order Q) where
 
   -- as many words or more are one
   some_by : (n : ℕ) (words : List (List ℕ)) → n ≤ length words → Some (order words) ≡ at_least n order words
-  some_by n words l = ap (λ b. cond b (Some (order words)) None) (sym (is_at_most n (length words) l))
+  some_by n words l = ap (λ b. cond b (Some (order words)) None) (sym (le-leb n (length words) l))
 
   -- by one word
   pub one_is : (words : List (List ℕ)) → by_one (λ a. order (a ∷ [])) words ≡ exactly 1 order words

@@ -4,7 +4,7 @@
 --     asked, told, anything, pass, either, meant, there    of one step
 --     MayCome     the same of an order that there may be
 --     no_order, an_order, may_either, may_or, may_ask, or_else    of such orders
---     may_exactly, may_at_least, may_between    of orders by so many words
+--     may_exactly, may_at_least, may_between    of orders by this many words
 use Rattle.std.proofs.Common.{◌≡◌, List, ℕ, Bool, true, false, cond, length, nat_le, ◌&&◌, ◌==◌, Option, None, Some, refl}
 use Rattle.std.specs.Prelude.{Result, Ok, Err, unwrap_or}
 use Rattle.std.specs.Option.{option_or}
@@ -60,11 +60,11 @@ either P true x y c d = c
 either P false x y c d = d
 
 -- what a text means, or its first fault
-pub meant : {T K : Type 0} (P : T → Type 0) (label part : List ℕ) (name : K → List ℕ) (r : Result T (Fault K))
-    → ((x : T) → r ≡ Ok x → P x) → Comes P (meaning_or_fault label part name r)
+pub meant : {T : Type 0} (P : T → Type 0) (label part : List ℕ) (r : Result T (Fault (List ℕ)))
+    → ((x : T) → r ≡ Ok x → P x) → Comes P (meaning_or_fault label part r)
 unfolding Comes
-meant P label part name (Ok x) f = f x refl
-meant P label part name (Err e) f = tt
+meant P label part (Ok x) f = f x refl
+meant P label part (Err e) f = tt
 
 -- what is there, or a refusal
 pub there : {T : Type 0} (P : T → Type 0) (o : Option T) (why : List ℕ) → ((x : T) → o ≡ Some x → P x)
@@ -123,21 +123,21 @@ unfolding MayCome
 or_else P None u c d = d
 or_else P (Some o) u c d = c
 
--- ---- orders by so many words
+-- ---- orders by this many words
 
--- by exactly so many
+-- by exactly this many
 pub may_exactly : {Q : Type 0} (P : Q → Type 0) (n : ℕ) (order : List (List ℕ) → Order Q) (words : List (List ℕ))
     → Comes P (order words) → MayCome P (exactly n order words)
 may_exactly P n order words c =
     may_either P (length words == n) (Some (order words)) None (an_order P (order words) c) (no_order P)
 
--- by so many or more
+-- by this many or more
 pub may_at_least : {Q : Type 0} (P : Q → Type 0) (n : ℕ) (order : List (List ℕ) → Order Q) (words : List (List ℕ))
     → Comes P (order words) → MayCome P (at_least n order words)
 may_at_least P n order words c =
     may_either P (nat_le n (length words)) (Some (order words)) None (an_order P (order words) c) (no_order P)
 
--- or no more than so many either
+-- or no more than this many either
 pub may_between : {Q : Type 0} (P : Q → Type 0) (m n : ℕ) (order : List (List ℕ) → Order Q) (words : List (List ℕ))
     → Comes P (order words) → MayCome P (between m n order words)
 may_between P m n order words c = may_either P (nat_le m (length words) && nat_le (length words) n)

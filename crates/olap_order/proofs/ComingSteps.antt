@@ -3,8 +3,7 @@
 --     under_schema      so what is left after it may take it for one
 --     root_declared     a root is declared
 --     formula_comes     a formula is one of the schema
-use Rattle.std.proofs.Common.{◌≡◌, ◌≢◌, ℕ, zero, suc, Bool, List, Some, true, false, cond, refl, arith}
-use Rattle.std.proofs.lemmas.Bool.Decides.{nat_tests}
+use Rattle.std.proofs.Common.{◌≡◌, ℕ, Bool, List, Some, true, false, cond, refl, arith}
 use Rattle.std.specs.Prelude.{◌==◌, codes, Result, Ok, Err}
 use Rattle.std.specs.Str.{bytes_eq}
 use Rattle.olap_ast.specs.Formula.{Formula}
@@ -22,16 +21,13 @@ use Rattle.olap_order.proofs.Coming.{Comes, anything, asked, meant, then_comes, 
 use Rattle.olap_schema.specs.Readable.{IsReadable}
 use Rattle.olap_schema_text.specs.Judging.{question_read, schema_read}
 use Rattle.olap_schema_text.specs.Laws.{ReadQuestionsAreValid, ReadSchemasAreReadable}
+use Rattle.olap_base.proofs.GeneralLemmas.{not_zero}
 
 -- the category of a name is one of the graph
 named_category : (g : Graph) (name : List ℕ) (c : ℕ) → category_named g name ≡ Some c → IsCategory g c
 named_category g name c e =
     let t = found (bytes_eq name) (λ x. bytes_eq name x ≡ true) (λ x. (λ e. e, λ e. e)) (names_of g) 0 c e in
     let l = t.2 in omega (arith, t.1, l)
-
--- a number that isn't found to be 0 is none
-isnt_zero : (c : ℕ) → (c == 0) ≡ false → c ≢ 0
-isnt_zero c e = grind (arith, nat_tests)
 
 -- a root is declared
 pub root_declared : (g : Graph) (at : ℕ) (name : List ℕ) → Comes (λ c. IsDeclared g c) (root_word g at name)
@@ -43,17 +39,18 @@ root_declared g at name =
   where
     declared : (c : ℕ) → IsCategory g c → (b : Bool) → (c == 0) ≡ b → Comes (λ c. IsDeclared g c)
         (cond b (refused (fault_text (codes "word") at (codes "RootIsAll"))) (Done c))
-    declared c h true e = told (λ c. IsDeclared g c) Refused (refusal (fault_text (codes "word") at (codes "RootIsAll")))
-    declared c h false e = asked (λ c. IsDeclared g c) c (isnt_zero c e, h)
+    declared c h true e = told (λ c. IsDeclared g c) Refused
+        (refusal (fault_text (codes "word") at (codes "RootIsAll")))
+    declared c h false e = asked (λ c. IsDeclared g c) c (not_zero c e, h)
 
 module _ (readable : ReadSchemasAreReadable) where
   -- a schema that is read is readable, and so valid
   pub schema_comes : (label file : List ℕ) → Comes IsReadable (schema_file label file)
   schema_comes label file =
       then_comes (λ x. Unit {0}) IsReadable (text_file label most_schema_bytes file)
-      (λ text. meaning_or_fault label (codes "line") (λ name. name) (schema_read text))
+      (λ text. meaning_or_fault label (codes "line") (schema_read text))
       (anything (text_file label most_schema_bytes file))
-      (λ text u. meant IsReadable label (codes "line") (λ name. name) (schema_read text) (λ s e. readable text s e))
+      (λ text u. meant IsReadable label (codes "line") (schema_read text) (λ s e. readable text s e))
 
   -- so what is left after it may take it for one
   pub under_schema : {Q : Type 0} (P : Q → Type 0) (label file : List ℕ) (next : Schema → Order Q)

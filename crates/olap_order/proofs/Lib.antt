@@ -5,4 +5,4 @@ pub mod Joining
 pub mod Coming
 pub mod ComingSteps
 pub mod BehindLemmas
-mod SourceLemmas
+pub mod SourceLemmas

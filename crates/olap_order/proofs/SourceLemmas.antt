@@ -1,5 +1,5 @@
 -- Categories that are read from words, one after the other.
---     IsReadTo     the order of all the words is that of those that are left, behind the categories that were read
+--     IsReadTo     the order of all the words is that of those that are left, after the categories that were read
 use Rattle.std.proofs.Common.{◌≡◌, ℕ, suc, ◌+◌, ◌<◌, ◌≤◌, List, [], ◌∷◌, ◌++◌, length, get_or, drop, true, false, ◌||◌, refl, Result, Ok, Err, ap, sym, subst, ◌∙◌, arith}
 use Rattle.std.specs.Prelude.{All, Contains, IsErrAnd, ◌==◌}
 use Rattle.std.specs.List.{list_any}

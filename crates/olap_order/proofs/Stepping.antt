@@ -1,11 +1,11 @@
 -- Steps of an order, one after another.
-use Rattle.std.proofs.Common.{◌≡◌, ◌≤◌, ◌⊎◌, ℕ, List, Option, None, Some, Result, Ok, Err, MatchOption, subst, sym, refl, inl, inr, arith, ◌∙◌}
+use Rattle.std.proofs.Common.{◌≡◌, ◌≤◌, ℕ, List, Option, None, Some, Result, Ok, Err, MatchOption, subst, sym, refl, inl, inr, arith, ◌∙◌}
 use Rattle.std.specs.Prelude.{IsTrue}
 use Rattle.std.specs.Result.{IsErrAnd}
 use Rattle.olap_outside.specs.Faults.{Rose}
 use Rattle.olap_outside.specs.Files.{Files}
 use Rattle.olap_outside.specs.declared.outside.Library.{Ghosts as Library}
-use Rattle.olap_order.specs.Order.{Order, Done, Told, Read, ComesTo, IsStuck, ReadsNoFile, and_then}
+use Rattle.olap_order.specs.Order.{Order, Done, Told, Read, ComesTo, ReadsNoFile, and_then}
 use Rattle.olap_order.specs.Judged.{Gives, GivesTold, IsBlamed, IsLater, Judged, Replied, Replies}
 use Rattle.olap_order.specs.Taken.{ComesOut, ComesOutTold, IsStuckTold, NoAnswer, FileStep, PlainStep}
 use Rattle.olap_order.specs.declared.status.Status.{Status}
@@ -137,11 +137,11 @@ comes_then_told next told step x out files e file c = comes_then next files step
 -- ---- over a library
 
 -- later than later is later
-after : {D : Type 0} {L : Library D} {old mid new : D} → IsLater L old mid → IsLater L mid new → IsLater L old new
+pub after : {D : Type 0} {L : Library D} {old mid new : D} → IsLater L old mid → IsLater L mid new → IsLater L old new
 after a b = let m = a.faults in let n = b.faults in record { faults = omega (arith, m, n); sure = b.sure ∙ a.sure }
 
 -- a library that wasn't asked
-same_state : {D : Type 0} {L : Library D} {old : D} → IsLater L old old
+pub same_state : {D : Type 0} {L : Library D} {old : D} → IsLater L old old
 same_state = record { faults = omega arith; sure = refl }
 
 module _ {D T Q X : Type 0} {answers : Q → Status → List ℕ → Type 0} {L : Library D} {old mid : D}

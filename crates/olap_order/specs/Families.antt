@@ -1,4 +1,4 @@
--- Families of commands. Each has questions of its own, and is known to the program by one call.
+-- Families of commands. Each has questions of its own, and the program knows it by one call.
 --     IsNoUsage       an order that isn't answered by the usage
 --     CommandJudged   what a command's words are answered
 --     FamilyJudged    what a family answers

@@ -27,13 +27,13 @@ Gives answers files (Told told text) status bytes = (status ≡ told) × (bytes 
 Gives answers files (Read name next) status bytes =
     MatchOption (files name) ⊥ (λ text. Gives answers files (next text) status bytes)
 
--- the same of a library: of its files, where it tells them; where it tells none, if the order reads no file
+-- the same over a library: for its files, if it tells them; if not, for any files, provided that the order reads none
 abbrev pub GivesTold : {Q : Type 0} → (Q → Status → List ℕ → Type 0) → Option Files → Order Q → Status → List ℕ
     → Type 0
 GivesTold answers None order status bytes = ReadsNoFile order → (files : Files) → Gives answers files order status bytes
 GivesTold answers (Some files) order status bytes = Gives answers files order status bytes
 
--- what the library was last asked for, where it tells that and its contents, is a file that the order comes to, or the
+-- if the library tells its contents and what it was last asked for, that is a file that the order comes to, or the
 -- order comes to a name without a content
 abbrev pub IsBlamed : {Q : Type 0} → Option Files → Order Q → Option (Option (List ℕ)) → Type 0
 IsBlamed contents order asked = IfSome contents (λ files. IfSome asked (λ name.

@@ -1,9 +1,9 @@
 -- What a run asks of the library, in order, and the question that is left once all its files are read.
---     Order        files that are read in order, and a question, or what is told
+--     Order        files that are read one after another, and then a question or the answer itself
 --     refused      a file or a word is refused
---     and_then     an order, and then another by what the first comes to
---     ok_or        what is there, or a refusal
---     ComesTo      the order comes to this file
+--     and_then     an order, and then another, given the value in which the first ends
+--     ok_or        the value that is there, or a refusal
+--     ComesTo      the order comes to this file: it asks for it
 --     ReadsNoFile  no file is read
 --     IsStuck      it comes to a name without a content
 --     IsHeld       each file that it comes to has a content
@@ -13,8 +13,8 @@ use Rattle.olap_order.specs.Outputs.{refusal}
 use Rattle.olap_order.specs.declared.status.Status.{Status}
 use Rattle.olap_order.specs.declared.status.Status.TheVariants.{Refused}
 
--- Files are read in order, each before what is asked next is known. In the end a question is left, or nothing is asked
--- and this is told.
+-- An order reads files one after another; what a file holds may decide what comes next. In the end a question is left,
+-- or the answer itself: a status and bytes.
 pub data Order (Q : Type 0) : Type 0 where
   Done : Q → Order Q
   Told : (status : Status) (bytes : List ℕ) → Order Q
@@ -24,7 +24,7 @@ pub data Order (Q : Type 0) : Type 0 where
 abbrev pub refused : {Q : Type 0} → List ℕ → Order Q
 refused why = Told Refused (refusal why)
 
--- the order, and then that of what it comes to
+-- the first order, followed by the order for the value in which it ends
 abbrev pub and_then : {T Q : Type 0} → Order T → (T → Order Q) → Order Q
 and_then (Done x) next = next x
 and_then (Told status bytes) next = Told status bytes
@@ -35,7 +35,7 @@ abbrev pub ok_or : {T : Type 0} → Option T → List ℕ → Order T
 ok_or None why = refused why
 ok_or (Some x) why = Done x
 
--- the order comes to this file
+-- the order comes to this file: it asks for it
 abbrev pub ComesTo : {Q : Type 0} → Files → Order Q → List ℕ → Type 0
 ComesTo files (Done q) file = ⊥
 ComesTo files (Told status bytes) file = ⊥

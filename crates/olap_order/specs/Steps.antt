@@ -17,7 +17,7 @@ use Rattle.olap_graph.specs.Lookups.{category_named}
 use Rattle.olap_schema_text.specs.Judging.{question_read, schema_read}
 use Rattle.olap_order.specs.Order.{Order, Done, Read, and_then, ok_or, refused}
 
--- what has that number, and the name of its fault
+-- where a fault is, by its number there, and the name of the fault
 abbrev pub fault_text : List ℕ → ℕ → List ℕ → List ℕ
 fault_text place at name = place ++ (codes " " ++ (decimal at ++ (codes " " ++ name)))
 
@@ -27,12 +27,12 @@ fault_text place at name = place ++ (codes " " ++ (decimal at ++ (codes " " ++ n
 abbrev pub category_word : Graph → ℕ → List ℕ → Order ℕ
 category_word g at name = ok_or (category_named g name) (fault_text (codes "word") at (codes "UnknownCategory"))
 
--- a root: a category that isn't `All`
+-- a category that may be a root: `All` is refused
 abbrev pub root_word : Graph → ℕ → List ℕ → Order ℕ
 root_word g at name = and_then (category_word g at name) (λ c.
     if c == 0 then refused (fault_text (codes "word") at (codes "RootIsAll")) else Done c)
 
--- the number that a word spells, if it spells one that it may be
+-- the number that a word spells, if it spells one within the limits
 abbrev pub number_word : (List ℕ → Option ℕ) → ℕ → List ℕ → Order ℕ
 number_word spelled at word = ok_or (spelled word) (fault_text (codes "word") at (codes "BadNumber"))
 
@@ -47,12 +47,12 @@ formula_word s root at text = formula_or_fault at (question_read s root text)
 
 -- ---- several words or files, the first of which has this number
 
--- what each comes to, one after the other, behind what those before it came to
+-- the earlier values and the value of each of these, one after the other
 abbrev pub in_turn : {A T : Type 0} → (ℕ → List T → A → Order T) → ℕ → List T → List A → Order (List T)
 in_turn step at earlier [] = Done earlier
 in_turn step at earlier (x ∷ xs) = and_then (step at earlier x) (λ y. in_turn step (suc at) (earlier ++ y ∷ []) xs)
 
--- what a word comes to, if it is none of what those before it came to; else the fault has this name
+-- the value of a word, if it isn't among the earlier values; else the fault with the name `twice`
 abbrev pub another : {T : Type 0} → (T → T → Bool) → List ℕ → (ℕ → List ℕ → Order T) → ℕ → List T → List ℕ → Order T
 another same twice step at earlier word = and_then (step at word) (λ x.
     if list_any (λ y. same y x) earlier then refused (fault_text (codes "word") at twice) else Done x)
@@ -69,11 +69,11 @@ text_file label most file = Read file (λ text.
     if nat_lt most (length text) then refused (label ++ codes " TooLong") else Done text)
 
 -- what a text stands for, or its first fault
-abbrev pub meaning_or_fault : {T K : Type 0} → List ℕ → List ℕ → (K → List ℕ) → Result T (Fault K) → Order T
-meaning_or_fault label part name (Ok x) = Done x
-meaning_or_fault label part name (Err f) = refused (label ++ (codes " " ++ fault_text part f.at (name f.kind)))
+abbrev pub meaning_or_fault : {T : Type 0} → List ℕ → List ℕ → Result T (Fault (List ℕ)) → Order T
+meaning_or_fault label part (Ok x) = Done x
+meaning_or_fault label part (Err f) = refused (label ++ (codes " " ++ fault_text part f.at f.kind))
 
 -- the schema in a file
 abbrev pub schema_file : List ℕ → List ℕ → Order Schema
 schema_file label file = and_then (text_file label most_schema_bytes file) (λ text.
-    meaning_or_fault label (codes "line") (λ name. name) (schema_read text))
+    meaning_or_fault label (codes "line") (schema_read text))

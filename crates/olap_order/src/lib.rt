@@ -1,8 +1,8 @@
 //! Orders: what a run asks of the library, step by step, and how the code goes along them.
 //!
-//! An *order* (`specs/Order.antt`) is files that are read in order, each before what is asked next is known, and in the
-//! end a question. Its steps (`specs/Steps.antt`) are words and files: each step's function says whether the step comes
-//! to its value or why the run ends there (`specs/Taken.antt`). No question of a command is known here.
+//! An *order* (`specs/Order.antt`) reads files one after another, where what a file holds may decide what comes next,
+//! and ends in a question. Its steps (`specs/Steps.antt`) are words and files: each step's function says which value
+//! the step has, or why the run ends there (`specs/Taken.antt`). No question of a command is known here.
 #![tactic(auto)]
 
 mod naming;

@@ -2,7 +2,7 @@
 ghost use Rattle.std.specs.Prelude.{◌≡◌, ◌≢◌, ◌+◌, ◌<◌, ◌^◌, [], All, AllPairs, IfOk, IsTrue, false, length};
 ghost use Rattle.std.specs.List.{list_any};
 ghost use Rattle.std.specs.Prelude.{◌==◌, ◌↔◌};
-ghost use Rattle.olap_ast.specs.Formula.{equalities};
+ghost use Rattle.olap_ast.specs.Atoms.{equalities};
 ghost use Rattle.olap_ast.specs.Trees.{formula_of, numbers_of};
 ghost use Rattle.olap_ast.specs.Valid.{IsQuestion};
 ghost use Rattle.olap_base.specs.Graph.{IsCategory, IsDeclared};
@@ -73,7 +73,7 @@ fn is_among(categories: &[CatId], category: CatId) -> bool
     categories.contains(&category)
 }
 
-/// The category that the word of this number names, after these. The fault has this name where it is one of them.
+/// The category that the word of this number names, after these. If it is one of these, the fault has the name `twice`.
 fn another_at(
     alloc: Global,
     at: u64,
@@ -96,8 +96,8 @@ fn another_at(
     }
 }
 
-/// The different categories that the words from this number on name, left to right. The fault has this name where one
-/// stands twice.
+/// The different categories that the words from this number on name, left to right. If one stands twice, the fault has
+/// the name `twice`.
 pub fn categories_at(
     alloc: Global,
     at: u64,

@@ -49,7 +49,7 @@ impl<T: Drop> From<AllocFailed<T>> for Stop {
     }
 }
 
-/// The reply of a question that is answered by yes.
+/// The reply to a question whose answer is yes.
 pub fn yes(bytes: Vec<u8>) -> Reply
     ensures status { result.status ≡ Status.Yes }
     ensures bytes { result.bytes.items ≡ bytes.items }
@@ -60,7 +60,7 @@ pub fn yes(bytes: Vec<u8>) -> Reply
     }
 }
 
-/// The reply of a question that is answered by no.
+/// The reply to a question whose answer is no.
 pub fn no(bytes: Vec<u8>) -> Reply
     ensures status { result.status ≡ Status.No }
     ensures bytes { result.bytes.items ≡ bytes.items }
@@ -101,7 +101,7 @@ pub fn refuse_part(alloc: Global, label: &str, part: &str, at: u64, fault: &str)
     }
 }
 
-/// What has that number is refused.
+/// The word or file of that number is refused.
 pub fn refuse_at(alloc: Global, place: &str, at: u64, fault: &str) -> Stop
     ensures refused { IsRefusal (fault_text place.now at fault.now) result }
 {

@@ -8,10 +8,12 @@ use Rattle.std.specs.Io.KnownBytes.{Consumes}
 use Rattle.olap_outside.specs.Pieces.{EndsTold}
 use Rattle.olap_outside.specs.Files.{Takes}
 
+-- before any read no bytes were taken
 pub consumes-none : (o : Option (List ℕ)) → Consumes o o []
 consumes-none None = tt
 consumes-none (Some xs) = refl
 
+-- after one more read its bytes were taken too
 pub consumes-more : (o m n : Option (List ℕ)) (xs bytes : List ℕ) (room : ℕ) → Consumes o m xs → Takes m n bytes room
     → Consumes o n (xs ++ bytes)
 consumes-more None m n xs bytes room h t = tt
@@ -28,12 +30,13 @@ takes-end (Some a) None n xs bytes room h t e l = absurd h
 takes-end (Some a) (Some b) None xs bytes room h t e l = absurd t
 takes-end (Some a) (Some b) (Some c) xs bytes room h t e l = t.1 e l
 
+-- the front of two lists joined is that of the first, if it is long enough
 front-of : {X : Type 0} (n : ℕ) (xs ys : List X) → n ≤ length xs → take n (xs ++ ys) ≡ take n xs
 front-of zero xs ys l = refl
 front-of (suc n) [] ys l = absurd (omega arith)
 front-of (suc n) (x ∷ xs) ys l = ap (λ zs. x ∷ zs) (front-of n xs ys (omega arith))
 
--- what stands in a piece after a write behind the first a bytes
+-- what stands in a piece after a write after the first a bytes
 pub filled : (a k n : ℕ) (xs ys : List ℕ) → a ≤ length xs → n ≤ length ys
     → take (a + n) (put_mid a k xs ys) ≡ take a xs ++ take n ys
 filled a k n xs ys l m =

@@ -1,6 +1,6 @@
 -- Lemmas.
-pub mod Reading
-pub mod Writing
-pub mod Places
+mod Reading
+mod Writing
+mod Places
 pub mod FaultLemmas
-pub mod FillingLemmas
+mod FillingLemmas

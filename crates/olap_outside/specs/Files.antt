@@ -70,7 +70,7 @@ pub record IsPlace (files : List (List ℕ × List ℕ)) (name : List ℕ) (i : 
 abbrev pub content_or_empty : List (List ℕ × List ℕ) → Files
 content_or_empty files name = Some (unwrap_or (content_of files name) [])
 
--- the content of the file at that place, or no bytes where there is none
+-- the content of the file at that place, or no bytes if there is none
 abbrev pub opened_content : List (List ℕ × List ℕ) → Option ℕ → List ℕ
 opened_content files None = []
 opened_content files (Some i) = (file_at files i).1

@@ -75,7 +75,7 @@ sink_calls s = s.calls
 abbrev pub sink_faults : MemSink → ℕ
 sink_faults s = s.calls.faults
 
--- no call is listed to fail, and there is room for so many bytes more
+-- no call is listed to fail, and there is room for this many more bytes
 abbrev pub sink_takes : MemSink → ℕ → Bool
 sink_takes s k = length s.calls.fails == 0 && nat_le (length s.bytes.items + k) s.room
 
@@ -89,7 +89,7 @@ sure_files s = s.files
 abbrev pub sure_chunk : SureLibrary → ℕ
 sure_chunk s = s.chunk
 
--- each name's content, of which none is missing
+-- each name's content, none of which is missing
 abbrev pub sure_contents : SureLibrary → Option Files
 sure_contents s = Some (content_or_empty s.files)
 

@@ -2,7 +2,7 @@
 //!
 //! A `Library` has files that are read, whole (`fetch`) or piece by piece (`fill`), a `Sink` takes bytes that are
 //! written (`emit`), and both count the calls that they refuse. Beside the traits stand libraries and sinks in memory,
-//! for tests and for proofs.
+//! for tests and for proofs. No format of a file is known here.
 #![tactic(auto)]
 
 mod calls;

@@ -19,7 +19,7 @@ pub enum OpenError {
 #[derive(Clone, Copy, Debug, PartialEq, Eq)]
 pub struct Failed;
 
-/// Files by name, of which one at a time is open.
+/// Files by name, one of which is open at a time.
 pub trait Library {
     /// For each name its content, or that it has none. A library may leave this untold.
     ghost contents: { Self → Option Files };
@@ -83,7 +83,7 @@ pub trait Sink {
     /// How many calls were refused. It never falls, and stands still at its last value.
     ghost faults: { Self → ℕ };
 
-    /// Whether it is sure to take so many bytes more, in as many calls as it likes.
+    /// Whether it is sure to take this many more bytes, in as many calls as it needs.
     ghost takes: { Self → ℕ → Bool };
 
     /// Writes the front of the piece, and says how many bytes of it.

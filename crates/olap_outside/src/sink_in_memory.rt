@@ -8,7 +8,7 @@ use olap_base::{List, Memory};
 use std::alloc::Global;
 
 /// Output in memory, for tests. It takes at most `chunk` bytes a call and `room` in all. Calls are numbered from 1, and
-/// those that are listed are refused, as is one for which no room is left. Writes take no memory.
+/// those that are listed are refused, as is one when no room is left. Writes take no memory.
 #[derive(Drop)]
 pub struct MemSink {
     bytes: Vec<u8>,

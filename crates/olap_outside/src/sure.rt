@@ -7,7 +7,7 @@ use crate::library_in_memory::{hand_out, place};
 use crate::{Failed, Library, OpenError, Sink};
 use olap_base::{List, Text};
 
-/// Files by name in memory, of which none is missing: a name that isn't held has no bytes. A read hands out at most
+/// Files by name in memory, none of which is missing: a name that isn't held has no bytes. A read hands out at most
 /// `chunk` bytes. It tells its contents, and not what it was asked for.
 #[derive(Drop)]
 pub struct SureLibrary {
@@ -112,7 +112,7 @@ impl Library for SureLibrary {
     }
 }
 
-/// Output that is dropped. It takes every piece whole, and tells nothing of what it took.
+/// Output that is dropped. It takes every piece whole, and tells nothing about what it took.
 #[derive(Drop)]
 pub struct SureSink {}
 

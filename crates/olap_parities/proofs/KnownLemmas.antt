@@ -31,7 +31,8 @@ forgotten values k h none v x = elim (cases_lt x k) [
 pub none_true : (values : List (Option Bool)) (clause : List Lit) (k : ℕ) → length clause ≤ k
     → All (IsFalse values) (take k clause) → (v : ℕ → Bool) → Knows values v → Satisfies v clause → ⊥
 none_true values clause k h all v knows sat =
-    let each : All (IsFalse values) clause = subst (λ (c : List Lit). All (IsFalse values) c) (take_all k clause h) all in
+    let each : All (IsFalse values) clause =
+    subst (λ (c : List Lit). All (IsFalse values) c) (take_all k clause h) all in
     All-contains (IsFalse values) clause sat.0 each sat.1 v knows sat.2
 
 -- a clause of which each literal but this one is known false

@@ -5,5 +5,5 @@ mod RowLemmas
 mod KnownLemmas
 mod FindingLemmas
 mod ColumnLemmas
-mod ParityLemmas
+pub mod ParityLemmas
 mod EntryLemmas

@@ -1,7 +1,7 @@
 -- Literals of some clauses, put into sets of which at most one literal is to be true.
 --     Covers     a literal of this row is true
 --     IsAlone    no true literal of another row is in the literal's set
---     AreAlone   that is so of each, and there are only so many sets
+--     AreAlone   that is so of each, and each set is one of this many
 use Rattle.std.specs.Prelude.{◌≡◌, ◌≢◌, ℕ, ◌<◌, Bool, List, All, Contains}
 use Rattle.olap_parities.specs.declared.entries.Entry.{Entry}
 use Rattle.olap_pool.specs.Literals.{Holds}
@@ -14,7 +14,7 @@ Covers v entries row = (e : Entry) × Contains entries e × (e.row ≡ row) × H
 abbrev pub IsApart : (ℕ → Bool) → Entry → Entry → Type 0
 IsApart v e f = f.row ≢ e.row → f.set ≡ e.set → Holds v f.lit → ⊥
 
--- the literal is of one of so many sets, and where it is true, no literal of another row in its set is
+-- the literal is of one of this many sets, and if it is true, no literal of another row in its set is
 pub record IsAlone (v : ℕ → Bool) (sets : ℕ) (entries : List Entry) (e : Entry) : Type 0 where
   pub within : e.set < sets
   pub apart : Holds v e.lit → All (IsApart v e) entries

@@ -21,7 +21,7 @@ sum_over v (x ∷ xs) = xor (v x) (sum_over v xs)
 abbrev pub is_bit_one : List ℕ → ℕ → Bool
 is_bit_one words n = nat_eq (bit_at (slice_index words (n / 64)) (n % 64)) 1
 
--- the sum of those of the first so many columns that are chosen
+-- the sum of the chosen ones among the first n columns
 unfoldable pub sum_below : (ℕ → Bool) → (ℕ → Bool) → ℕ → Bool
 sum_below w is_chosen zero = false
 sum_below w is_chosen (suc n) = xor (sum_below w is_chosen n) (is_chosen n && w n)

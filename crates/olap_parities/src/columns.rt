@@ -17,7 +17,7 @@ pub(crate) struct Columns {
 impl Columns {
     ghost use Rattle.olap_parities.specs.Columns.{column_value, part_value, row_value};
 
-    /// Room for so many variables, of which so many have a column at most.
+    /// Room for this many variables, at most this many of which have a column.
     pub(crate) fn new(alloc: Global, variables: usize, room: usize) -> Result<Columns, AllocError> {
         Ok(Columns {
             columns: vec![in alloc; 0; variables]?,
@@ -90,7 +90,7 @@ impl Columns {
         }
     }
 
-    /// Takes the first column out of a row that has one, and answers whose it is.
+    /// Takes the first column out of a row that has one, and returns whose it is.
     pub(crate) fn take_out<const W: usize>(&self, row: &mut Row<W>) -> Option<u32>
         ensures { (v : ℕ → Bool) → row_value v self.now row.new
             ≡ xor (row_value v self.now row.old) (part_value v result) }

@@ -9,13 +9,13 @@ use crate::values::{forget, learn};
 use olap_pool::{Lit, Pool};
 use std::alloc::{AllocError, Global};
 
-/// So many literals a clause has at most.
+/// The most literals of a clause.
 const LONGEST: usize = 40;
 
-/// So many clauses are gone through at most, once for each literal.
+/// The most clauses that are gone through, counted once for each literal.
 const PATIENCE: usize = 1_000_000;
 
-/// So many variables and clauses a pool may have; of a larger one nothing is found.
+/// The most variables, and the most clauses, of a pool; in a larger one nothing is found.
 const LARGEST: usize = 20_000;
 
 /// Whether these clauses are more than the sets in which their literals lie.
@@ -48,7 +48,7 @@ fn take(taken: &mut [bool], clause: &[Lit]) {
     }
 }
 
-/// Chooses clauses of so many open literals of which no two share a variable. Nothing is said of them.
+/// Chooses clauses of this many open literals, no two of which share a variable. Nothing is proved about them.
 fn choose(
     pool: &Pool,
     values: &[Option<bool>],
@@ -84,12 +84,12 @@ pub struct Counting {
     ids: Vec<u32>,
     entries: Vec<Entry>,
     grouping: Grouping,
-    /// So many clauses may still be gone through.
+    /// How many more clauses may be gone through.
     patience: usize,
 }
 
 impl Counting {
-    /// Room to count in a pool with so many variables: some 200 KB. No later call takes memory.
+    /// Room to count in a pool with this many variables: some 200 KB. No later call takes memory.
     pub fn new(alloc: Global, variables: u32) -> Result<Counting, AllocError> {
         let variables = if variables as usize > LARGEST {
             0
@@ -115,7 +115,7 @@ impl Counting {
         learn(&mut self.values, pool);
     }
 
-    /// Whether clauses of so many open literals are found that are more than the sets in which their literals lie.
+    /// Whether clauses of this many open literals are found that are more than the sets in which their literals lie.
     fn is_overfull_at(&mut self, pool: &Pool, size: usize) -> bool
         ensures right { result ≡ true → (v : ℕ → Bool) → AreTrue v pool.now → Knows self.old.values.items v → ⊥ }
         ensures same { self.new.values.items ≡ self.old.values.items }

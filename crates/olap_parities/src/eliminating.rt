@@ -4,7 +4,7 @@ ghost use Rattle.olap_parities.specs.Rows.{IsZero};
 
 use crate::rows::Row;
 
-/// The first row with this column that is no pivot yet. Nothing is said of it.
+/// The first row with this column that is no pivot yet. Nothing is proved about it.
 fn next_pivot<const W: usize>(rows: &[Row<W>], pivots: &[bool], column: usize) -> Option<usize> {
     'rows: for k in 0..rows.len() {
         if k < pivots.len() && !pivots[k] && rows[k].has(column) {
@@ -14,7 +14,7 @@ fn next_pivot<const W: usize>(rows: &[Row<W>], pivots: &[bool], column: usize) -
     None
 }
 
-/// Adds this row to each other one with this column, and answers how many there are.
+/// Adds this row to each other one with this column, and returns how many there are.
 fn add_to_others<const W: usize>(
     rows: &mut [Row<W>],
     row: &Row<W>,
@@ -33,7 +33,7 @@ fn add_to_others<const W: usize>(
     count
 }
 
-/// Takes a column out of each row but the pivot, and answers how many there were.
+/// Takes a column out of each row but the pivot, and returns how many there were.
 fn clear_column<const W: usize>(rows: &mut [Row<W>], pivot: usize, column: usize) -> usize
     ensures { (w : ℕ → Bool) → All (IsZero w) rows.old → All (IsZero w) rows.new }
 {
@@ -45,7 +45,7 @@ fn clear_column<const W: usize>(rows: &mut [Row<W>], pivot: usize, column: usize
 }
 
 /// Eliminates the columns from 1 to this one, from the first to the last or from the last to the first, while there is
-/// patience for so many sums.
+/// patience for this many sums.
 pub(crate) fn eliminate<const W: usize>(
     rows: &mut [Row<W>],
     pivots: &mut [bool],

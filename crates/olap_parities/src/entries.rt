@@ -60,7 +60,7 @@ fn is_apart(entries: &[Entry], entry: Entry, trial: &[Option<bool>]) -> bool
     true
 }
 
-/// Whether a literal is of one of so many sets, and alone in it where it is true.
+/// Whether a literal is of one of this many sets, and alone in it where it is true.
 fn is_alone(
     pool: &Pool,
     values: &[Option<bool>],
@@ -81,7 +81,7 @@ fn is_alone(
     is_apart(entries, entry, trial)
 }
 
-/// Whether there are only so many sets, and each literal is alone in its own.
+/// Whether there are only this many sets, and each literal is alone in its own.
 pub(crate) fn are_alone(
     pool: &Pool,
     values: &[Option<bool>],
@@ -149,7 +149,7 @@ fn enter(
     true
 }
 
-/// Enters the literals of these clauses, and answers how many clauses there are, or 0 if there is no room.
+/// Enters the literals of these clauses, and returns how many clauses there are, or 0 if there is no room.
 pub(crate) fn enter_all(
     pool: &Pool,
     values: &[Option<bool>],

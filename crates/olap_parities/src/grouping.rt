@@ -5,10 +5,10 @@ use crate::values::{is_false, value};
 use olap_pool::{Lit, Pool};
 use std::alloc::{AllocError, Global};
 
-/// So many literals the clauses have together at most.
+/// The most literals of the clauses together.
 pub(crate) const LITERALS: usize = 400;
 
-/// So many sets there are at most.
+/// The most sets.
 const SETS: usize = 128;
 
 /// Literals, and for each two whether they exclude each other.
@@ -115,7 +115,7 @@ pub(crate) fn count_sets(entries: &[Entry]) -> usize {
     count
 }
 
-/// How many literals of a clause are open, where each is of a variable that isn't taken and none is known true.
+/// How many literals of a clause are open, if each is of a variable that isn't taken and none is known true.
 pub(crate) fn open_size(values: &[Option<bool>], taken: &[bool], clause: &[Lit]) -> Option<usize> {
     let mut count: usize = 0;
     'lits: for k in 0..clause.len() {

@@ -15,19 +15,19 @@ use crate::values::{forget, learn};
 use olap_pool::{Lit, Pool};
 use std::alloc::{AllocError, Global};
 
-/// So many words a row has.
+/// The words of a row.
 const WORDS: usize = 64;
 
-/// So many variables have a column at most: the first column stands for what is true.
+/// The most variables that have a column; the first column stands for what is true.
 const COLUMNS: usize = 64 * WORDS - 1;
 
-/// So many rows there are at most.
+/// The most rows.
 const ROWS: usize = 5000;
 
-/// So many variables and clauses a pool may have; of a larger one nothing is derived.
+/// The most variables, and the most clauses, of a pool; from a larger one nothing is derived.
 const LARGEST: usize = 150_000;
 
-/// So many sums of rows are made at most, each way.
+/// The most sums of rows that are made each way.
 const PATIENCE: usize = 4_000_000;
 
 /// The parity of a set of variables.
@@ -52,7 +52,7 @@ fn parity_of(index: &Index, pool: &Pool, values: &mut [Option<bool>], id: usize)
     Some(Parity { set, odd })
 }
 
-/// Keeps a row where there is room.
+/// Keeps a row if there is room.
 fn keep_row(rows: &mut Vec<Row<WORDS>>, row: Row<WORDS>)
     ensures { (v : ℕ → Bool) (columns : Columns) → AreZero v columns rows.old.items → row_value v columns row ≡ false
         → AreZero v columns rows.new.items }
@@ -159,7 +159,7 @@ fn keep_pair(into: &mut Pool, x: u32, y: u32, odd: bool)
     into.keep_if(true, &[is_x.negated(), is_y.negated()], 0);
 }
 
-/// Keeps what the sum of two variables comes to, where either may be missing. False: it is the sum of none, and odd.
+/// Keeps what the sum of two variables says, either of which may be missing. False: it is the sum of none, and odd.
 fn keep_sum(into: &mut Pool, first: Option<u32>, second: Option<u32>, odd: bool) -> bool
     ensures none { result ≡ false → (v : ℕ → Bool) → xor (part_value v first) (part_value v second) ≡ odd → ⊥ }
     ensures kept { (v : ℕ → Bool) → xor (part_value v first) (part_value v second) ≡ odd → AreTrue v into.old
@@ -254,8 +254,8 @@ pub struct Parities {
 }
 
 impl Parities {
-    /// Room for the parities of a pool with so many variables: at most some 5 MB, and hardly any for a pool of more
-    /// than 150,000 variables or clauses, of which nothing is derived. No later call takes memory.
+    /// Room for the parities of a pool with this many variables: at most some 5 MB, and hardly any for a pool of more
+    /// than 150,000 variables or clauses, from which nothing is derived. No later call takes memory.
     pub fn new(alloc: Global, variables: u32, pool: &Pool) -> Result<Parities, AllocError> {
         let is_large = variables as usize > LARGEST || pool.len() > LARGEST;
         let variables = if is_large { 0 } else { variables as usize };
@@ -278,8 +278,8 @@ impl Parities {
         learn(&mut self.values, pool);
     }
 
-    /// Adds what the parities that stand in the clauses come to: variables that have one value, and pairs that are the
-    /// same or each other's negation, as clauses of one literal and of two, as far as there is room. False: no
+    /// Adds what follows from the parities that the clauses contain: variables that have one value, and pairs that are
+    /// the same or each other's negation, as clauses of one literal and of two, as far as there is room. False: no
     /// valuation makes all clauses true. Only the first clauses are looked at, as many as the pool had when the room
     /// was taken.
     pub fn derive(&mut self, pool: &Pool, into: &mut Pool) -> bool

@@ -2,7 +2,7 @@
 ghost use Rattle.std.specs.Prelude.{◌≡◌, ℕ, Bool, true, false, IfSome};
 ghost use Rattle.olap_parities.specs.Sums.{xor, sum_of};
 
-/// A sum of columns modulo 2, of which there are `64 * W`.
+/// A sum modulo 2 of some of `64 * W` columns.
 #[derive(Clone, Copy)]
 pub(crate) struct Row<const W: usize> {
     pub(crate) words: [u64; W],
@@ -16,13 +16,13 @@ impl<const W: usize> Row<W> {
         Row { words: [0; W] }
     }
 
-    /// Whether the column is in it. Nothing is said of it.
+    /// Whether the column is in it. Nothing is proved about it.
     pub(crate) fn has(&self, column: usize) -> bool {
         let place = column / 64;
         place < W && (self.words[place] >> (column % 64)) & 1 == 1
     }
 
-    /// Adds a column, and answers whether there is that column.
+    /// Adds a column, and returns whether there is that column.
     pub(crate) fn flip(&mut self, column: usize) -> bool
         ensures done { result ≡ true → (w : ℕ → Bool)
             → sum_of w self.new.words ≡ xor (sum_of w self.old.words) (w column) }
@@ -47,7 +47,7 @@ impl<const W: usize> Row<W> {
         Some(row)
     }
 
-    /// Takes out what is always true, which is column 0, and answers whether it was in the row.
+    /// Takes out what is always true, which is column 0, and returns whether it was in the row.
     pub(crate) fn take_truth(&mut self) -> bool
         ensures { (w : ℕ → Bool) → w 0 ≡ true
             → sum_of w self.new.words ≡ xor (sum_of w self.old.words) result }
@@ -55,7 +55,7 @@ impl<const W: usize> Row<W> {
         self.has(0) && self.flip(0)
     }
 
-    /// The first column that is in it. Nothing is said of it.
+    /// The first column that is in it. Nothing is proved about it.
     pub(crate) fn first(&self) -> Option<usize> {
         'words: for k in 0..W {
             let word = self.words[k];

@@ -6,10 +6,10 @@ use crate::values::{is_false, value};
 use olap_pool::{Lit, Pool};
 use std::alloc::{AllocError, Global};
 
-/// So many variables a set has at most.
+/// The most variables of a set.
 pub(crate) const LARGEST: usize = 5;
 
-/// So many clauses with one hash are looked at.
+/// How many clauses with one hash are looked at.
 const PATIENCE: usize = 64;
 
 /// A set of at most five variables.
@@ -31,7 +31,7 @@ impl Set {
         }
     }
 
-    /// The variables of a clause that are open, where it has from two to five, each once, and isn't known true.
+    /// The open variables of a clause, if it has from two to five, each once, and isn't known true.
     pub(crate) fn of(values: &[Option<bool>], clause: &[Lit]) -> Option<Set> {
         let mut set = Set::empty();
         'lits: for k in 0..clause.len() {
@@ -48,7 +48,7 @@ impl Set {
         if set.count >= 2 { Some(set) } else { None }
     }
 
-    /// Adds a variable where there is room.
+    /// Adds a variable if there is room.
     fn push(&mut self, variable: u32) {
         if self.count < LARGEST {
             self.variables[self.count] = variable;
@@ -122,7 +122,7 @@ pub(crate) struct Index {
 }
 
 impl Index {
-    /// Room for so many clauses.
+    /// Room for this many clauses.
     pub(crate) fn new(alloc: Global, clauses: usize) -> Result<Index, AllocError> {
         Ok(Index {
             heads: vec![in alloc; 0; clauses]?,
@@ -203,7 +203,7 @@ impl Index {
     }
 }
 
-/// So many clauses are noted at most.
+/// The most clauses that are noted.
 const ROOM: usize = 48;
 
 /// Clauses that were noted.
@@ -211,7 +211,7 @@ const ROOM: usize = 48;
 pub(crate) struct Found {
     ids: [u32; ROOM],
     count: usize,
-    /// So many assignments these forbid together, where none is forbidden twice.
+    /// How many assignments these forbid together, if none is forbidden twice.
     weight: usize,
     ghost within: { count ≤ 48 },
 }
@@ -226,7 +226,7 @@ impl Found {
         }
     }
 
-    /// Notes a clause where there is room, which leaves so many variables free.
+    /// Notes a clause if there is room, which leaves this many variables free.
     fn push(&mut self, id: u32, free: usize) {
         if self.count < ROOM && free < LARGEST {
             self.ids[self.count] = id;

@@ -63,7 +63,7 @@ fn are_false_but(values: &[Option<bool>], clause: &[Lit], lit: Lit) -> bool
     true
 }
 
-/// A literal of which nothing is known, if the clause has one. Nothing is said of it.
+/// A literal about which nothing is known, if the clause has one. Nothing is proved about it.
 fn open_literal(values: &[Option<bool>], clause: &[Lit]) -> Option<Lit> {
     'lits: for lit in clause {
         if value(values, lit.variable).is_none() {
@@ -73,7 +73,7 @@ fn open_literal(values: &[Option<bool>], clause: &[Lit]) -> Option<Lit> {
     None
 }
 
-/// Learns the last literal that a clause leaves open, and answers whether there was one.
+/// Learns the last literal that a clause leaves open, and returns whether there was one.
 fn learn_one(values: &mut [Option<bool>], clause: &[Lit]) -> bool
     ensures { (v : ℕ → Bool) → Satisfies v clause.now → Knows values.old v → Knows values.new v }
 {
@@ -88,7 +88,7 @@ fn learn_one(values: &mut [Option<bool>], clause: &[Lit]) -> bool
     true
 }
 
-/// Learns once what each clause leaves open, and answers whether there was anything.
+/// Learns once what each clause leaves open, and returns whether there was anything.
 fn learn_once(values: &mut [Option<bool>], pool: &Pool) -> bool
     ensures { (v : ℕ → Bool) → AreTrue v pool.now → Knows values.old v → Knows values.new v }
 {

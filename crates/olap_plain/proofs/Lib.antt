@@ -1,3 +1,3 @@
 -- Lemmas.
-pub mod PlainLemmas
+mod PlainLemmas
 mod SearchLemmas

@@ -1,27 +1,28 @@
 -- What one more fact and one more member change.
-use Rattle.std.proofs.Common.{◌≡◌, ℕ, zero, suc, ◌<◌, List, [], ◌∷◌, length, map, get_or, Bool, true, false, eqb, refl, ap, sym, subst, ◌∙◌, ◌↔◌, ◌⊎◌, arith}
+use Rattle.std.proofs.Common.{◌≡◌, ℕ, suc, ◌<◌, List, [], ◌∷◌, length, map, get_or, Bool, true, false, eqb, refl, ap, sym, subst, ◌∙◌, ◌↔◌, ◌⊎◌, arith}
 use Rattle.std.specs.Prelude.{Contains, IsTrue}
 use Rattle.std.specs.Bool.{Decides}
 use Rattle.std.specs.List.{IsAnyAnswer}
 use Rattle.std.proofs.lemmas.List.{get_or-map}
-use Rattle.std.proofs.lemmas.List.Elements.{contains_decides, Decides-contains}
+use Rattle.std.proofs.lemmas.List.Elements.{contains_decides, Decides-contains, filter_map-append}
 use Rattle.std.proofs.lemmas.Bool.Decides.{nat_tests, Decides-eqb}
 use Rattle.olap_base.specs.Deciding.{Through, Steps-from_through, through_from_Steps, below_is_member}
 use Rattle.olap_base.specs.Steps.{Steps-from_reaches, reaches_from_Steps}
 use Rattle.olap_base.specs.Instance.{Instance, nobody, IsBelow, Reaches, parents_of, category_of}
 use Rattle.std.specs.Prelude.{ℤ, filter, ◌++◌, Option, Some, None, ◌+◌, ◌≤◌, cond, take, IfSome, filter_map, ◌==◌}
-use Rattle.std.specs.List.{range_with_len, cons_option}
+use Rattle.std.specs.List.{range_with_len}
 use Rattle.std.specs.Bool.{one_answer}
 use Rattle.std.proofs.lemmas.List.{take_more, append-nil}
 use Rattle.std.proofs.lemmas.List.Elements.{filter-append}
 use Rattle.olap_base.specs.Reaching.{reaches, reaches_is}
 use Rattle.olap_base.specs.Summaries.{Summary, of_value, total, ◌⊕◌}
-use Rattle.olap_base.specs.Views.{Fact, Row, row_at, total_of_facts, values_at}
+use Rattle.olap_base.specs.Views.{Fact, Row, members, row_at, total_of_facts, values_at}
 use Rattle.olap_base.proofs.TotalLemmas.{total_push}
 use Rattle.olap_plain.specs.declared.viewing.PlainFact.{PlainFact}
 use Rattle.olap_plain.specs.Plain.{instance_of, member_of, fact_of, facts_of, extended, row_of, as_row, IsBounded}
 use Rattle.olap_plain.specs.declared.viewing.PlainRow.{PlainRow}
 use Rattle.olap_plain.specs.declared.viewing.PlainMember.{PlainMember}
+use Rattle.olap_base.proofs.ListLemmas.{range_more}
 
 -- the test of a member's list of parents
 pub below_is : (ms : List PlainMember) (x y : ℕ) (m : PlainMember) (ps : List ℕ) (r : Bool) → x < length ms
@@ -50,10 +51,6 @@ module _ (R : ℕ → ℕ → Type 0) (k x y : ℕ) where
   unfolding Through
   from_suc m e s = subst (λ n. Through R n x y) e s
 
--- a test that is false refutes what it tests
-pub refuted : {P : Type 0} (r : Bool) → r ≡ false → IsTrue r ↔ P → P → ⊥
-refuted r e d p = let z : false ≡ true = sym e ∙ d.1 p in cc
-
 -- a chain through members of the instance is a chain
 pub reaches_by_through : (i : Instance) (n : ℕ) (x y : ℕ) (r : Bool) → n ≡ length i
     → IsTrue r ↔ Through (IsBelow i) n x y → IsTrue r ↔ Reaches i x y
@@ -66,7 +63,7 @@ reaches_by_through i n x y r e d = (
 -- ---- one more fact
 
 -- the row of y with these values, if there are any
-abbrev value_row : ℕ → List ℤ → Option Row
+abbrev value_row : ℕ → List ℤ → Option (Row ℕ)
 value_row y vs = row_at y (total (map of_value vs))
 
 -- a map over two lists
@@ -85,37 +82,38 @@ direct_row_push y vs v =
     go (Some s) = refl
 
 -- one fact more has its value in the row if its member reaches it
-values_push : (i : Instance) (fs : List Fact) (f : Fact) (y : ℕ)
-    → values_at i (fs ++ f ∷ []) y ≡ values_at i fs y ++ cond (reaches i f.member y) (f.value ∷ []) []
-values_push i fs f y = ap (map (λ (g : Fact). g.value)) (filter-append (λ g. reaches i g.member y) fs (f ∷ []))
-    ∙ map-append (λ (g : Fact). g.value) (filter (λ g. reaches i g.member y) fs)
-    (filter (λ g. reaches i g.member y) (f ∷ []))
-    ∙ ap (λ t. map (λ (g : Fact). g.value) (filter (λ g. reaches i g.member y) fs) ++ t) (last (reaches i f.member y))
+values_push : (i : Instance) (fs : List (Fact ℕ)) (f : Fact ℕ) (y : ℕ)
+    → values_at (members i) (fs ++ f ∷ []) y ≡ values_at (members i) fs y ++ cond (reaches i f.at y) (f.value ∷ []) []
+values_push i fs f y = ap (map (λ (g : Fact ℕ). g.value)) (filter-append (λ g. reaches i g.at y) fs (f ∷ []))
+    ∙ map-append (λ (g : Fact ℕ). g.value) (filter (λ g. reaches i g.at y) fs)
+    (filter (λ g. reaches i g.at y) (f ∷ []))
+    ∙ ap (λ t. map (λ (g : Fact ℕ). g.value) (filter (λ g. reaches i g.at y) fs) ++ t) (last (reaches i f.at y))
   where
-    last : (b : Bool) → map (λ (g : Fact). g.value) (cond b (f ∷ []) []) ≡ cond b (f.value ∷ []) []
+    last : (b : Bool) → map (λ (g : Fact ℕ). g.value) (cond b (f ∷ []) []) ≡ cond b (f.value ∷ []) []
     last true = refl
     last false = refl
 
 -- the row after one more fact
-abbrev pub row_after : ℕ → Bool → Option Row → ℤ → Option Row
+abbrev pub row_after : ℕ → Bool → Option (Row ℕ) → ℤ → Option (Row ℕ)
 row_after y true o v = Some (extended y o v)
 row_after y false o v = o
 
 -- what one fact more changes in the row of a member
 pub row_step : (i : Instance) (facts : List PlainFact) (k y : ℕ) (d : PlainFact) → k < length facts
-    → row_at y (total_of_facts i (facts_of (take (k + 1) facts)) y)
-    ≡ row_after y (reaches i (get_or facts k d).member y) (row_at y (total_of_facts i (facts_of (take k facts)) y))
+    → row_at y (total_of_facts (members i) (facts_of (take (k + 1) facts)) y)
+    ≡ row_after y (reaches i (get_or facts k d).member y)
+    (row_at y (total_of_facts (members i) (facts_of (take k facts)) y))
     (get_or facts k d).value
-row_step i facts k y d h = ap (λ fs. row_at y (total_of_facts i (facts_of fs) y)) (take_more facts k d h)
-    ∙ ap (λ fs. row_at y (total_of_facts i fs y)) (map-append fact_of (take k facts) (get_or facts k d ∷ []))
+row_step i facts k y d h = ap (λ fs. row_at y (total_of_facts (members i) (facts_of fs) y)) (take_more facts k d h)
+    ∙ ap (λ fs. row_at y (total_of_facts (members i) fs y)) (map-append fact_of (take k facts) (get_or facts k d ∷ []))
     ∙ ap (value_row y) (values_push i (facts_of (take k facts)) (fact_of (get_or facts k d)) y)
     ∙ go (reaches i (get_or facts k d).member y)
   where
     go : (b : Bool)
-        → value_row y (values_at i (facts_of (take k facts)) y ++ cond b ((get_or facts k d).value ∷ []) [])
-        ≡ row_after y b (row_at y (total_of_facts i (facts_of (take k facts)) y)) (get_or facts k d).value
-    go true = direct_row_push y (values_at i (facts_of (take k facts)) y) (get_or facts k d).value
-    go false = ap (value_row y) (append-nil (values_at i (facts_of (take k facts)) y))
+        → value_row y (values_at (members i) (facts_of (take k facts)) y ++ cond b ((get_or facts k d).value ∷ []) [])
+        ≡ row_after y b (row_at y (total_of_facts (members i) (facts_of (take k facts)) y)) (get_or facts k d).value
+    go true = direct_row_push y (values_at (members i) (facts_of (take k facts)) y) (get_or facts k d).value
+    go false = ap (value_row y) (append-nil (values_at (members i) (facts_of (take k facts)) y))
 
 -- a test by its answer
 pub test_of : (i : Instance) (x y : ℕ) (r b : Bool) → IsTrue r ↔ Reaches i x y → r ≡ b → reaches i x y ≡ b
@@ -129,32 +127,14 @@ count_step y (Some q) v r n h e = let c : r.count ≡ q.count + 1 = ap (λ q. q.
 
 -- ---- one more member
 
--- one number more at the end
-range_more : (a n : ℕ) → range_with_len a (suc n) ≡ range_with_len a n ++ (a + n) ∷ []
-range_more a zero = let e : a ≡ a + 0 = omega arith in ap (λ k. k ∷ []) e
-range_more a (suc n) =
-    let e : (a + 1) + n ≡ a + suc n = omega arith in
-    ap (λ t. a ∷ t) (range_more (a + 1) n ∙ ap (λ k. range_with_len (a + 1) n ++ k ∷ []) e)
-
--- what is kept of two lists
-filter_map-append : {A B : Type 0} (h : A → Option B) (xs ys : List A)
-    → filter_map h (xs ++ ys) ≡ filter_map h xs ++ filter_map h ys
-filter_map-append h [] ys = refl
-filter_map-append {A} {B} h (x ∷ xs) ys = ap (cons_option (h x)) (filter_map-append h xs ys) ∙ go (h x)
-  where
-    go : (o : Option B)
-        → cons_option o (filter_map h xs ++ filter_map h ys) ≡ cons_option o (filter_map h xs) ++ filter_map h ys
-    go None = refl
-    go (Some y) = refl
-
 -- the list after the member y, which passes or doesn't, and gives a row or doesn't
-abbrev pub rows_after : List Row → Bool → Option Row → List Row
+abbrev pub rows_after : List (Row ℕ) → Bool → Option (Row ℕ) → List (Row ℕ)
 rows_after rows false o = rows
 rows_after rows true None = rows
 rows_after rows true (Some r) = rows ++ r ∷ []
 
 -- what one member more changes in the rows
-pub rows_step : (h : ℕ → Option Row) (p : ℕ → Bool) (y : ℕ) (b : Bool) (o : Option Row) (rows : List Row)
+pub rows_step : (h : ℕ → Option (Row ℕ)) (p : ℕ → Bool) (y : ℕ) (b : Bool) (o : Option (Row ℕ)) (rows : List (Row ℕ))
     → rows ≡ filter_map h (filter p (range_with_len 0 y)) → p y ≡ b → o ≡ h y
     → rows_after rows b o ≡ filter_map h (filter p (range_with_len 0 (y + 1)))
 rows_step h p y b o rows e t q =
@@ -166,7 +146,7 @@ rows_step h p y b o rows e t q =
     ∙ filter_map-append h (filter p (range_with_len 0 y)) (filter p (y ∷ []))
     ∙ ap (λ l. l ++ filter_map h (filter p (y ∷ []))) (sym e))
   where
-    go : (b : Bool) (o : Option Row) → p y ≡ b → o ≡ h y
+    go : (b : Bool) (o : Option (Row ℕ)) → p y ≡ b → o ≡ h y
         → rows_after rows b o ≡ rows ++ filter_map h (cond (p y) (y ∷ []) [])
     go false o t q = rw t (sym (append-nil rows))
     go true None t q = rw (t, ← q) (sym (append-nil rows))

@@ -1,4 +1,4 @@
--- The definitions' values behind the plain structs.
+-- The definitions' values that the plain structs stand for.
 --     member_of, instance_of     plain members
 --     fact_of, facts_of          plain facts
 --     row_of, rows_of, as_row    plain rows
@@ -21,26 +21,26 @@ abbrev pub instance_of : List PlainMember → Instance
 instance_of ms = map member_of ms
 
 -- the fact of a plain one
-abbrev pub fact_of : PlainFact → Fact
-fact_of f = record { member = f.member; value = f.value }
+abbrev pub fact_of : PlainFact → Fact ℕ
+fact_of f = record { at = f.member; value = f.value }
 
 -- the facts of plain ones
-abbrev pub facts_of : List PlainFact → List Fact
+abbrev pub facts_of : List PlainFact → List (Fact ℕ)
 facts_of fs = map fact_of fs
 
 -- the row of a plain one
-abbrev pub row_of : PlainRow → Row
+abbrev pub row_of : PlainRow → Row ℕ
 row_of r = record {
-  member = r.member;
+  at = r.member;
   summary = record { count = r.count; sum = r.sum; least = r.least; greatest = r.greatest };
 }
 
 -- the rows of plain ones
-abbrev pub rows_of : List PlainRow → List Row
+abbrev pub rows_of : List PlainRow → List (Row ℕ)
 rows_of rs = map row_of rs
 
 -- the row of a plain one, if there is one
-abbrev pub as_row : Option PlainRow → Option Row
+abbrev pub as_row : Option PlainRow → Option (Row ℕ)
 as_row None = None
 as_row (Some r) = Some (row_of r)
 
@@ -49,6 +49,6 @@ abbrev pub IsBounded : ℤ → ℕ → Type 0
 IsBounded z n = (neg_ℤ (pos (n * 2 ^ 63)) ≤ℤ z) × (z ≤ℤ pos (n * 2 ^ 63))
 
 -- the row of y with one more value
-abbrev pub extended : ℕ → Option Row → ℤ → Row
-extended y None v = record { member = y; summary = of_value v }
-extended y (Some r) v = record { member = y; summary = joined r.summary (of_value v) }
+abbrev pub extended : ℕ → Option (Row ℕ) → ℤ → Row ℕ
+extended y None v = record { at = y; summary = of_value v }
+extended y (Some r) v = record { at = y; summary = joined r.summary (of_value v) }

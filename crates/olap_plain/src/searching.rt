@@ -83,7 +83,7 @@ fn clear(edges: &mut [bool], from: usize)
     }
 }
 
-// The next choice of edges in code order. False where there is none; then it stays.
+// The next choice of edges in code order. False if there is none; then it stays.
 fn next_edges(edges: &mut [bool]) -> bool
     ensures next { IsTrue result → IsNext (λ c. 1) (length edges.old) (code_of edges.old) (code_of edges.new) }
     ensures last { result ≡ false → IsLast (λ c. 1) (length edges.old) (code_of edges.old) }
@@ -207,7 +207,7 @@ impl Search {
         })
     }
 
-    /// The least frozen dimension whose root makes the question true. False where there is none; then `into` stays.
+    /// The least frozen dimension whose root makes the question true. False if there is none; then `into` stays.
     ///
     /// It can't return out of memory. Cost: in the worst case each choice of edges and names.
     pub fn first(

@@ -2,7 +2,7 @@
 ghost use Rattle.std.specs.Prelude.{◌≡◌, ◌<◌, ◌^◌, ◌↔◌, IsTrue, length, IfOk, IfSome};
 ghost use Rattle.olap_base.specs.Deciding.{Through};
 ghost use Rattle.olap_base.specs.Instance.{IsBelow, Reaches};
-ghost use Rattle.olap_base.specs.Views.{direct_rows, row_at, total_of_facts};
+ghost use Rattle.olap_base.specs.Views.{direct_rows, members as points, row_at, total_of_facts};
 ghost use Rattle.olap_plain.specs.Plain.{instance_of, facts_of, row_of, rows_of, as_row, IsBounded, extended};
 
 use std::alloc::{AllocError, Global};
@@ -79,7 +79,7 @@ pub fn reaches(members: &[PlainMember], x: u32, y: u32) -> bool
 pub fn row_at(members: &[PlainMember], facts: &[PlainFact], y: u32) -> Option<PlainRow>
     requires members { length members.now < 2 ^ 32 }
     requires facts { length facts.now < 2 ^ 32 }
-    ensures { as_row result ≡ row_at y (total_of_facts (instance_of members.now) (facts_of facts.now) y) }
+    ensures { as_row result ≡ row_at y (total_of_facts (points (instance_of members.now)) (facts_of facts.now) y) }
 {
     let mut row = None;
     for f in facts {
@@ -123,7 +123,8 @@ pub fn direct(
 ) -> Result<Vec<PlainRow>, AllocError>
     requires members { length members.now < 2 ^ 32 }
     requires facts { length facts.now < 2 ^ 32 }
-    ensures { IfOk result (λ rows. rows_of rows.items ≡ direct_rows (instance_of members.now) c (facts_of facts.now)) }
+    ensures { IfOk result
+        (λ rows. rows_of rows.items ≡ direct_rows (points (instance_of members.now)) c (facts_of facts.now)) }
 {
     let mut rows = Vec::new(alloc);
     for y in 0..members.len() {

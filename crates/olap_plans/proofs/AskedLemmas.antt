@@ -44,6 +44,7 @@ size_is : (o : Option ℕ) (n : ℕ) → option_and_then (λ m. if is_size m the
 size_is None n e = absurd (cc)
 size_is (Some m) n e = is_one m n e
 
+-- the question of `generate` is about a size within the limits
 of_generate : (words : List (List ℕ)) → Comes IsAsked (generate_order words)
 of_generate words = pass IsAsked (number_word number_of 2 (word 2 words)) (λ q.
     and_then (number_word size_of 3 (word 3 words)) (λ n. Done (ByGenerated q n))) (λ q.

@@ -1,30 +1,18 @@
 -- The number that std's parse gives of a word is the one that the word spells.
-use Rattle.std.proofs.Common.{◌≡◌, ◌<◌, ◌==◌, ◌^◌, ◌&&◌, ◌∙◌, ℕ, Bool, true, false, List, Result, Some, None, if◌then◌else◌, ap, refl, sym, length, nat_le, nat_lt, slice_index}
-use Rattle.std.specs.Bool.{Decides}
+use Rattle.std.proofs.Common.{◌≡◌, ◌==◌, ◌^◌, ◌&&◌, ◌∙◌, ℕ, Bool, true, false, List, Result, Some, None, if◌then◌else◌, ap, sym, length, nat_le, nat_lt, slice_index}
 use Rattle.std.specs.Result.{result_ok}
-use Rattle.std.specs.Str.Parse.{IsNumeral, ParsesUnsigned, digits_value, without_leading_plus}
-use Rattle.std.proofs.lemmas.Bool.Decides.{Decides-and, Decides-ltb}
+use Rattle.std.specs.Str.Parse.{ParsesUnsigned, digits_value}
 use Rattle.olap_numerals.specs.Values.{is_numeral}
-use Rattle.olap_numerals.proofs.Spelling.{numeral-decides, ok-where}
+use Rattle.olap_numerals.proofs.Spelling.{ok-where}
 use Rattle.olap_plans.specs.Numbers.{number_of}
-
--- the test of digits decides std's words
-number-decides : (bs : List ℕ) → Decides (is_numeral bs && nat_lt (digits_value 10 bs) (2 ^ 64))
-    (IsNumeral 10 bs × (digits_value 10 bs < 2 ^ 64))
-number-decides bs =
-    Decides-and (is_numeral bs) (nat_lt (digits_value 10 bs) (2 ^ 64)) (numeral-decides bs)
-    (Decides-ltb (digits_value 10 bs) (2 ^ 64))
-
--- with no plus first the whole word is parsed
-without-plus : (bs : List ℕ) → (slice_index bs 0 == 43) ≡ false → without_leading_plus bs ≡ bs
-without-plus bs e = rw e refl
+use Rattle.olap_view.proofs.StoredNumbersLemmas.{without-plus, digits-decides}
 
 -- what is parsed of a short word with no plus first is the number that it spells
 pub number-parses : {E : Type 0} (bs : List ℕ) (r : Result ℕ E) → nat_le (length bs) 20 ≡ true
     → (slice_index bs 0 == 43) ≡ false → ParsesUnsigned 64 10 bs r → result_ok r ≡ number_of bs
 number-parses bs r short e h =
     ok-where r (is_numeral bs && nat_lt (digits_value 10 bs) (2 ^ 64)) (digits_value 10 bs)
-    (rw (without-plus bs e) at h) (number-decides bs)
+    (rw (without-plus bs e) at h) (digits-decides bs)
     ∙ ap (λ (b : Bool). if b && (is_numeral bs && nat_lt (digits_value 10 bs) (2 ^ 64)) then Some
     (digits_value 10 bs) else None)
     (sym short)

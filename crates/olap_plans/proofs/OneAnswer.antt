@@ -3,9 +3,9 @@ use Rattle.std.proofs.Common.{◌≡◌, ℕ, List, ◌++◌, ap, sym, subst, �
 use Rattle.std.specs.Prelude.{Ok, Result, Err}
 use Rattle.olap_base.specs.Instance.{Instance}
 use Rattle.olap_base.specs.Limits.{most_facts}
-use Rattle.olap_base.specs.Views.{View, rows_from_views}
+use Rattle.olap_base.specs.Views.{View, members, rows_from_views}
 use Rattle.olap_ast.specs.Schema.{Schema}
-use Rattle.olap_facts.specs.FactText.{facts_read_within}
+use Rattle.olap_facts.specs.FactMeaning.{facts_meant}
 use Rattle.olap_generate.specs.Generated.{ShowsGenerated, generated_text, stored_views}
 use Rattle.olap_generate.specs.Location.{location_text, region}
 use Rattle.olap_generate.specs.Members.{fact_rows, member_rows}
@@ -24,23 +24,23 @@ use Rattle.olap_plans.specs.Shown.{ShowsPlan}
 -- ---- plans
 
 -- of two masks of which neither is dearer, each is the other
-least_mask : (views : List View) (m n : ℕ) → IsNoDearer views m n → IsNoDearer views n m → m ≡ n
+least_mask : (views : List (View ℕ ℕ)) (m n : ℕ) → IsNoDearer views m n → IsNoDearer views n m → m ≡ n
 least_mask views m n (inl a) (inl b) = absurd (omega arith)
 least_mask views m n (inl a) (inr b) = let e = b.0 in absurd (omega arith)
 least_mask views m n (inr a) (inl b) = let e = a.0 in absurd (omega arith)
 least_mask views m n (inr a) (inr b) = let x = a.1 in let y = b.1 in omega arith
 
 -- a target has one plan at most
-one_mask : (s : Schema) (views : List View) (c m n : ℕ) → IsPlan s views c m → IsPlan s views c n → m ≡ n
+one_mask : (s : Schema) (views : List (View ℕ ℕ)) (c m n : ℕ) → IsPlan s views c m → IsPlan s views c n → m ≡ n
 one_mask s views c m n a b = least_mask views m n (a.cheapest n b.serves) (b.cheapest m a.serves)
 
 -- so one text shows it
-one_plan : (s : Schema) (i : Instance) (views : List View) (c : ℕ) (xs ys : List ℕ) → ShowsPlan s i views c xs
+one_plan : (s : Schema) (i : Instance) (views : List (View ℕ ℕ)) (c : ℕ) (xs ys : List ℕ) → ShowsPlan s i views c xs
     → ShowsPlan s i views c ys → xs ≡ ys
 one_plan s i views c xs ys a b =
     let p = one_mask s views c a.mask b.mask a.plan b.plan in
     a.text ∙ ap (λ mask. plan_text s.graph (sources_in views mask)
-    ++ view_text i (record { category = c; rows = rows_from_views i c (chosen views mask) })) p ∙ sym b.text
+    ++ view_text i (record { target = c; rows = rows_from_views (members i) c (chosen views mask) })) p ∙ sym b.text
 
 -- ---- made inputs
 
@@ -62,15 +62,15 @@ one_made seed size xs ys a b =
     let m : a.members ≡ b.members = same_ok a.members b.members (instance_read b.schema.graph (member_rows seed size))
     (subst (λ (s : Schema). instance_read s.graph (member_rows seed size) ≡ Ok a.members) p a.made.member_text)
     b.made.member_text in
-    let t : facts_read_within most_facts b.schema.graph b.members (fact_rows seed size) ≡ Ok a.facts =
-    subst (λ (i : Instance). facts_read_within most_facts b.schema.graph i (fact_rows seed size) ≡ Ok a.facts) m
-    (subst (λ (s : Schema). facts_read_within most_facts s.graph a.members (fact_rows seed size) ≡ Ok a.facts) p
+    let t : facts_meant most_facts b.schema.graph b.members (fact_rows seed size) ≡ Ok a.facts =
+    subst (λ (i : Instance). facts_meant most_facts b.schema.graph i (fact_rows seed size) ≡ Ok a.facts) m
+    (subst (λ (s : Schema). facts_meant most_facts s.graph a.members (fact_rows seed size) ≡ Ok a.facts) p
     a.made.fact_text) in
     let f : a.facts ≡ b.facts = same_ok a.facts b.facts
-    (facts_read_within most_facts b.schema.graph b.members (fact_rows seed size)) t b.made.fact_text in
+    (facts_meant most_facts b.schema.graph b.members (fact_rows seed size)) t b.made.fact_text in
     let v : stored_views a.members a.facts ≡ stored_views b.members b.facts = λ i. stored_views (m i) (f i) in
     let plan : IsPlan b.schema (stored_views b.members b.facts) region a.mask =
-    subst (λ (vs : List View). IsPlan b.schema vs region a.mask) v
+    subst (λ (vs : List (View ℕ ℕ)). IsPlan b.schema vs region a.mask) v
     (subst (λ (s : Schema). IsPlan s (stored_views a.members a.facts) region a.mask) p a.plan) in
     let n = one_mask b.schema (stored_views b.members b.facts) region a.mask b.mask plan b.plan in
     a.text ∙ (λ i. generated_text (p i) (m i) (f i) (n i)) ∙ sym b.text
@@ -97,5 +97,5 @@ plan_is_one = one_mask
 -- views of one fact table that a plan takes give what the facts give
 pub plans_give_direct_views : PlansGiveDirectViews
 plans_give_direct_views s i views c mask legal plan facts table e =
-    ap (rows_from_views i c) (chosen_direct i facts 0 views mask e)
+    ap (rows_from_views (members i) c) (chosen_direct i facts 0 views mask e)
     ∙ sym (plan.serves.summarizable i legal facts table)

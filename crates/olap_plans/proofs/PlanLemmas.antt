@@ -13,7 +13,7 @@ use Rattle.olap_plans.specs.Questions.{ByGenerated, ByPlan, IsAnswer}
 use Rattle.olap_plans.specs.Shown.{ShowsPlan}
 
 -- a reply of yes that shows a plan answers what is asked of the stored views
-pub plan_shown : (s : Schema) (i : Instance) (views : List View) (c : ℕ) (reply : Reply) → reply.status ≡ Yes
+pub plan_shown : (s : Schema) (i : Instance) (views : List (View ℕ ℕ)) (c : ℕ) (reply : Reply) → reply.status ≡ Yes
     → ShowsPlan s i views c reply.bytes.items → Replies IsAnswer (Done (ByPlan s i views c)) (Ok reply)
 plan_shown s i views c reply status shows = done (ByPlan s i views c) reply status (inl (status, shows))
 

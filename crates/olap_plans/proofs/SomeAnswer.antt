@@ -5,7 +5,7 @@ use native.Mathlib.Decide.{dec_lt}
 use Rattle.olap_base.specs.Deciding.{dec_and, dec_iff}
 use Rattle.olap_base.specs.Instance.{Instance}
 use Rattle.olap_base.specs.Limits.{most_generated}
-use Rattle.olap_base.specs.Views.{Fact, View, rows_from_views}
+use Rattle.olap_base.specs.Views.{Fact, View, members, rows_from_views}
 use Rattle.olap_ast.specs.Schema.{Schema}
 use Rattle.olap_ast.specs.Summarizable.{IsSummarizable, SummarizableExactlyIfNoneFrozen}
 use Rattle.olap_ast.specs.Valid.{IsValidSchema}
@@ -36,13 +36,14 @@ module _ (counterexamples : CounterexamplesExist) (summarizable : SummarizableEx
   ]
 
   -- whether a mask serves
-  dec_serves : (s : Schema) (views : List View) (c : ℕ) → IsValidSchema s → (mask : ℕ) → Dec (Serves s views c mask)
+  dec_serves : (s : Schema) (views : List (View ℕ ℕ)) (c : ℕ) → IsValidSchema s → (mask : ℕ)
+      → Dec (Serves s views c mask)
   dec_serves s views c v mask = dec_iff (λ t. record { within = t.0; summarizable = t.1 })
       (λ z. (z.within, z.summarizable))
       (dec_and (dec_lt mask (2 ^ length views)) (dec_summarizable s c (sources_in views mask) v))
 
   -- a plan, or no mask serves
-  plan_or_none : (s : Schema) (views : List View) (c : ℕ) → IsValidSchema s
+  plan_or_none : (s : Schema) (views : List (View ℕ ℕ)) (c : ℕ) → IsValidSchema s
       → ((mask : ℕ) × IsPlan s views c mask) ⊎ ((mask : ℕ) → Serves s views c mask → ⊥)
   plan_or_none s views c v =
       elim (find views (Serves s views c) (dec_serves s views c v) (2 ^ length views)) [
@@ -58,7 +59,7 @@ module _ (counterexamples : CounterexamplesExist) (summarizable : SummarizableEx
         let t = made seed size a b in
         go t.0 t.1 t.2 t.3 (plan_or_none t.0 (stored_views t.1 t.2) region (valid location_text t.0 t.3.schema_text))
       where
-        go : (s : Schema) (i : Instance) (facts : List Fact) → IsMade seed size s i facts
+        go : (s : Schema) (i : Instance) (facts : List (Fact ℕ)) → IsMade seed size s i facts
             → ((mask : ℕ) × IsPlan s (stored_views i facts) region mask)
             ⊎ ((mask : ℕ) → Serves s (stored_views i facts) region mask → ⊥)
             → (status : Status) × (bytes : List ℕ) × IsAnswer (ByGenerated seed size) status bytes
@@ -86,7 +87,7 @@ module _ (counterexamples : CounterexamplesExist) (summarizable : SummarizableEx
       | inl t ↦ (
         Yes,
         plan_text s.graph (sources_in views t.0)
-            ++ view_text i (record { category = c; rows = rows_from_views i c (chosen views t.0) }),
+            ++ view_text i (record { target = c; rows = rows_from_views (members i) c (chosen views t.0) }),
         inl (refl, record { mask = t.0; plan = t.1; text = refl }),
       )
       | inr n ↦ (Refused, refusal (codes "answer NotAnswerable"), inr (refl, n, refl))

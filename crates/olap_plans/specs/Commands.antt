@@ -1,5 +1,5 @@
 -- The order in which each command that is answered by a plan judges its files and words.
---     order_named    of the command of that name, by the words after it
+--     order_named    the order of the command of that name with these words, if there is one
 use Rattle.std.specs.Prelude.{ℕ, List, codes, if◌then◌else◌, Option, None}
 use Rattle.std.specs.Str.{bytes_eq}
 use Rattle.olap_order.specs.Arguments.{at_word, exactly, word}
@@ -25,7 +25,7 @@ generate_order words =
     and_then (at_word (number_word size_of) 3 words) (λ size.
     Done (ByGenerated seed size)))
 
--- of the command of that name
+-- the order of the command of that name with these words, if there is one
 abbrev pub order_named : List ℕ → List (List ℕ) → Option (Order Question)
 order_named name words =
     if bytes_eq name (codes "answer") then exactly 4 answer_order words

@@ -1,4 +1,4 @@
--- That each question has an answer.
+-- Each question has an answer.
 --     IsAsked         what is asked is of a valid schema, or of a size that may be asked for
 --     AnswersExist    such a question has a status and bytes that answer it
 use Rattle.std.specs.Prelude.{ℕ, ◌≤◌, List}

@@ -1,4 +1,4 @@
--- What is asked that a plan answers, and what answers it.
+-- Questions that a plan answers, and what answers them.
 --     Question   a command's question, with all that it needs
 --     IsAnswer   a status and bytes answer the question
 use Rattle.std.specs.Prelude.{◌≡◌, ◌⊎◌, ℕ, List, codes}
@@ -14,11 +14,11 @@ use Rattle.olap_plans.specs.Shown.{ShowsPlan}
 
 pub data Question : Type 0 where
   -- from which stored views is the target's view computed, and what is it?
-  ByPlan : (schema : Schema) (members : Instance) (views : List View) (target : ℕ) → Question
+  ByPlan : (schema : Schema) (members : Instance) (views : List (View ℕ ℕ)) (target : ℕ) → Question
   -- what comes of the input that is made from a seed and a number of stores?
   ByGenerated : (seed size : ℕ) → Question
 
--- these are the status and the bytes
+-- this status and these bytes answer the question
 abbrev pub IsAnswer : Question → Status → List ℕ → Type 0
 IsAnswer (ByPlan s members views c) status bytes =
     ((status ≡ Yes) × ShowsPlan s members views c bytes)

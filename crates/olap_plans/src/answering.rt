@@ -36,7 +36,7 @@ fn answer_text(
     view: &View,
 ) -> Result<Vec<u8>, Memory>
     requires store { IsStore (views_of store.now) }
-    requires categories { All (λ v. IsCategory graph.now v.category) (views_of store.now) }
+    requires categories { All (λ v. IsCategory graph.now v.target) (views_of store.now) }
     requires members { All (λ r. r.member.0 < length legal.now) view.now.rows }
     ensures { IfOk result (λ text. text.items ≡ plan_text graph.now (sources_in (views_of store.now) mask)
         ++ view_text legal.now (view_of view.now)) }
@@ -45,7 +45,7 @@ fn answer_text(
     print_view_behind(line.into_bytes(), legal.instance(), view)
 }
 
-/// The view of the target from the stored views, where there is a plan.
+/// The view of the target from the stored views, if there is a plan.
 fn answered(
     alloc: Global,
     schema: &Schema,

@@ -3,7 +3,8 @@
 //! A command is an order (`specs/Commands.antt`) that ends in a question (`specs/Questions.antt`). Which status and
 //! bytes answer it is the relation `IsAnswer`. `judge` is the one call: the reply to a command's name and words.
 //!
-//! The commands stand on the views and on the search, and so apart from the families of both.
+//! The commands need the views and the search, so they are neither with the commands over facts nor with those about
+//! schemas. How a plan is found isn't known here.
 #![tactic(auto)]
 
 mod answering;

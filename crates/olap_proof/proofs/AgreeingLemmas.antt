@@ -1,5 +1,4 @@
 -- A frozen dimension that has the edges and the names that were decided has what is known of them.
---     wider             a walk of some edges is one of more
 --     Like              the frozen dimension has the edges and the names that were decided
 --     edge_from         a chosen edge is among those out of its child
 --     status_bit        an edge that was decided has that bit
@@ -15,12 +14,11 @@ use Rattle.std.specs.List.{range_with_len}
 use Rattle.olap_base.specs.Deciding.{contains_cons}
 use Rattle.olap_base.specs.Graph.{Edge, Graph, HasEdge, IsCategory, IsHierarchy}
 use Rattle.olap_base.specs.Instance.{Instance}
-use Rattle.olap_base.specs.Steps.{Climb, Climb.climb, Steps, Steps.here, Steps.step}
+use Rattle.olap_base.specs.Steps.{Steps, Steps.here, Steps.step}
 use Rattle.olap_base.proofs.ListLemmas.{Contains-filter, Contains-from_filter, Contains-from_map, Contains-map, Contains-range, contains_head}
 use Rattle.olap_ast.specs.Formula.{Formula}
 use Rattle.olap_ast.specs.Frozen.{Candidates, Frozen, IsFrozen, chosen, instance_of, is_present, name_in}
 use Rattle.olap_ast.specs.Schema.{Schema}
-use Rattle.olap_ast.proofs.Shape.{is_same, same_is}
 use Rattle.olap_eval.specs.Partial.{Agrees as Tells}
 use Rattle.olap_eval.specs.Shapes.{HasEdgeThere}
 use Rattle.olap_frozen.specs.Chosen.{IsChoice, IsMet, IsSound, Joins, place_of}
@@ -29,8 +27,11 @@ use Rattle.olap_frozen.proofs.ChosenLemmas.{bit_joins, choice_of, chosen_place, 
 use Rattle.olap_graph.specs.Lookups.{edge_at, edge_between, edges_from}
 use Rattle.olap_names.specs.Names.{name_at}
 use Rattle.olap_trail.specs.Decisions.{Decided, Decision, HoldsCycle, HoldsShortcut, present_edges, present_graph, status_in, status_of}
-use Rattle.olap_proof.specs.Places.{Naming, index_of, name_of, possible_graph, truth_of, truth_of_edge}
+use Rattle.olap_proof.specs.Places.{Naming, index_of, name_of, possible_graph, truth_of_edge}
+use Rattle.olap_proof.specs.Within.{truth_of}
 use Rattle.olap_proof.specs.Seen.{is_possible}
+use Rattle.std.proofs.lemmas.Bool.{eqb-true, eq-eqb}
+use Rattle.olap_base.proofs.StepLemmas.{wider_climb}
 
 -- ---- what was decided
 
@@ -43,7 +44,7 @@ status_some (d ∷ ds) e b h = go (d.edge == e) refl h (status_some ds e b)
     go : (t : Bool) → d.edge == e ≡ t → cond t (Some d.present) (status_in ds e) ≡ Some b
         → (status_in ds e ≡ Some b → (x : Decision) × Contains ds x × (x.edge ≡ e) × (x.present ≡ b))
         → (x : Decision) × Contains (d ∷ ds) x × (x.edge ≡ e) × (x.present ≡ b)
-    go true p q rest = let same : d.present ≡ b = cc in (d, contains_head d ds, same_is d.edge e p, same)
+    go true p q rest = let same : d.present ≡ b = cc in (d, contains_head d ds, eqb-true d.edge e p, same)
     go false p q rest = let r = rest q in (r.0, contains_cons r.0 ds d r.1, r.2, r.3)
 
 -- and the one that tells of a name
@@ -55,19 +56,10 @@ index_some (n ∷ ns) c i h = go (n.category == c) refl h (index_some ns c i)
     go : (t : Bool) → n.category == c ≡ t → cond t (Some n.index) (index_of ns c) ≡ Some i
         → (index_of ns c ≡ Some i → (x : Naming) × Contains ns x × (x.category ≡ c) × (x.index ≡ i))
         → (x : Naming) × Contains (n ∷ ns) x × (x.category ≡ c) × (x.index ≡ i)
-    go true p q rest = let same : n.index ≡ i = cc in (n, contains_head n ns, same_is n.category c p, same)
+    go true p q rest = let same : n.index ≡ i = cc in (n, contains_head n ns, eqb-true n.category c p, same)
     go false p q rest = let r = rest q in (r.0, contains_cons r.0 ns n r.1, r.2, r.3)
 
 -- ---- walks
-
--- a walk of some edges is one of more
-pub wider : {R S : ℕ → ℕ → Type 0} → ((x y : ℕ) → R x y → S x y) → {c d : ℕ} → Steps R c d → Steps S c d
-wider f here = here
-wider f (step {x = c} {y = z} r s) = step (f c z r) (wider f s)
-
--- a chain of one relation is one of a wider one
-pub wider_climb : {R S : ℕ → ℕ → Type 0} → ((x y : ℕ) → R x y → S x y) → {c d : ℕ} → Climb R c d → Climb S c d
-wider_climb f {c} (climb {z = z} r s) = climb (f c z r) (wider f s)
 
 -- what a member's category leads to has a member
 pub walk_present : (g : Graph) (r : ℕ) (es : List Edge) → IsChoice g r es → {c d : ℕ} → is_present r es c ≡ true
@@ -100,7 +92,7 @@ edge_from s f c d j =
     let w = chosen_place s.graph.edges f.edges e (record { child = 0; parent = 0 }) j in (
       w.0,
       Contains-filter (λ e. (edge_at s.graph e).child == c) (range_with_len 0 (length s.graph.edges)) w.0
-          (is_same (edge_at s.graph w.0).child c (ap (λ (x : Edge). x.child) w.3))
+          (eq-eqb (edge_at s.graph w.0).child c (ap (λ (x : Edge). x.child) w.3))
           (Contains-range (length s.graph.edges) w.0 w.1),
       w.2,
       ap (λ (x : Edge). x.parent) w.3,

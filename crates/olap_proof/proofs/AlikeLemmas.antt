@@ -110,9 +110,9 @@ module _ (f : Form) (k h : Candidates) (a : Alike k h) where
 -- ---- texts
 
 -- a text has the same first wrong line
-pub wrong_alike : (f : Form) (s : Schema) (q : Formula) (k h : Candidates) (text : List ℕ) (count : ℕ) → Alike k h
-    → IsFirstWrong f s q k text count → IsFirstWrong f s q h text count
-wrong_alike f s q k h text count a w = record {
+pub wrong_alike : (f : Form) (s : Schema) (q : Formula) (k h : Candidates) (text : List ℕ) (at : ℕ) → Alike k h
+    → IsFirstWrong f s q k text at → IsFirstWrong f s q h text at
+wrong_alike f s q k h text at a w = record {
   lines = w.lines;
   rest = w.rest;
   open_there = w.open_there;

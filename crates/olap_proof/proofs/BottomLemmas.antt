@@ -20,8 +20,8 @@ use Rattle.olap_proof.specs.Certificates.{IsCertificateText, Open.Bottom, Runs, 
 use Rattle.olap_proof.specs.Trees.{Adds}
 use Rattle.olap_proof.proofs.CertificateLemmas.{bottom_listed}
 use Rattle.olap_proof.proofs.PlainTreeLemmas.{listed_bottom}
-use Rattle.olap_proof.proofs.TallyLemmas.{false_from}
 use Rattle.olap_proof.proofs.TreeTextLemmas.{adds_more}
+use Rattle.std.proofs.lemmas.Bool.{false_from_ne_true}
 
 -- no edge leads to it
 abbrev pub has_no_child : Graph → ℕ → Bool
@@ -44,7 +44,7 @@ more_or_same g n b t e h =
     ap (filter (has_no_child g)) (range_more n b e) ∙ filter-append (has_no_child g) (range_with_len 1 n) (b ∷ [])
     ∙ ap (λ t. first_bottoms g n ++ cond t (b ∷ []) []) h
 
--- one that is a bottom category comes behind the others
+-- one that is a bottom category comes after the others
 pub bottoms_more : (g : Graph) (n b : ℕ) → 1 + n ≡ b → IsBottom g b
     → first_bottoms g (n + 1) ≡ first_bottoms g n ++ b ∷ []
 bottoms_more g n b e h = more_or_same g n b true e
@@ -54,7 +54,7 @@ bottoms_more g n b e h = more_or_same g n b true e
 pub bottoms_same : (g : Graph) (n b : ℕ) → 1 + n ≡ b → IsDeclared g b → (IsBottom g b → ⊥)
     → first_bottoms g (n + 1) ≡ first_bottoms g n
 bottoms_same g n b e d h =
-    more_or_same g n b false e (false_from (has_no_child g b) (λ t. h (listed_bottom g b
+    more_or_same g n b false e (false_from_ne_true (has_no_child g b) (λ t. h (listed_bottom g b
     (Contains-filter (has_no_child g) (range_with_len 1 (length g.names)) b t
     (Contains-range_at 1 (length g.names) b (omega arith) (let l = d.1 in omega arith))))))
     ∙ append-nil (first_bottoms g n)

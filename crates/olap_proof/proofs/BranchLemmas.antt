@@ -1,5 +1,5 @@
 -- Branches of a tree, by their last choice.
---     take_last        a list without what was put behind it
+--     take_last        a list without what was put after it
 --     with_choices_last    the choices lead where the last leads, from where the others do
 --     left_last        what is open after them is what is open after the last, and after the others
 --     legal_last       they are legal, and so is the last
@@ -10,7 +10,7 @@
 --     left_back        what is open without a last choice that has no case after it
 --     left_next        and with the case after it
 --     left_first       the cases of a split, the first of which was chosen
---     IsSplit, branch_split    so it is where that choice was put behind the others
+--     IsSplit, branch_split    so it is where that choice was put after the others
 --     IsStillOpen      after a place there is open what was open after another one
 --     open_back        so it is without a last choice that has no case after it
 --     open_next        and with the case after it the tree goes on
@@ -25,7 +25,7 @@ use Rattle.olap_proof.specs.Branches.{AreLegal, GoesOn, IsBranch, IsLegal, IsNam
 use Rattle.olap_proof.specs.Certificates.{Open, Open.At}
 use Rattle.olap_proof.specs.Places.{Place}
 
--- a list without what was put behind it
+-- a list without what was put after it
 pub take_last : {A : Type 0} (xs : List A) (y : A) → take (length (xs ++ y ∷ []) - 1) (xs ++ y ∷ []) ≡ xs
 take_last xs y =
     let n = length-append xs (y ∷ []) in
@@ -180,7 +180,7 @@ pub record IsSplit (g : Graph) (k : Named) (p t : Place) (xs ys : List Choice) (
   pub left : (acc : List Open)
       → cases ++ left_open k (first_of p) xs acc ≡ At t ∷ left_open k (first_of t) ys acc
 
--- so it is where the choice was put behind the others
+-- so it is where the choice was put after the others
 pub branch_split : {g : Graph} {k : Named} {p t : Place} {xs ys : List Choice} (x : Choice) {cases : List Open}
     → IsBranch g k p xs → IsLegal g k p x → t ≡ with_choice p x → ys ≡ xs ++ x ∷ []
     → cases ≡ At (with_choice p x) ∷ siblings k p x → IsSplit g k p t xs ys cases

@@ -10,11 +10,10 @@ use Rattle.std.specs.List.{list_any, range_with_len}
 use Rattle.std.proofs.lemmas.List.Elements.{Contains-append_cases, Contains-append_left, Contains-append_right}
 use Rattle.olap_base.specs.Deciding.{contains_cases, decide_reaches}
 use Rattle.olap_base.specs.Graph.{Edge, Graph, IsBottom, IsCategory, IsDeclared, IsHierarchy}
-use Rattle.olap_base.proofs.ListLemmas.{Contains-filter, Contains-map, Contains-nil, Contains-range, Contains-range_at, contains_head}
+use Rattle.olap_base.proofs.ListLemmas.{Contains-filter, Contains-map, Contains-nil, Contains-range, Contains-range_at, contains_head, list_any_is}
 use Rattle.olap_ast.specs.Formula.{Formula}
 use Rattle.olap_ast.specs.Frozen.{Candidates, Frozen, IsFrozen, instance_of, name_in}
 use Rattle.olap_ast.specs.Schema.{Schema}
-use Rattle.olap_ast.proofs.Shape.{list_any_is, same_is}
 use Rattle.olap_ast.proofs.Summing.{summarizable_exactly}
 use Rattle.olap_ast.specs.Summarizable.{not_by_one}
 use Rattle.olap_frozen.specs.Chosen.{IsChoice, place_of}
@@ -30,6 +29,7 @@ use Rattle.olap_proof.specs.Certificates.{CertificatesAreRight, Open, Open.At, O
 use Rattle.olap_proof.proofs.AgreeingLemmas.{Like, edges_in, is_there, walk_present}
 use Rattle.olap_proof.proofs.WayLemmas.{IsSo, LikeToo, closed_none}
 use Rattle.olap_proof.proofs.ReasonLemmas.{closes_of}
+use Rattle.std.proofs.lemmas.Bool.{eqb-true}
 
 -- the bottom category has no frozen dimension
 abbrev pub HasNone : Schema → Formula → Candidates → ℕ → Type 0
@@ -220,7 +220,7 @@ bottom_listed g b h =
     go true e =
         let w = (list_any_is (λ (e : Edge). e.parent == b) g.edges).0 e in
         absurd (h.1 w.0.child (subst (λ d. Contains g.edges (record { child = w.0.child; parent = d }))
-        (same_is w.0.parent b w.2) w.1))
+        (eqb-true w.0.parent b w.2) w.1))
 
 -- the theorem: what is open at the start is refuted
 pub certificates_are_right : CertificatesAreRight

@@ -7,7 +7,7 @@
 use Rattle.std.proofs.Common.{◌≡◌, ℕ, zero, suc, ◌<◌, List, [], ◌∷◌, length, map, get_or, Bool, true, false, cond, Option, Some, None, refl, ap, sym, subst, ◌∙◌, ◌⊎◌, inl, inr, arith}
 use Rattle.std.specs.Prelude.{All, Contains, ◌==◌, ◌||◌, ◌≢◌, filter}
 use Rattle.std.specs.List.{list_any, range_with_len}
-use Rattle.std.proofs.lemmas.Bool.{ne_eqb}
+use Rattle.std.proofs.lemmas.Bool.{ne_eqb, false_from_ne_true, or_cases, eqb-true, eq-eqb}
 use Rattle.std.proofs.lemmas.List.Elements.{All-contains, All-cons, All-nil, Contains-append_cases, Contains-append_left}
 use Rattle.std.proofs.lemmas.List.FromFn.{get_or-map-range_with_len}
 use native.Mathlib.Decide.{ℕ_discrete}
@@ -15,21 +15,23 @@ use Rattle.olap_base.specs.Deciding.{contains_cases, contains_cons, decide_categ
 use Rattle.olap_base.specs.Graph.{CategoryReaches, Edge, Graph, HasEdge, IsCategory, IsHierarchy, category_count}
 use Rattle.olap_base.specs.Reaching.{category_reaches, category_reaches_is}
 use Rattle.olap_base.specs.Steps.{Climb, Climb.climb, Steps, Steps.here, Steps.step, Steps-append, Steps-from_reaches, reaches_from_Steps}
-use Rattle.olap_base.proofs.ListLemmas.{Contains-filter, Contains-from_filter, Contains-from_map, Contains-from_range, Contains-map, Contains-nil, Contains-range, Distinct, Distinct-from_AllPairs, contains_head}
+use Rattle.olap_base.proofs.ListLemmas.{Contains-filter, Contains-from_filter, Contains-from_map, Contains-from_range, Contains-map, Contains-nil, Contains-range, Distinct, Distinct-from_AllPairs, contains_head, list_any_is}
 use Rattle.olap_ast.specs.Frozen.{Candidates, chosen, is_present}
 use Rattle.olap_ast.specs.Schema.{Schema}
-use Rattle.olap_ast.proofs.Shape.{either_true, is_same, left_true, list_any_is, right_true, same_is}
+use Rattle.olap_ast.proofs.Shape.{left_true, right_true}
 use Rattle.olap_frozen.specs.Chosen.{IsChoice, IsSound, Joins}
 use Rattle.olap_frozen.proofs.ChosenInstance as made
 use Rattle.olap_frozen.proofs.ChosenLemmas.{choice_of, chosen_place, place_chosen}
 use Rattle.olap_graph.specs.Lookups.{edge_at, edges_from}
 use Rattle.olap_trail.specs.Decisions.{Decided, Decision, HoldsCycle, HoldsShortcut, present_edges, present_graph, status_in, status_of}
 use Rattle.olap_proof.specs.FullPlaces.{IsFull}
-use Rattle.olap_proof.specs.Lines.{IsDead, IsLoose}
+use Rattle.olap_proof.specs.Closing.{IsDead, IsLoose}
 use Rattle.olap_proof.specs.Places.{Naming, Place, is_known, leading_edges, possible_graph}
 use Rattle.olap_proof.specs.Seen.{is_possible}
-use Rattle.olap_proof.proofs.AgreeingLemmas.{status_some, walk_present, wider, wider_climb}
-use Rattle.olap_proof.proofs.TallyLemmas.{false_from, tally, tally_more}
+use Rattle.olap_proof.proofs.AgreeingLemmas.{status_some, walk_present}
+use Rattle.olap_proof.proofs.TallyLemmas.{tally}
+use Rattle.olap_base.proofs.AboveLemmas.{tally-lt}
+use Rattle.olap_base.proofs.StepLemmas.{wider, wider_climb}
 
 -- ---- decisions
 
@@ -39,18 +41,18 @@ pub status_there : (ds : List Decision) (d : Decision) → Distinct (map (λ (x 
 status_there [] d n c = absurd (Contains-nil d c)
 status_there (f ∷ ds) d n c = elim (contains_cases d f ds c) [
   | inl same ↦ subst (λ (x : Decision). status_in (f ∷ ds) x.edge ≡ Some x.present) same
-      (ap (λ b. cond b (Some f.present) (status_in ds f.edge)) (is_same f.edge f.edge refl))
+      (ap (λ b. cond b (Some f.present) (status_in ds f.edge)) (eq-eqb f.edge f.edge refl))
   | inr m ↦ ap (λ b. cond b (Some f.present) (status_in ds d.edge))
       (ne_eqb f.edge d.edge (λ e. n.0 (subst (λ x. Contains (map (λ (x : Decision). x.edge) ds) x) (sym e)
       (Contains-map (λ (x : Decision). x.edge) ds d m))))
       ∙ status_there ds d n.1 m
 ]
 
--- a present category stays so where there are more edges
+-- a present category stays so if there are more edges
 pub present_kept : (r c : ℕ) (es fs : List Edge) → ((x y : ℕ) → Joins es x y → Joins fs x y)
     → is_present r es c ≡ true → is_present r fs c ≡ true
 present_kept r c es fs f h =
-    elim (either_true (c == r) (list_any (λ (e : Edge). (e.child == c) || (e.parent == c)) es) h) [
+    elim (or_cases (c == r) (list_any (λ (e : Edge). (e.child == c) || (e.parent == c)) es) h) [
       | inl a ↦ left_true (c == r) (list_any (λ (e : Edge). (e.child == c) || (e.parent == c)) fs) a
       | inr a ↦
           let w = (list_any_is (λ (e : Edge). (e.child == c) || (e.parent == c)) es).0 a in
@@ -231,7 +233,7 @@ module _ (s : Schema) (k : Candidates) (hier : IsHierarchy s.graph) (r : ℕ) (d
   edge_out c e m =
       let u = Contains-from_filter (λ e. (edge_at s.graph e).child == c) (range_with_len 0 (length s.graph.edges))
       e m in
-      (Contains-from_range (length s.graph.edges) e u.0, same_is (edge_at s.graph e).child c u.1)
+      (Contains-from_range (length s.graph.edges) e u.0, eqb-true (edge_at s.graph e).child c u.1)
 
   module _ (no_cycle : HoldsCycle (present_graph t) → ⊥) (no_shortcut : HoldsShortcut (present_graph t) → ⊥)
       (no_dead : (c : ℕ) → IsCategory s.graph c → IsDead s.graph p c → ⊥)
@@ -284,11 +286,11 @@ module _ (s : Schema) (k : Candidates) (hier : IsHierarchy s.graph) (r : ℕ) (d
     -- a parent reaches fewer
     fewer : (c d : ℕ) → Joins es c d → count d < count c
     fewer c d j =
-        tally_more (category_reaches (present_graph t) d) (category_reaches (present_graph t) c)
+        tally-lt (category_reaches (present_graph t) d) (category_reaches (present_graph t) c)
         (range_with_len 0 (category_count s.graph))
         (λ y h. steps_present c y (step j (present_steps d y h))) c
         (Contains-range (category_count s.graph) c (made.joined_categories s.graph r es ch c d j).0)
-        (false_from (category_reaches (present_graph t) d c) (λ h. acyclic c (climb j (present_steps d c h))))
+        (false_from_ne_true (category_reaches (present_graph t) d c) (λ h. acyclic c (climb j (present_steps d c h))))
         (steps_present c c here)
 
     climbs_to_all : (n c : ℕ) → count c < n → present c ≡ true → Steps (Joins es) c 0

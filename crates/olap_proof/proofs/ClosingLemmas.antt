@@ -1,6 +1,5 @@
 -- Whether a line closes a place can be decided; where nothing is left to decide, one does, or there
 -- is a frozen dimension.
---     search                whether something of a list has a property
 --     dec_cycle             whether a graph holds a cycle
 --     dec_shortcut          whether it holds a shortcut
 --     some_unmet            whether some constraint is unmet
@@ -11,10 +10,10 @@ use Rattle.std.specs.Prelude.{All, Contains, IsTrue}
 use Rattle.std.specs.List.{range_with_len}
 use Rattle.std.proofs.lemmas.List.Elements.{All-cons, All-head, All-nil, All-tail}
 use native.Mathlib.Decide.{ℕ_discrete}
-use Rattle.olap_base.specs.Deciding.{contains_cases, contains_cons, dec_and, dec_iff, decide_category_reaches}
+use Rattle.olap_base.specs.Deciding.{dec_and, dec_iff, decide_category_reaches}
 use Rattle.olap_base.specs.Graph.{CategoryReaches, Edge, Graph, HasEdge, IsHierarchy, category_count}
 use Rattle.olap_base.specs.Steps.{Climb, Climb.climb, Steps-from_reaches, reaches_from_Steps}
-use Rattle.olap_base.proofs.ListLemmas.{Contains-from_range, Contains-nil, Contains-range, contains_head}
+use Rattle.olap_base.proofs.ListLemmas.{Contains-from_range, Contains-range}
 use Rattle.olap_ast.specs.Formula.{Formula}
 use Rattle.olap_ast.specs.Frozen.{AreCandidates, Candidates, Frozen, IsFrozen}
 use Rattle.olap_ast.specs.Schema.{Constraint, Schema}
@@ -27,23 +26,20 @@ use Rattle.olap_proof.specs.declared.forms.Form.{Form}
 use Rattle.olap_proof.specs.declared.forms.Form.TheVariants.{Long, Short}
 use Rattle.olap_proof.specs.FullPlaces.{FullPlacesClose, IsFull}
 use Rattle.olap_proof.proofs.CycleLemmas.{cyclic_is, shortened_is}
-use Rattle.olap_proof.proofs.LineLemmas.{edge_there}
-use Rattle.olap_proof.proofs.AgreeingLemmas.{wider}
 use Rattle.std.proofs.lemmas.Bool.{ne_eqb}
 use Rattle.olap_base.specs.Reaching.{category_reaches, category_reaches_is}
-use Rattle.olap_proof.specs.Lines.{IsDead, IsLoose, IsUnmet, Line, Line.Asked, Line.Cycle, Line.Dead, Line.Loose, Line.Shortcut, Line.Unmet, Line.Unreached}
-use Rattle.olap_proof.specs.Closing.{Closes, IsAbout, IsUnmetAt}
+use Rattle.olap_proof.specs.Lines.{Line, Line.Asked, Line.Cycle, Line.Dead, Line.Loose, Line.Shortcut, Line.Unmet, Line.Unreached}
+use Rattle.olap_proof.specs.Closing.{Closes, IsAbout, IsDead, IsLoose, IsUnmet, IsUnmetAt}
 use Rattle.olap_proof.specs.Places.{Naming, Place, is_known, knowledge, leading_graph, possible_graph, truth_of_reach}
 use Rattle.olap_proof.proofs.ChosenEdgeLemmas.{child_known, joins_possible, leading_joins, reaches_all, sound}
 use Rattle.olap_proof.proofs.FullPlaceLemmas.{frozen_there, value_of_place}
 use Rattle.olap_proof.proofs.ReasonLemmas.{unmet_inside}
+use Rattle.olap_graph.proofs.TableLemmas.{has_edge_at}
+use Rattle.olap_ast.proofs.Decided.{dec_some}
+use Rattle.olap_base.proofs.DecisionLemmas.{dec_not}
+use Rattle.olap_base.proofs.StepLemmas.{wider}
 
 -- ---- decisions
-
--- whether A fails
-dec_not : {A : Type 0} → Dec A → Dec (A → ⊥)
-dec_not (yes a) = no (λ f. f a)
-dec_not (no n) = yes n
 
 -- whether three hold
 dec_three : {A B C : Type 0} → Dec A → Dec B → Dec C → Dec (A × B × C)
@@ -55,7 +51,7 @@ dec_true true = yes refl
 dec_true false = no (λ e. cc)
 
 -- and what was decided of an edge
-dec_status : (o : Option Bool) (b : Bool) → Dec (o ≡ Some b)
+pub dec_status : (o : Option Bool) (b : Bool) → Dec (o ≡ Some b)
 dec_status None b = no (λ e. cc)
 dec_status (Some true) true = yes refl
 dec_status (Some true) false = no (λ e. cc)
@@ -63,28 +59,13 @@ dec_status (Some false) true = no (λ e. cc)
 dec_status (Some false) false = yes refl
 
 -- and whether a value is known to be false
-dec_false : (v : Truth3) → Dec (v ≡ No)
+pub dec_false : (v : Truth3) → Dec (v ≡ No)
 dec_false No = yes refl
 dec_false Yes = no (λ e. cc)
 dec_false Unknown = no (λ e. cc)
 
--- whether something of the list has the property
-pub search : {A : Type 0} (P : A → Type 0) → ((x : A) → Dec (P x)) → (xs : List A)
-    → Dec ((x : A) × Contains xs x × P x)
-search P d [] = no (λ w. Contains-nil w.0 w.1)
-search P d (x ∷ xs) = elim (d x) [
-  | yes h ↦ yes (x, contains_head x xs, h)
-  | no n ↦ elim (search P d xs) [
-    | yes w ↦ yes (w.0, contains_cons w.0 xs x w.1, w.2)
-    | no m ↦ no (λ w. elim (contains_cases w.0 x xs w.1) [
-      | inl e ↦ n (subst P (sym e) w.2)
-      | inr c ↦ m (w.0, c, w.2)
-    ])
-  ]
-]
-
 -- and whether all of it have
-dec_all : {A : Type 0} (P : A → Type 0) → ((x : A) → Dec (P x)) → (xs : List A) → Dec (All P xs)
+pub dec_all : {A : Type 0} (P : A → Type 0) → ((x : A) → Dec (P x)) → (xs : List A) → Dec (All P xs)
 dec_all P d [] = yes (All-nil P)
 dec_all P d (x ∷ xs) =
     dec_iff (λ t. All-cons P x xs t.0 t.1) (λ a. (All-head P x xs a, All-tail P x xs a))
@@ -94,7 +75,7 @@ dec_all P d (x ∷ xs) =
 
 -- whether a walk of at least one edge leads from c to d
 pub dec_climb : (g : Graph) (c d : ℕ) → Dec (Climb (HasEdge g) c d)
-dec_climb g c d = dec_iff to from (search (λ (e : Edge). (e.child ≡ c) × CategoryReaches g e.parent d)
+dec_climb g c d = dec_iff to from (dec_some (λ (e : Edge). (e.child ≡ c) × CategoryReaches g e.parent d)
     (λ (e : Edge). dec_and (ℕ_discrete e.child c) (decide_category_reaches g e.parent d)) g.edges)
   where
     to : (e : Edge) × Contains g.edges e × ((e.child ≡ c) × CategoryReaches g e.parent d) → Climb (HasEdge g) c d
@@ -106,7 +87,7 @@ dec_climb g c d = dec_iff to from (search (λ (e : Edge). (e.child ≡ c) × Cat
 -- whether a graph holds a cycle can be decided
 pub dec_cycle : (g : Graph) → Dec (HoldsCycle g)
 dec_cycle g = dec_iff (λ w. (w.0.child, w.2)) (λ h. from h.0 h.1)
-    (search (λ (e : Edge). Climb (HasEdge g) e.child e.child) (λ (e : Edge). dec_climb g e.child e.child) g.edges)
+    (dec_some (λ (e : Edge). Climb (HasEdge g) e.child e.child) (λ (e : Edge). dec_climb g e.child e.child) g.edges)
   where
     from : (c : ℕ) → Climb (HasEdge g) c c → (e : Edge) × Contains g.edges e × Climb (HasEdge g) e.child e.child
     from c (climb {z = z} h w) = (record { child = c; parent = z }, h, climb h w)
@@ -121,7 +102,7 @@ IsPassed g e = (f : Edge) × Contains g.edges f × Passes g e f
 
 -- and whether it holds a shortcut
 pub dec_shortcut : (g : Graph) → Dec (HoldsShortcut g)
-dec_shortcut g = dec_iff to from (search (IsPassed g) (λ (e : Edge). search (Passes g e)
+dec_shortcut g = dec_iff to from (dec_some (IsPassed g) (λ (e : Edge). dec_some (Passes g e)
     (λ (f : Edge). dec_and (ℕ_discrete f.child e.child) (dec_climb g f.parent e.parent)) g.edges) g.edges)
   where
     to : (e : Edge) × Contains g.edges e × IsPassed g e → HoldsShortcut g
@@ -148,12 +129,12 @@ dec_shortcut g = dec_iff to from (search (IsPassed g) (λ (e : Edge). search (Pa
 -- ---- lines
 
 -- whether `dead` closes a place can be decided
-dec_dead : (g : Graph) (p : Place) (c : ℕ) → Dec (IsDead g p c)
+pub dec_dead : (g : Graph) (p : Place) (c : ℕ) → Dec (IsDead g p c)
 dec_dead g p c = dec_three (dec_not (ℕ_discrete c 0)) (dec_true (is_known p c))
     (dec_all (λ e. status_of p.decided e ≡ Some false) (λ e. dec_status (status_of p.decided e) false) (edges_from g c))
 
 -- and whether `loose` does
-dec_loose : (g : Graph) (p : Place) (e : ℕ) → Dec (IsLoose g p e)
+pub dec_loose : (g : Graph) (p : Place) (e : ℕ) → Dec (IsLoose g p e)
 dec_loose g p e = dec_three (dec_not (ℕ_discrete (edge_at g e).child p.decided.root))
     (dec_status (status_of p.decided e) true)
     (dec_not (decide_category_reaches (possible_graph p.decided) p.decided.root (edge_at g e).child))
@@ -196,7 +177,7 @@ module _ (m : Form) (s : Schema) (q : Formula) (k : Candidates) (hier : IsHierar
   by_loose Long e h w = (Loose e, h, (refl, w))
   by_loose Short e h w =
       let x = edge_at s.graph e in
-      let i : Contains s.graph.edges x = edge_there s.graph e h in (
+      let i : Contains s.graph.edges x = has_edge_at s.graph e h in (
         Unreached x.child,
         (hier.categories x.child x.parent i).0,
         (
@@ -246,8 +227,8 @@ module _ (m : Form) (s : Schema) (q : Formula) (k : Candidates) (hier : IsHierar
 
   closes_or_frozen : Answer
   closes_or_frozen = go (dec_cycle (present_graph p.decided)) (dec_shortcut (present_graph p.decided))
-      (search (IsDead s.graph p) (dec_dead s.graph p) (range_with_len 0 (category_count s.graph)))
-      (search (IsLoose s.graph p) (dec_loose s.graph p) (range_with_len 0 (length s.graph.edges)))
+      (dec_some (IsDead s.graph p) (dec_dead s.graph p) (range_with_len 0 (category_count s.graph)))
+      (dec_some (IsLoose s.graph p) (dec_loose s.graph p) (range_with_len 0 (length s.graph.edges)))
     where
       go : Dec (HoldsCycle (present_graph p.decided)) → Dec (HoldsShortcut (present_graph p.decided))
           → Dec ((c : ℕ) × Contains (range_with_len 0 (category_count s.graph)) c × IsDead s.graph p c)

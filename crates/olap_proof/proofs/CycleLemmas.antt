@@ -5,7 +5,7 @@ use Rattle.std.proofs.Common.{◌↔◌}
 use Rattle.olap_base.specs.Graph.{Graph}
 use Rattle.olap_base.specs.Steps.{Climb-from_leads, leads_from_Climb}
 use Rattle.olap_trail.specs.Decisions.{HoldsCycle, HoldsShortcut}
-use Rattle.olap_proof.specs.Lines.{IsCyclic, IsShortened}
+use Rattle.olap_proof.specs.Closing.{IsCyclic, IsShortened}
 
 -- a cycle
 pub cyclic_is : (g : Graph) → HoldsCycle g ↔ IsCyclic g

@@ -2,44 +2,33 @@
 --     dec_does    whether a line about the schema does something
 --     dec_line    whether one about it has a property
 --     dec_step    whether bytes do something with what is open
-use Rattle.std.proofs.Common.{◌≡◌, ℕ, suc, zero, ◌<◌, ◌+◌, List, [], ◌∷◌, length, map, Bool, true, false, Option, Some, None, refl, ap, sym, subst, inl, inr}
-use Rattle.std.specs.Prelude.{◌⊎◌, All, Contains}
-use Rattle.std.proofs.lemmas.List.Elements.{All-nil, All-cons, All-head, All-tail}
+use Rattle.std.proofs.Common.{◌≡◌, ℕ, suc, zero, ◌<◌, ◌+◌, List, [], ◌∷◌, length, map, true, false, Option, Some, None, refl, sym, subst, inl, inr}
+use Rattle.std.specs.Prelude.{◌⊎◌}
 use Rattle.std.proofs.Math.Bool.{Bool-discrete}
-use Rattle.std.specs.List.{range_with_len}
 use native.Mathlib.Decide.{ℕ_discrete}
 use mathlib.Core.List.{List-discrete}
-use Rattle.olap_base.specs.Graph.{Edge, Graph, HasEdge, CategoryReaches, IsCategory}
-use Rattle.olap_base.specs.Steps.{Climb, Climb.climb, Steps-from_reaches, reaches_from_Steps}
-use Rattle.olap_base.specs.Deciding.{dec_and, dec_iff, dec_or, decide_category_reaches}
-use Rattle.olap_base.proofs.ListLemmas.{Contains-from_range, Contains-range}
+use Rattle.olap_base.specs.Graph.{Graph, IsCategory}
+use Rattle.olap_base.specs.Deciding.{dec_and, dec_iff, dec_or}
 use Rattle.olap_ast.specs.Formula.{Formula}
 use Rattle.olap_ast.specs.Frozen.{Candidates}
 use Rattle.olap_ast.specs.Schema.{Constraint, Schema}
-use Rattle.olap_ast.specs.declared.three_values.Truth3.{Truth3}
-use Rattle.olap_ast.specs.declared.three_values.Truth3.TheVariants.{No, Yes, Unknown}
-use Rattle.olap_ast.proofs.Decided.{dec_not, dec_some}
 use Rattle.olap_eval.specs.Partial.{value_at}
 use Rattle.olap_graph.specs.Lookups.{edge_at, edges_from}
 use Rattle.olap_proof.specs.declared.forms.Form.{Form}
 use Rattle.olap_proof.specs.declared.forms.Form.TheVariants.{Long, Short}
 use Rattle.olap_proof.specs.Certificates.{Open, Open.At, Open.Bottom, Open.Head, Steps, Steps.begins, Steps.roots, bottom_text, bottoms_of, head_text, start}
 use Rattle.olap_proof.specs.Doing.{Does, leaves_open}
-use Rattle.olap_proof.specs.Lines.{IsClash, IsDead, IsLoose, IsNoStep, IsUnmet, IsUnreached, Line, Line.Asked, Line.Clash, Line.Cycle, Line.Dead, Line.EdgeOrNot, Line.Loose, Line.NameOf, Line.Shortcut, Line.Unmet, Line.Unreached, Line.WayOrNot, line_text}
-use Rattle.olap_proof.specs.Closing.{IsAbout, IsUnmetAt}
-use Rattle.olap_proof.specs.Places.{Place, index_of, is_known, knowledge, leads, possible_graph, truth_of_reach, way_of}
+use Rattle.olap_proof.specs.Lines.{IsNoStep, Line, Line.Asked, Line.Clash, Line.Cycle, Line.Dead, Line.EdgeOrNot, Line.Loose, Line.NameOf, Line.Shortcut, Line.Unmet, Line.Unreached, Line.WayOrNot, line_text}
+use Rattle.olap_proof.specs.Closing.{IsAbout, IsUnmetAt, IsClash, IsDead, IsLoose, IsUnmet, IsUnreached}
+use Rattle.olap_proof.specs.Places.{Place, index_of, is_known, knowledge, leads, truth_of_reach, way_of}
 use Rattle.olap_proof.proofs.CycleLemmas.{cyclic_is, shortened_is}
 use Rattle.olap_proof.proofs.DoingLemmas.{does_step, step_does}
 use Rattle.olap_proof.proofs.StepLemmas.{step_bottom, step_head}
-use Rattle.olap_trail.specs.Decisions.{HoldsCycle, HoldsShortcut, present_graph, status_of}
+use Rattle.olap_trail.specs.Decisions.{present_graph, status_of}
+use Rattle.olap_proof.proofs.ClosingLemmas.{dec_dead, dec_loose, dec_cycle, dec_shortcut, dec_status, dec_false, dec_all}
+use Rattle.olap_base.proofs.DecisionLemmas.{dec_some_below, dec_not}
 
 -- ---- numbers below another
-
--- whether P holds of some number below n
-dec_some_below : (P : ℕ → Type 0) → ((k : ℕ) → Dec (P k)) → (n : ℕ) → Dec ((k : ℕ) × (k < n) × P k)
-dec_some_below P d n =
-    dec_iff (λ t. (t.0, Contains-from_range n t.0 t.1, t.2)) (λ t. (t.0, Contains-range n t.0 t.1, t.2))
-    (dec_some P d (range_with_len 0 n))
 
 -- ---- values of few cases
 
@@ -50,106 +39,37 @@ dec_form Long Short = no (λ e. cc)
 dec_form Short Long = no (λ e. cc)
 dec_form Short Short = yes refl
 
--- whether a truth is no
-dec_no : (t : Truth3) → Dec (t ≡ No)
-dec_no No = yes refl
-dec_no Yes = no (λ e. cc)
-dec_no Unknown = no (λ e. cc)
-
--- whether this is said
-dec_said : (o : Option Bool) (b : Bool) → Dec (o ≡ Some b)
-dec_said None b = no (λ e. cc)
-dec_said (Some a) b = dec_iff (λ (e : a ≡ b). ap Some e) (λ e. let q : a ≡ b = cc in q) (Bool-discrete a b)
-
 -- whether nothing is
 dec_unsaid : {A : Type 0} (o : Option A) → Dec (o ≡ None)
 dec_unsaid None = yes refl
 dec_unsaid (Some a) = no (λ e. cc)
 
--- whether P holds of all
-dec_all : {A : Type 0} (P : A → Type 0) → ((x : A) → Dec (P x)) → (xs : List A) → Dec (All P xs)
-dec_all P d [] = yes (All-nil P)
-dec_all P d (x ∷ xs) =
-    dec_iff (λ t. All-cons P x xs t.0 t.1) (λ a. (All-head P x xs a, All-tail P x xs a))
-    (dec_and (d x) (dec_all P d xs))
-
 -- ---- graphs
 
--- whether at least one edge leads on from x to y
-dec_climb : (g : Graph) (x y : ℕ) → Dec (Climb (HasEdge g) x y)
-dec_climb g x y = dec_iff to from
-    (dec_some (λ (e : Edge). (e.child ≡ x) × CategoryReaches g e.parent y)
-    (λ e. dec_and (ℕ_discrete e.child x) (decide_category_reaches g e.parent y)) g.edges)
-  where
-    to : (e : Edge) × Contains g.edges e × ((e.child ≡ x) × CategoryReaches g e.parent y) → Climb (HasEdge g) x y
-    to t = subst (λ w. Climb (HasEdge g) w y) t.2.0 (climb t.1 (Steps-from_reaches t.2.1))
-
-    from : Climb (HasEdge g) x y → (e : Edge) × Contains g.edges e × ((e.child ≡ x) × CategoryReaches g e.parent y)
-    from (climb {z} r s) = (record { child = x; parent = z }, r, (refl, reaches_from_Steps s))
-
--- whether some category is above itself
-dec_cycle : (g : Graph) → Dec (HoldsCycle g)
-dec_cycle g = dec_iff (λ t. (t.0.child, t.2)) (λ t. from t.0 t.1)
-    (dec_some (λ (e : Edge). Climb (HasEdge g) e.child e.child) (λ e. dec_climb g e.child e.child) g.edges)
-  where
-    from : (c : ℕ) → Climb (HasEdge g) c c → (e : Edge) × Contains g.edges e × Climb (HasEdge g) e.child e.child
-    from c (climb {z} r s) = (record { child = c; parent = z }, r, climb r s)
-
--- whether some edge is also a longer way
-dec_shortcut : (g : Graph) → Dec (HoldsShortcut g)
-dec_shortcut g = dec_iff (λ t. record {
-  child = t.0.child;
-  parent = t.0.parent;
-  through = t.2.0.parent;
-  edge = t.1;
-  first = subst (λ c. Contains g.edges (record { child = c; parent = t.2.0.parent })) t.2.2.0 t.2.1;
-  rest = t.2.2.1;
-}) (λ h. (
-  record { child = h.child; parent = h.parent },
-  h.edge,
-  (record { child = h.child; parent = h.through }, h.first, (refl, h.rest)),
-)) (dec_some (λ (e : Edge). (f : Edge) × Contains g.edges f
-    × ((f.child ≡ e.child) × Climb (HasEdge g) f.parent e.parent))
-    (λ e. dec_some (λ (f : Edge). (f.child ≡ e.child) × Climb (HasEdge g) f.parent e.parent)
-    (λ f. dec_and (ℕ_discrete f.child e.child) (dec_climb g f.parent e.parent)) g.edges) g.edges)
-
 -- ---- reasons
-
--- whether all edges out of c are absent
-dec_dead : (g : Graph) (p : Place) (c : ℕ) → Dec (IsDead g p c)
-dec_dead g p c = dec_iff (λ t. (t.0, t.1.0, t.1.1)) (λ t. (t.0, (t.1, t.2)))
-    (dec_and (dec_not (ℕ_discrete c 0)) (dec_and (Bool-discrete (is_known p c) true)
-    (dec_all (λ e. status_of p.decided e ≡ Some false) (λ e. dec_said (status_of p.decided e) false) (edges_from g c))))
-
--- whether an edge is loose
-dec_loose : (g : Graph) (p : Place) (e : ℕ) → Dec (IsLoose g p e)
-dec_loose g p e = dec_iff (λ t. (t.0, t.1.0, t.1.1)) (λ t. (t.0, (t.1, t.2)))
-    (dec_and (dec_not (ℕ_discrete (edge_at g e).child p.decided.root))
-    (dec_and (dec_said (status_of p.decided e) true)
-    (dec_not (decide_category_reaches (possible_graph p.decided) p.decided.root (edge_at g e).child))))
 
 -- whether a category is out of the root's reach
 dec_unreached : (f : Form) (p : Place) (c : ℕ) → Dec (IsUnreached f p c)
 dec_unreached f p c = dec_iff (λ t. (t.0, t.1.0, t.1.1)) (λ t. (t.0, (t.1, t.2)))
     (dec_and (dec_not (ℕ_discrete c p.decided.root)) (dec_and (Bool-discrete (is_known p c) true)
-    (dec_no (truth_of_reach f p p.decided.root c))))
+    (dec_false (truth_of_reach f p p.decided.root c))))
 
 -- whether an edge is no step to b
 dec_no_step : (f : Form) (g : Graph) (p : Place) (b e : ℕ) → Dec (IsNoStep f g p b e)
 dec_no_step f g p b e =
-    dec_or (dec_said (status_of p.decided e) false) (dec_no (truth_of_reach f p (edge_at g e).parent b))
+    dec_or (dec_status (status_of p.decided e) false) (dec_false (truth_of_reach f p (edge_at g e).parent b))
 
 -- whether a way clashes with what is known
 dec_clash : (f : Form) (g : Graph) (p : Place) (a b : ℕ) → Dec (IsClash f g p a b)
 dec_clash f g p a b = dec_or
-    (dec_iff (λ t. (t.0, t.1.0, t.1.1)) (λ t. (t.0, (t.1, t.2))) (dec_and (dec_said (way_of p.ways a b) true)
+    (dec_iff (λ t. (t.0, t.1.0, t.1.1)) (λ t. (t.0, (t.1, t.2))) (dec_and (dec_status (way_of p.ways a b) true)
     (dec_and (dec_not (ℕ_discrete a b)) (dec_all (IsNoStep f g p b) (dec_no_step f g p b) (edges_from g a)))))
-    (dec_and (dec_said (way_of p.ways a b) false) (Bool-discrete (leads f p a b) true))
+    (dec_and (dec_status (way_of p.ways a b) false) (Bool-discrete (leads f p a b) true))
 
 -- whether a constraint is unmet
 dec_unmet : (f : Form) (k : Candidates) (p : Place) (c : Constraint) → Dec (IsUnmet f k p c)
 dec_unmet f k p c =
-    dec_and (Bool-discrete (is_known p c.root) true) (dec_no (value_at (knowledge f k p) c.root c.formula))
+    dec_and (Bool-discrete (is_known p c.root) true) (dec_false (value_at (knowledge f k p) c.root c.formula))
 
 -- whether the one at this place is
 dec_unmet_at : (f : Form) (cs : List Constraint) (n : ℕ) (k : Candidates) (p : Place) → Dec (IsUnmetAt f cs n k p)
@@ -172,7 +92,7 @@ dec_does f s q k p (Loose e) = dec_and (dec_form f Long) (dec_loose s.graph p e)
 dec_does f s q k p (Unreached c) = dec_and (dec_form f Short) (dec_unreached f p c)
 dec_does f s q k p (Clash a b) = dec_and (dec_form f Short) (dec_clash f s.graph p a b)
 dec_does f s q k p (Unmet n) = dec_unmet_at f s.constraints n k p
-dec_does f s q k p Asked = dec_no (value_at (knowledge f k p) p.decided.root q)
+dec_does f s q k p Asked = dec_false (value_at (knowledge f k p) p.decided.root q)
 
 module _ (s : Schema) (P : Line → Type 0) (d : (l : Line) → Dec (P l)) where
   -- some line of this kind, on two categories, has the property

@@ -14,7 +14,7 @@ use Rattle.olap_bits.specs.Sets.{members}
 use Rattle.olap_bits.specs.declared.sets.CatSet.{CatSet}
 use Rattle.olap_graph.specs.Lookups.{edge_at}
 use Rattle.olap_graph.specs.Rows.{AreOwn, Has, IsClosure, row}
-use Rattle.olap_graph.proofs.RowLemmas.{has_insert, has_inside, has_union, row_other, row_same, same_or_not}
+use Rattle.olap_graph.proofs.RowLemmas.{has_insert, has_inside, has_union, row_other, row_same}
 use Rattle.olap_trail.specs.Trails.{decisions_of}
 use Rattle.olap_trail.specs.declared.decisions.Decision.{Decision as OneDecision}
 use Rattle.olap_proof.specs.KeptWays.{leading_way}
@@ -23,6 +23,8 @@ use Rattle.olap_proof.specs.Seen.{AreOfGraph, LeadsHere, SeenDecisions, decision
 use Rattle.olap_proof.specs.Tables.{Draws, IsTable}
 use Rattle.olap_proof.specs.Walking.{IsIn, SeenFrom, SeenUpTo}
 use Rattle.olap_proof.proofs.SeenLemmas.{leading_seen, seen_present, seen_way}
+use Rattle.std.proofs.lemmas.Bool.{cases_eq}
+use Rattle.olap_base.proofs.GeneralLemmas.{below_or_same}
 
 -- ---- one set more
 
@@ -54,7 +56,7 @@ pub draws_join : {W : ℕ} (g : Graph) (Seen After : ℕ → ℕ → Type 0) (Ne
 draws_join {W} g Seen After New old mid k x h l is reached cases = record {
   count = length-set mid k x ∙ h.count;
   kept = λ c d m. stays c d (h.kept c d m);
-  sound = λ all c d m. elim (same_or_not c k) [
+  sound = λ all c d m. elim (cases_eq c k) [
     | inl e ↦ elim ((is d).0 (here c d e m)) [
       | inl o ↦ subst (λ y. CategoryReaches g y d) (sym e) (h.sound all k d o)
       | inr n ↦ subst (λ y. CategoryReaches g y d) (sym e) (reached d n)
@@ -74,14 +76,10 @@ draws_join {W} g Seen After New old mid k x h l is reached cases = record {
     there c d e m = ap (λ s. contains s d) (ap (row (set mid k x)) e ∙ row_same mid k x l) ∙ m
 
     stays : (c d : ℕ) → Has mid c d → Has (set mid k x) c d
-    stays c d m = elim (same_or_not c k) [
+    stays c d m = elim (cases_eq c k) [
       | inl e ↦ there c d e ((is d).1 (inl (ap (λ y. contains (row mid y) d) (sym e) ∙ m)))
       | inr n ↦ ap (λ s. contains s d) (row_other mid k c x n) ∙ m
     ]
-
--- below i + 1 is below i, or i
-last : (k i : ℕ) → k < i + 1 → (k < i) ⊎ (k ≡ i)
-last k i l = grind arith
 
 -- ---- edges and ways, one after another
 
@@ -98,7 +96,7 @@ module _ {W : ℕ} (g : Graph) (takes : ℕ → Bool) (child parent : ℕ → �
         λ o. subst (λ s. IsIn s d) (sym e) ((has_insert (row mid k) q d).1 (elim o [ inl b ↦ inr b | inr a ↦ inl a ])),
       ))
       (λ d a. subst (λ y. CategoryReaches g k y) a (reaches_from_Steps (step edge here)))
-      (λ a b s. elim (last s.0 i s.1) [
+      (λ a b s. elim (below_or_same s.0 i s.1) [
         | inl z ↦ inl (s.0, z, s.2, s.3, s.4)
         | inr z ↦ inr (sym s.3 ∙ ap child z ∙ c, sym p ∙ ap parent (sym z) ∙ s.4)
       ])
@@ -106,7 +104,7 @@ module _ {W : ℕ} (g : Graph) (takes : ℕ → Bool) (child parent : ℕ → �
   -- one that isn't taken is passed over
   pub draws_skip : takes i ≡ false → Draws g (SeenUpTo takes child parent (i + 1)) old mid
   draws_skip not = draws_less g (SeenUpTo takes child parent i) (SeenUpTo takes child parent (i + 1)) old mid h
-      (λ a b s. elim (last s.0 i s.1) [
+      (λ a b s. elim (below_or_same s.0 i s.1) [
         | inl z ↦ (s.0, z, s.2, s.3, s.4)
         | inr z ↦ absurd (let w : false ≡ true = sym not ∙ ap takes (sym z) ∙ s.2 in cc)
       ])
@@ -129,7 +127,7 @@ draws_all g Leads i old mid x to h l e is edge =
       ])),
     ))
     (λ d a. reaches_from_Steps (step (edge i d a) here))
-    (λ a b s. elim (last a i s.0) [
+    (λ a b s. elim (below_or_same a i s.0) [
       | inl z ↦ inl (z, s.1)
       | inr z ↦ inr (z, subst (λ y. Leads y b) z s.1)
     ])

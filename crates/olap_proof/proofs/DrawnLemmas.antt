@@ -2,23 +2,22 @@
 --     drawn_edge       a decision that says present draws its edge
 --     same_cycle       with one of them once more they hold no other cycle
 --     same_shortcut    and no other shortcut
---     no_cycle         where there is none, there is no cycle
+--     no_cycle         if there is none, there is no cycle
 --     no_shortcut      and no shortcut
 use Rattle.std.proofs.Common.{◌≡◌, ℕ, ◌<◌, ◌↔◌, List, [], ◌∷◌, length, true, false, subst, sym, inl, inr}
 use Rattle.std.specs.Prelude.{Contains, filter}
 use Rattle.std.proofs.lemmas.List.Elements.{Contains-append_cases, Contains-append_left, Contains-get_or}
 use Rattle.olap_base.specs.Graph.{Edge, Graph, HasEdge}
 use Rattle.olap_base.specs.Steps.{Climb, Climb.climb}
-use Rattle.olap_base.proofs.ListLemmas.{Contains-filter, Contains-map}
+use Rattle.olap_base.proofs.ListLemmas.{Contains-filter, Contains-map, Contains-only}
 use Rattle.olap_graph.specs.Lookups.{edge_at}
 use Rattle.olap_trail.specs.Decisions.{Decided, Decision, HoldsCycle, HoldsShortcut, present_edges, present_graph, present_with}
 use Rattle.olap_trail.specs.Trails.{decision_of, decisions_of}
 use Rattle.olap_trail.specs.declared.decisions.Decision.{Decision as OneDecision}
 use Rattle.olap_proof.specs.Seen.{decision_at}
-use Rattle.olap_proof.specs.Lines.{IsCyclic, IsShortened}
-use Rattle.olap_proof.proofs.AgreeingLemmas.{wider_climb}
+use Rattle.olap_proof.specs.Closing.{IsCyclic, IsShortened}
 use Rattle.olap_proof.proofs.CycleLemmas.{cyclic_is, shortened_is}
-use Rattle.olap_proof.proofs.SeenLemmas.{alone}
+use Rattle.olap_base.proofs.StepLemmas.{wider_climb}
 
 -- a decision that says present draws its edge
 pub drawn_edge : (t : Decided) (ds : List OneDecision) → t.decisions ≡ decisions_of ds → (k : ℕ) → k < length ds
@@ -38,7 +37,7 @@ again t e h x y i = elim (Contains-append_cases (present_edges t) (edge_at t.gra
     (record { child = x; parent = y }) i) [
       | inl a ↦ a
       | inr b ↦ subst (λ (z : Edge). Contains (present_edges t) z)
-          (alone (edge_at t.graph e) (record { child = x; parent = y }) b) h
+          (Contains-only (edge_at t.graph e) (record { child = x; parent = y }) b) h
     ]
 
 -- and all are still there
@@ -77,7 +76,7 @@ same_shortcut t e h = (
   λ s. wider_shortcut (present_graph t) (present_with t e) (still t e) ((shortened_is (present_graph t)).1 s),
 )
 
--- where there is none, there is no cycle
+-- if there is none, there is no cycle
 pub no_cycle : (g : Graph) → ((c d : ℕ) → HasEdge g c d → ⊥) → IsCyclic g → ⊥
 no_cycle g none c = go ((cyclic_is g).1 c).1
   where

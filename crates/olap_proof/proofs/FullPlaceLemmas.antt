@@ -14,11 +14,10 @@ use Rattle.olap_base.specs.Instance.{Instance}
 use Rattle.olap_base.specs.Reaching.{category_reaches, category_reaches_is}
 use Rattle.olap_base.specs.Steps.{Steps, Steps-from_reaches, reaches_from_Steps}
 use Rattle.olap_ast.specs.Constants.{IsNameOf}
-use Rattle.olap_proof.proofs.KindLemmas.{name_of_kind}
 use Rattle.olap_ast.specs.Formula.{Formula, Holds, IsNumbered}
 use Rattle.olap_ast.specs.Frozen.{AreCandidates, Candidates, Frozen, IsFrozen, instance_of, is_present, name_in, text_of_index}
 use Rattle.olap_ast.specs.Schema.{Schema}
-use Rattle.olap_ast.proofs.Shape.{either_true, right_true, same_is}
+use Rattle.olap_ast.proofs.Shape.{right_true}
 use Rattle.olap_ast.specs.declared.three_values.Truth3.TheVariants.{No, Yes, Unknown}
 use Rattle.olap_eval.specs.Partial.{Agrees as Tells, Completes, value_at}
 use Rattle.olap_eval.specs.Shapes.{HasEdgeThere, HasNameThere, HasNumberThere, ReachesThere}
@@ -34,16 +33,20 @@ use Rattle.olap_proof.specs.declared.forms.Form.{Form}
 use Rattle.olap_proof.specs.declared.forms.Form.TheVariants.{Long, Short}
 use Rattle.olap_proof.specs.FullPlaces.{IsFull}
 use Rattle.olap_proof.specs.Closing.{IsUnmetAt}
-use Rattle.olap_proof.specs.Places.{Naming, Place, index_of, is_known, is_top, knowledge, leading_edges, leading_graph, name_of, possible_graph, truth_of, truth_of_edge, truth_of_name, truth_of_reach}
-use Rattle.olap_proof.proofs.AgreeingLemmas.{walk_present, wider}
+use Rattle.olap_proof.specs.Places.{Naming, Place, index_of, is_known, is_top, knowledge, leading_edges, leading_graph, name_of, possible_graph, truth_of_edge, truth_of_name, truth_of_reach}
+use Rattle.olap_proof.proofs.AgreeingLemmas.{walk_present}
+use Rattle.olap_proof.specs.Within.{truth_of}
 use Rattle.olap_proof.proofs.ToldLemmas.{IsTold, formula_told, truth_told, unmet_listed}
 use Rattle.olap_proof.proofs.ChosenEdgeLemmas as laws
 use Rattle.olap_proof.proofs.ChosenEdgeLemmas.{bit_of, bits_of, edges_chosen}
+use Rattle.olap_frozen.proofs.LeafLemmas.{name_of_kind}
+use Rattle.std.proofs.lemmas.Bool.{or_cases, eqb-true}
+use Rattle.olap_base.proofs.StepLemmas.{wider}
 
 -- the top is 0
 top_zero : (m : Form) (b : ℕ) → is_top m b ≡ true → b ≡ 0
 top_zero Long b h = absurd (cc)
-top_zero Short b h = same_is b 0 h
+top_zero Short b h = eqb-true b 0 h
 
 -- ---- the value
 
@@ -262,7 +265,7 @@ module _ (s : Schema) (k : Candidates) (hier : IsHierarchy s.graph) (r : ℕ) (d
   module _ (m : Form) (tops : (c : ℕ) → present c ≡ true → Steps (Joins es) c 0) where
     leads_walk : (c e : ℕ) → present c ≡ true → is_top m e || category_reaches (leading_graph p) c e ≡ true
         → Steps (Joins es) c e
-    leads_walk c e h y = elim (either_true (is_top m e) (category_reaches (leading_graph p) c e) y) [
+    leads_walk c e h y = elim (or_cases (is_top m e) (category_reaches (leading_graph p) c e) y) [
       | inl a ↦ subst (λ x. Steps (Joins es) c x) (sym (top_zero m e a)) (tops c h)
       | inr a ↦ wider leading_joins (Steps-from_reaches ((category_reaches_is (leading_graph p) c e).0 a))
     ]

@@ -12,7 +12,7 @@ use Rattle.olap_ast.specs.Schema.{Schema}
 use Rattle.olap_proof.specs.declared.forms.Form.{Form}
 use Rattle.olap_proof.specs.Certificates.{IsCertificateText, Open, Open.Head, Runs, Runs.more, Runs.none, Steps, lines_text}
 use Rattle.olap_proof.specs.Judged.{TextsAreJudged}
-use Rattle.olap_proof.specs.Verifying.{IsWrongAt}
+use Rattle.olap_proof.specs.Certificates.{IsFirstWrong}
 use Rattle.olap_proof.proofs.StepLemmas.{FirstStep, FirstStep.first, first_step}
 use Rattle.olap_proof.proofs.DecidingLemmas.{dec_step}
 
@@ -134,24 +134,20 @@ module _ (f : Form) (s : Schema) (q : Formula) (k : Candidates) where
 
   -- of a whole text
   judged : (text : List ℕ) → Certified (Head ∷ []) text ⊎ Stuck (Head ∷ []) text
-      → IsCertificateText f s q k text ⊎ ((line : ℕ) × IsWrongAt f s q k text line)
+      → IsCertificateText f s q k text ⊎ ((line : ℕ) × IsFirstWrong f s q k text line)
   judged text (inl c) = inl c
   judged text (inr w) = inr (
     length w.lines + 1,
-    (
-      length w.lines,
-      refl,
-      record {
-        lines = w.lines;
-        rest = w.left;
-        open_there = w.there;
-        parts = w.parts;
-        counted = refl;
-        run = w.run;
-        too_early = w.too_early;
-        stuck = λ line later left e run. w.stuck line later left e run;
-      },
-    ),
+    record {
+      lines = w.lines;
+      rest = w.left;
+      open_there = w.there;
+      parts = w.parts;
+      counted = refl;
+      run = w.run;
+      too_early = w.too_early;
+      stuck = λ line later left e run. w.stuck line later left e run;
+    },
   )
 
 -- the theorem

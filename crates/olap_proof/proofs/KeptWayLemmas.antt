@@ -6,7 +6,7 @@
 --     tables_last                    the last decision
 --     tables_pop, tables_written     the tables with one less
 --     leads_is                       the ways that are there
-use Rattle.std.proofs.Common.{◌≡◌, ◌≢◌, ℕ, zero, suc, ◌<◌, ◌↔◌, ◌++◌, List, [], ◌∷◌, Bool, true, false, Option, None, Some, arith, drop, length, map, replicate, take, set, eqb, refl, ap, sym, subst, ◌∙◌, inl, inr}
+use Rattle.std.proofs.Common.{◌≡◌, ◌≢◌, ℕ, ◌<◌, ◌↔◌, ◌++◌, List, [], ◌∷◌, Bool, true, false, Option, None, Some, arith, drop, length, map, replicate, take, set, eqb, refl, ap, sym, subst, ◌∙◌, inl, inr}
 use Rattle.std.specs.Prelude.{◌==◌, ◌&&◌, ◌||◌, Contains, if◌then◌else◌, not}
 use Rattle.std.specs.FinSet.{contains, contains-empty, empty, insert, remove}
 use Rattle.std.specs.Ordering.{nat_cmp}
@@ -14,17 +14,18 @@ use Rattle.std.proofs.lemmas.List.{length-replicate, map_push, take_at}
 use Rattle.std.proofs.lemmas.List.Elements.{Contains-append_left, Contains-push, Contains-push_cases}
 use Rattle.olap_base.specs.Limits.{most_categories}
 use Rattle.olap_base.specs.Deciding.{contains_cases, contains_cons}
-use Rattle.olap_base.proofs.ListLemmas.{Contains-nil, both_true, contains_head, first_true, same_truth, second_true}
-use Rattle.olap_ast.proofs.Shape.{is_same, same_is}
+use Rattle.olap_base.proofs.ListLemmas.{Contains-nil, contains_head, first_true, same_truth, second_true}
 use Rattle.olap_bits.specs.Sets.{members}
 use Rattle.olap_bits.specs.declared.sets.CatSet.{CatSet}
 use Rattle.olap_bits.proofs.CatSetLemmas.{in_insert, in_remove}
 use Rattle.olap_graph.specs.Rows.{row}
-use Rattle.olap_graph.proofs.RowLemmas.{row_other, row_same, same_or_not}
+use Rattle.olap_graph.proofs.RowLemmas.{row_other, row_same}
 use Rattle.olap_proof.specs.KeptTables.{AreOnce, AreSaid, AreTables}
 use Rattle.olap_proof.specs.declared.ways.Way.{Way as OneWay}
 use Rattle.olap_proof.specs.KeptWays.{IsPut, IsTakenOut, leading_way, status_of_marks, way_kept}
 use Rattle.olap_proof.specs.Places.{Way, way_of}
+use Rattle.std.proofs.lemmas.Bool.{and_from, cases_eq, eqb-true, eq-eqb}
+use Rattle.olap_trail.proofs.TakingLemmas.{row_none}
 
 -- ---- decisions
 
@@ -34,11 +35,11 @@ is_on w a b = (w.child == a) && (w.parent == b)
 
 -- a decision is on the way if the test says so
 on_is : (c d a b : ℕ) → (c == a) && (d == b) ≡ true → (c ≡ a) × (d ≡ b)
-on_is c d a b h = (same_is c a (first_true (c == a) (d == b) h), same_is d b (second_true (c == a) (d == b) h))
+on_is c d a b h = (eqb-true c a (first_true (c == a) (d == b) h), eqb-true d b (second_true (c == a) (d == b) h))
 
 -- and the other way
 is_on_it : (c d a b : ℕ) → c ≡ a → d ≡ b → (c == a) && (d == b) ≡ true
-is_on_it c d a b e f = both_true (c == a) (d == b) (is_same c a e) (is_same d b f)
+is_on_it c d a b e f = and_from (c == a) (d == b) (eq-eqb c a e) (eq-eqb d b f)
 
 -- it isn't, where the first category is another
 is_off : (c d a b : ℕ) → c ≢ a → (c == a) && (d == b) ≡ false
@@ -178,12 +179,12 @@ way_contained (w ∷ ws) a b t h = go (is_on w a b) refl h (way_contained ws a b
 -- the test of a way, in the two orders of its parts
 flag : (k c d p : ℕ) → c ≡ k → eqb d p ≡ (k == c) && (p == d)
 flag k c d p same = same_truth (eqb d p) ((k == c) && (p == d))
-    (λ h. is_on_it k p c d (sym same) (sym (same_is d p h))) (λ h. is_same d p (sym (on_is k p c d h).1))
+    (λ h. is_on_it k p c d (sym same) (sym (eqb-true d p h))) (λ h. eq-eqb d p (sym (on_is k p c d h).1))
 
 -- a set with a category more
 pub row_put : {W : ℕ} (rows : List (CatSet W)) (k p : ℕ) (x : CatSet W) → k < length rows
     → members x ≡ insert (row rows k) p → IsPut rows k p (set rows k x)
-row_put rows k p x inside e c d = elim (same_or_not c k) [
+row_put rows k p x inside e c d = elim (cases_eq c k) [
   | inl same ↦
       ap (λ s. contains s d) (ap (row (set rows k x)) same ∙ row_same rows k x inside ∙ e)
       ∙ in_insert (row rows k) p d
@@ -197,7 +198,7 @@ row_put rows k p x inside e c d = elim (same_or_not c k) [
 -- and with one less
 pub row_out : {W : ℕ} (rows : List (CatSet W)) (k p : ℕ) (x : CatSet W) → k < length rows
     → members x ≡ remove (row rows k) p → IsTakenOut rows k p (set rows k x)
-row_out rows k p x inside e c d = elim (same_or_not c k) [
+row_out rows k p x inside e c d = elim (cases_eq c k) [
   | inl same ↦
       ap (λ s. contains s d) (ap (row (set rows k x)) same ∙ row_same rows k x inside ∙ e)
       ∙ in_remove (row rows k) p d
@@ -272,12 +273,6 @@ said_none : {W : ℕ} (there absent : List (CatSet W)) → ((c : ℕ) → row th
 said_none there absent none less c d =
     ap (λ b. status_of_marks b false) (sym (ap (λ s. contains s d) (none c) ∙ contains-empty nat_cmp d))
     ∙ ap (status_of_marks (contains (row there c) d)) (sym (ap (λ s. contains s d) (less c) ∙ contains-empty nat_cmp d))
-
--- a table of empty sets has empty sets
-row_none : {W : ℕ} (x : CatSet W) → members x ≡ empty → (m c : ℕ) → row (replicate m x) c ≡ empty
-row_none x e zero c = refl
-row_none x e (suc m) zero = e
-row_none x e (suc m) (suc c) = row_none x e m c
 
 -- and is the table of no decisions
 pub tables_none : {W : ℕ} (x : CatSet W) (there absent : List (CatSet W)) → members x ≡ empty

@@ -35,7 +35,7 @@ no_space c =
     let t = (list_any_is (λ b. b == 32) (codes "bottom")).1 (32, c, refl) in
     let z : true ≡ false = sym t in cc
 
--- its first word, and what stands behind it
+-- its first word, and what stands after it
 pub bottom_read : (g : Graph) (b : ℕ) (line word rest : List ℕ) → line ≡ word ++ 32 ∷ rest → (Contains word 32 → ⊥)
     → line ≡ bottom_text g b → (word ≡ codes "bottom") × (rest ≡ name_of_category g b)
 bottom_read g b line word rest e n i =

@@ -36,7 +36,6 @@ mod PlainLineLemmas
 mod StageLemmas
 mod LeadingLemmas
 mod QuestionLemmas
-mod KindLemmas
 mod VerdictLemmas
 mod DecidingLemmas
 mod JudgingLemmas

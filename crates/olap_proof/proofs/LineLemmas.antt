@@ -1,11 +1,10 @@
 -- Words, names and edges in the bytes of a line.
---     parted               what stands before the first mark is one text, and what stands behind it
+--     parted               what stands before the first mark is one text, and what stands after it
 --     name_plain           a category's name has letters and digits alone
 --     no_category          no category has the name where none was found
---     names_differ         two categories have different names
 --     pair_..              two names with a space between them
 --     edge_..              the edge between two categories
-use Rattle.std.proofs.Common.{◌≡◌, ◌⊎◌, ℕ, zero, suc, ◌<◌, ◌≤◌, ◌++◌, List, [], ◌∷◌, length, get_or, Option, Some, None, refl, ap, sym, subst, ◌∙◌, ◌↔◌, inl, inr, codes, arith}
+use Rattle.std.proofs.Common.{◌≡◌, ℕ, zero, suc, ◌<◌, ◌≤◌, ◌++◌, List, [], ◌∷◌, length, get_or, Option, Some, None, refl, ap, sym, subst, ◌∙◌, ◌↔◌, inl, inr, codes, arith}
 use Rattle.std.specs.Prelude.{Contains, IfSome, IsNone, IsSome}
 use Rattle.std.specs.Option.{option_map}
 use Rattle.std.specs.Str.{bytes_eq}
@@ -19,10 +18,12 @@ use Rattle.olap_base.proofs.ListLemmas.{Contains-nil, contains_head}
 use Rattle.olap_graph.specs.Lookups.{category_named, edge_at, edge_between, joins, name_of_category, names_of}
 use Rattle.olap_graph.proofs.PlaceLemmas.{found, joins-Decides, missing}
 use Rattle.olap_proof.specs.Lines.{edge_words, way_words}
+use Rattle.olap_graph.proofs.TableLemmas.{has_edge_at}
+use Rattle.olap_graph.proofs.NamesApart.{names_differ}
 
 -- ---- marks
 
--- what stands before the first mark is one text, and what stands behind it
+-- what stands before the first mark is one text, and what stands after it
 pub parted : (d : ℕ) (w v x y : List ℕ) → (Contains w d → ⊥) → (Contains x d → ⊥) → w ++ d ∷ v ≡ x ++ d ∷ y
     → (w ≡ x) × (v ≡ y)
 parted d [] v [] y n m e = (refl, cc)
@@ -75,38 +76,6 @@ name_plain g h zero i d l = plain_all d l
 name_plain g h (suc c) i d l =
     plain (get_or g.names c []) (h.names (get_or g.names c []) (Contains-get_or g.names c [] (omega arith))).0 d l
 
--- two categories have different names
-names_apart : (g : Graph) → IsHierarchy g → (c d : ℕ) → c < d → IsCategory g d
-    → name_of_category g c ≡ name_of_category g d → ⊥
-names_apart g h zero zero b l e = absurd (omega arith)
-names_apart g h zero (suc d) b l e =
-    (h.names (get_or g.names d []) (Contains-get_or g.names d [] (omega arith))).1 (sym e)
-names_apart g h (suc c) zero b l e = absurd (omega arith)
-names_apart g h (suc c) (suc d) b l e = h.names_differ c d [] (omega arith) (omega arith) e
-
--- categories of one name are one
-pub names_differ : (g : Graph) → IsHierarchy g → (c d : ℕ) → IsCategory g c → IsCategory g d
-    → name_of_category g c ≡ name_of_category g d → c ≡ d
-names_differ g h c d l m e = elim (ordered c d) [
-  | inl same ↦ same
-  | inr o ↦ elim o [
-    | inl b ↦ absurd (names_apart g h c d b m e)
-    | inr b ↦ absurd (names_apart g h d c b l (sym e))
-  ]
-]
-  where
-    ordered : (c d : ℕ) → (c ≡ d) ⊎ ((c < d) ⊎ (d < c))
-    ordered zero zero = inl refl
-    ordered zero (suc d) = inr (inl (omega arith))
-    ordered (suc c) zero = inr (inr (omega arith))
-    ordered (suc c) (suc d) = elim (ordered c d) [
-      | inl e ↦ inl (ap suc e)
-      | inr o ↦ elim o [
-        | inl b ↦ inr (inl (omega (arith, b)))
-        | inr b ↦ inr (inr (omega (arith, b)))
-      ]
-    ]
-
 -- a category that was found has the name
 pub category_found : (g : Graph) (name : List ℕ) (r : Option CatId) → option_map (λ c. c.0) r ≡ category_named g name
     → IfSome r (λ c. IsCategory g c.0) → IfSome r (λ c. IsCategory g c.0 × (name_of_category g c.0 ≡ name))
@@ -134,15 +103,11 @@ pair_once g h a b c d i j k l e =
     (name_plain g h a i 32 (omega arith)) (name_plain g h c k 32 (omega arith)) e in
     (names_differ g h a c i k p.0, names_differ g h b d j l p.1)
 
--- the names behind a cut are these
+-- the names after a cut are these
 pub pair_cut : (g : Graph) → IsHierarchy g → (a b : ℕ) → IsCategory g a → (bytes w v : List ℕ) → (Contains w 32 → ⊥)
     → bytes ≡ w ++ 32 ∷ v → way_words g a b ≡ bytes → (name_of_category g a ≡ w) × (name_of_category g b ≡ v)
 pair_cut g h a b i bytes w v n p e =
     parted 32 (name_of_category g a) (name_of_category g b) w v (name_plain g h a i 32 (omega arith)) n (e ∙ p)
-
--- the ends of an edge are categories
-pub edge_there : (g : Graph) (e : ℕ) → e < length g.edges → HasEdge g (edge_at g e).child (edge_at g e).parent
-edge_there g e l = Contains-get_or g.edges e (record { child = 0; parent = 0 }) l
 
 -- an edge that was found is between these categories
 pub edge_is : (g : Graph) (c d : ℕ) (r : Option EdgeId) → option_map (λ e. e.0) r ≡ edge_between g c d
@@ -167,7 +132,7 @@ pub edge_unspelled : (g : Graph) → IsHierarchy g → (c d : ℕ) (bytes : List
     → (e : ℕ) → e < length g.edges → edge_words g e ≡ bytes → ⊥
 edge_unspelled g h c d bytes None q i j w n e l same =
     let x = edge_at g e in
-    let there = edge_there g e l in
+    let there = has_edge_at g e l in
     let p = pair_once g h x.child x.parent c d (h.categories x.child x.parent there).0
     (h.categories x.child x.parent there).1 i j (same ∙ sym w) in
     let z = q.1 (subst (λ b. HasEdge g c b) p.1 (subst (λ a. HasEdge g a x.parent) p.0 there)) in cc

@@ -1,6 +1,6 @@
 -- A line's bytes are those of one line only.
---     Args          what stands behind the first word
---     args_once     in one way only, behind the same word
+--     Args          what stands after the first word
+--     args_once     in one way only, after the same word
 --     line_once     so two lines about a schema with the same bytes are one
 use Rattle.std.proofs.Common.{◌≡◌, ◌⊎◌, ℕ, zero, suc, ◌<◌, ◌^◌, List, length, Option, Some, None, refl, ap, sym, ◌∙◌, inl, inr, arith}
 use Rattle.std.specs.Fmt.{decimal}
@@ -13,10 +13,13 @@ use Rattle.olap_proof.specs.declared.lines.Word.TheVariants as word
 use Rattle.olap_proof.specs.Lines.{Line, Line.Asked, Line.Clash, Line.Cycle, Line.Dead, Line.EdgeOrNot, Line.Loose, Line.NameOf, Line.Shortcut, Line.Unmet, Line.Unreached, Line.WayOrNot, edge_words, line_text, way_words}
 use Rattle.olap_proof.specs.Closing.{IsAbout}
 use Rattle.olap_proof.specs.Reading.{first_of, rest_of, word_text}
-use Rattle.olap_proof.proofs.LineLemmas.{edge_there, name_plain, names_differ, pair_once, unparted}
+use Rattle.olap_proof.proofs.LineLemmas.{name_plain, pair_once, unparted}
 use Rattle.olap_proof.proofs.ReadingLemmas.{joined_once, line_joined, word_plain, words_differ}
+use Rattle.olap_graph.proofs.TableLemmas.{has_edge_at}
+use Rattle.olap_graph.proofs.NamesApart.{names_differ}
+use Rattle.olap_base.proofs.GeneralLemmas.{some_same}
 
--- what stands behind the first word
+-- what stands after the first word
 data Args : Type 0 where
   Nothing : Args
   Named : (category : ℕ) → Args
@@ -24,7 +27,7 @@ data Args : Type 0 where
   Edged : (edge : ℕ) → Args
   Numbered : (place : ℕ) → Args
 
--- what a line says behind its first word
+-- what a line says after its first word
 abbrev args_of : Line → Args
 args_of (EdgeOrNot e) = Edged e
 args_of (NameOf c) = Named c
@@ -82,7 +85,7 @@ about s (Clash x y) a = a
 about s (Unmet n) a = a
 about s Asked a = a
 
--- the sort of what stands behind a word; the bytes tell an edge from a category
+-- the sort of what stands after a word; the bytes tell an edge from a category
 abbrev sort_of : Args → ℕ
 sort_of Nothing = 0
 sort_of (Named c) = 1
@@ -90,7 +93,7 @@ sort_of (Paired a b) = 2
 sort_of (Edged e) = 1
 sort_of (Numbered n) = 3
 
--- what sort of thing stands behind a word
+-- what sort of thing stands after a word
 abbrev sort_behind : Word → ℕ
 sort_behind word.Edge = 1
 sort_behind word.Name = 1
@@ -143,7 +146,7 @@ loose_line (Paired a b) = Asked
 loose_line (Edged e) = Loose e
 loose_line (Numbered n) = Asked
 
--- the line of a word and what stands behind it
+-- the line of a word and what stands after it
 abbrev line_with : Word → Args → Line
 line_with word.Edge x = EdgeOrNot (first_arg x)
 line_with word.Name x = NameOf (first_arg x)
@@ -156,7 +159,7 @@ line_with word.Steps x = Clash (first_arg x) (second_arg x)
 line_with word.Constraint x = Unmet (first_arg x)
 line_with word.Question x = Asked
 
--- each line is that of its word and what stands behind it
+-- each line is that of its word and what stands after it
 again : (l : Line) → line_with (first_of l) (args_of l) ≡ l
 again (EdgeOrNot e) = refl
 again (NameOf c) = refl
@@ -201,16 +204,12 @@ edge_once : (g : Graph) → IsHierarchy g → (e f : ℕ) → e < length g.edges
 edge_once g h e f l m q =
     let x = edge_at g e in
     let y = edge_at g f in
-    let i = h.categories x.child x.parent (edge_there g e l) in
-    let j = h.categories y.child y.parent (edge_there g f m) in
+    let i = h.categories x.child x.parent (has_edge_at g e l) in
+    let j = h.categories y.child y.parent (has_edge_at g f m) in
     let p = pair_once g h x.child x.parent y.child y.parent i.0 i.1 j.0 j.1 q in
     let same : x ≡ y = ap (λ c. record { child = c; parent = x.parent }) p.0
     ∙ ap (λ d. record { child = y.child; parent = d }) p.1 in
     edges_apart g h e f l m same
-
--- what an option has is one
-some_is : {A : Type 0} (x y : A) → Some x ≡ Some y → x ≡ y
-some_is x y q = cc
 
 -- what is spelt alike is one
 args_once : (s : Schema) → IsHierarchy s.graph → length s.constraints < 2 ^ 64 → (x y : Args) → IsArg s x → IsArg s y
@@ -221,26 +220,26 @@ args_once s h few Nothing (Paired c d) a b t q = absurd (omega (arith, t))
 args_once s h few Nothing (Edged e) a b t q = absurd (omega (arith, t))
 args_once s h few Nothing (Numbered n) a b t q = absurd (omega (arith, t))
 args_once s h few (Named c) Nothing a b t q = absurd (omega (arith, t))
-args_once s h few (Named c) (Named d) a b t q = ap Named (names_differ s.graph h c d a b (some_is _ _ q))
+args_once s h few (Named c) (Named d) a b t q = ap Named (names_differ s.graph h c d a b (some_same _ _ q))
 args_once s h few (Named c) (Paired d e) a b t q = absurd (omega (arith, t))
 args_once s h few (Named c) (Edged e) a b t q =
     absurd (unparted 32 (name_of_category s.graph c) (name_of_category s.graph (edge_at s.graph e).child)
     (name_of_category s.graph (edge_at s.graph e).parent) (name_plain s.graph h c a 32 (omega arith))
-    (sym (some_is _ _ q)))
+    (sym (some_same _ _ q)))
 args_once s h few (Named c) (Numbered n) a b t q = absurd (omega (arith, t))
 args_once s h few (Paired c d) Nothing a b t q = absurd (omega (arith, t))
 args_once s h few (Paired c d) (Named e) a b t q = absurd (omega (arith, t))
 args_once s h few (Paired c d) (Paired e f) a b t q =
-    let p = pair_once s.graph h c d e f a.0 a.1 b.0 b.1 (some_is _ _ q) in
+    let p = pair_once s.graph h c d e f a.0 a.1 b.0 b.1 (some_same _ _ q) in
     ap (λ x. Paired x d) p.0 ∙ ap (λ y. Paired e y) p.1
 args_once s h few (Paired c d) (Edged e) a b t q = absurd (omega (arith, t))
 args_once s h few (Paired c d) (Numbered n) a b t q = absurd (omega (arith, t))
 args_once s h few (Edged e) Nothing a b t q = absurd (omega (arith, t))
 args_once s h few (Edged e) (Named c) a b t q =
     absurd (unparted 32 (name_of_category s.graph c) (name_of_category s.graph (edge_at s.graph e).child)
-    (name_of_category s.graph (edge_at s.graph e).parent) (name_plain s.graph h c b 32 (omega arith)) (some_is _ _ q))
+    (name_of_category s.graph (edge_at s.graph e).parent) (name_plain s.graph h c b 32 (omega arith)) (some_same _ _ q))
 args_once s h few (Edged e) (Paired c d) a b t q = absurd (omega (arith, t))
-args_once s h few (Edged e) (Edged f) a b t q = ap Edged (edge_once s.graph h e f a b (some_is _ _ q))
+args_once s h few (Edged e) (Edged f) a b t q = ap Edged (edge_once s.graph h e f a b (some_same _ _ q))
 args_once s h few (Edged e) (Numbered n) a b t q = absurd (omega (arith, t))
 args_once s h few (Numbered n) Nothing a b t q = absurd (omega (arith, t))
 args_once s h few (Numbered n) (Named c) a b t q = absurd (omega (arith, t))
@@ -248,7 +247,7 @@ args_once s h few (Numbered n) (Paired c d) a b t q = absurd (omega (arith, t))
 args_once s h few (Numbered n) (Edged e) a b t q = absurd (omega (arith, t))
 args_once s h few (Numbered n) (Numbered m) a b t q =
     let same : suc n ≡ suc m =
-    decimal_injective (suc n) (suc m) (omega (arith, a, few)) (omega (arith, b, few)) (some_is _ _ q) in
+    decimal_injective (suc n) (suc m) (omega (arith, a, few)) (omega (arith, b, few)) (some_same _ _ q) in
     ap Numbered (omega (arith, same))
 
 -- two lines about a schema with the same bytes are one

@@ -1,4 +1,4 @@
--- A plain tree, which decides each edge and then each name, closes where there is no frozen dimension.
+-- A plain tree, which decides each edge and then each name, closes if there is no frozen dimension.
 --     Ends              some lines close all that is open
 --     HasTree           some lines close a place, whatever else is open
 --     edge_tree         two trees are one below the line of an edge
@@ -8,19 +8,18 @@
 use Rattle.std.proofs.Common.{◌≡◌, ℕ, zero, suc, ◌+◌, ◌<◌, ◌≤◌, List, [], ◌∷◌, ◌++◌, length, map, Bool, true, false, cond, Some, None, refl, ap, sym, subst, ◌∙◌, inl, inr, arith}
 use Rattle.std.specs.Prelude.{AllPairs, Contains, ◌==◌, ◌≢◌, not}
 use Rattle.std.specs.List.{list_any, range_with_len}
-use Rattle.std.proofs.lemmas.Bool.{ne_eqb}
+use Rattle.std.proofs.lemmas.Bool.{ne_eqb, eq-eqb}
 use Rattle.std.proofs.lemmas.List.{map_push}
 use Rattle.std.proofs.lemmas.List.Elements.{All-nil, All-push, Contains-get_or}
 use Rattle.std.proofs.lemmas.List.Quantifiers.{all_pairs_push}
 use native.Mathlib.Decide.{ℕ_discrete}
 use Rattle.olap_base.specs.Deciding.{contains_cases, contains_cons}
 use Rattle.olap_base.specs.Graph.{Edge, Graph, HasEdge, IsBottom, IsCategory, IsDeclared, IsHierarchy}
-use Rattle.olap_base.proofs.ListLemmas.{Contains-from_filter, Contains-from_range, Contains-from_range_at, Contains-nil, contains_head}
+use Rattle.olap_base.proofs.ListLemmas.{Contains-from_filter, Contains-from_range, Contains-from_range_at, Contains-nil, contains_head, list_any_is}
 use Rattle.olap_ast.specs.Formula.{Formula}
 use Rattle.olap_ast.specs.Frozen.{AreCandidates, Candidates, Frozen, IsFrozen}
 use Rattle.olap_ast.specs.Schema.{Schema}
 use Rattle.olap_ast.specs.Summarizable.{not_by_one}
-use Rattle.olap_ast.proofs.Shape.{is_same, list_any_is}
 use Rattle.olap_ast.proofs.Summing.{summarizable_exactly}
 use Rattle.olap_trail.specs.Decisions.{AreDecisions, Decision, status_in}
 use Rattle.olap_proof.specs.declared.forms.Form.{Form}
@@ -39,7 +38,7 @@ use Rattle.olap_proof.proofs.ReasonLemmas.{closing}
 -- the new one is told, where there was none
 pub status_new : (ds : List Decision) (e : ℕ) (b : Bool) → status_in ds e ≡ None
     → status_in (ds ++ (record { edge = e; present = b }) ∷ []) e ≡ Some b
-status_new [] e b h = ap (λ t. cond t (Some b) None) (is_same e e refl)
+status_new [] e b h = ap (λ t. cond t (Some b) None) (eq-eqb e e refl)
 status_new (d ∷ ds) e b h = go (d.edge == e) refl h (status_new ds e b)
   where
     go : (t : Bool) → d.edge == e ≡ t → cond t (Some d.present) (status_in ds e) ≡ None
@@ -62,7 +61,7 @@ undecided_new [] e h c = Contains-nil e c
 undecided_new (d ∷ ds) e h c = elim (contains_cases e d.edge (map (λ (d : Decision). d.edge) ds) c) [
   | inl q ↦
       let z : cond true (Some d.present) (status_in ds e) ≡ None =
-      ap (λ t. cond t (Some d.present) (status_in ds e)) (sym (is_same d.edge e q)) ∙ h in cc
+      ap (λ t. cond t (Some d.present) (status_in ds e)) (sym (eq-eqb d.edge e q)) ∙ h in cc
   | inr m ↦ undecided_new ds e (go (d.edge == e) h) m
 ]
   where
@@ -89,7 +88,7 @@ decisions_push g r ds e b a h u = record {
 -- the new one is told, where there was none
 pub index_new : (ns : List Naming) (c i : ℕ) → index_of ns c ≡ None
     → index_of (ns ++ (record { category = c; index = i }) ∷ []) c ≡ Some i
-index_new [] c i h = ap (λ b. cond b (Some i) None) (is_same c c refl)
+index_new [] c i h = ap (λ b. cond b (Some i) None) (eq-eqb c c refl)
 index_new (n ∷ ns) c i h = go (n.category == c) refl h (index_new ns c i)
   where
     go : (b : Bool) → n.category == c ≡ b → cond b (Some n.index) (index_of ns c) ≡ None
@@ -260,7 +259,7 @@ listed_bottom g b c =
     none : (d : ℕ) → HasEdge g d b → not (list_any (λ (e : Edge). e.parent == b) g.edges) ≡ true → ⊥
     none d h t =
         let w : list_any (λ (e : Edge). e.parent == b) g.edges ≡ true =
-        (list_any_is (λ (e : Edge). e.parent == b) g.edges).1 (record { child = d; parent = b }, h, is_same b b refl) in
+        (list_any_is (λ (e : Edge). e.parent == b) g.edges).1 (record { child = d; parent = b }, h, eq-eqb b b refl) in
         let z : not true ≡ true = ap not (sym w) ∙ t in cc
 
 module _ (t : Form) (s : Schema) (q : Formula) (k : Candidates) (hier : IsHierarchy s.graph) (are : AreCandidates s q k)

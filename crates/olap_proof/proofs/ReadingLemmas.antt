@@ -1,11 +1,11 @@
--- A line's first word and what stands behind it.
---     joined          a word with what stands behind it
+-- A line's first word and what stands after it.
+--     joined          a word with what stands after it
 --     line_joined     a line is that
 --     joined_once     in one way only
 --     words_differ    two words have different bytes
 --     all_words       what holds of each word that is tried holds of each word
 --     word_unread     bytes whose first word is none are no line
---     line_read       bytes are the line of their first word and what stands behind it
+--     line_read       bytes are the line of their first word and what stands after it
 use Rattle.std.proofs.Common.{◌≡◌, ℕ, ◌<◌, ◌++◌, List, [], ◌∷◌, arith, get_or, length, true, false, cond, Option, Some, None, refl, ap, sym, ◌∙◌, Bor}
 use Rattle.std.specs.Prelude.{Contains, IfSome, IsNone, ◌==◌, ◌≢◌}
 use Rattle.std.specs.Option.{option_map}
@@ -20,12 +20,12 @@ use Rattle.olap_proof.specs.declared.lines.Line as program
 use Rattle.olap_proof.specs.Reading.{IsLineOf, IsReading, first_of, meaning, rest_of, word_at, word_text}
 use Rattle.olap_proof.proofs.LineLemmas.{parted, unparted}
 
--- a word with what stands behind it
+-- a word with what stands after it
 abbrev pub joined : List ℕ → Option (List ℕ) → List ℕ
 joined w None = w
 joined w (Some rest) = words w rest
 
--- a line is its first word with what stands behind it
+-- a line is its first word with what stands after it
 pub line_joined : (g : Graph) (l : Line) → joined (word_text (first_of l)) (rest_of g l) ≡ line_text g l
 line_joined g (EdgeOrNot e) = refl
 line_joined g (NameOf c) = refl
@@ -135,7 +135,7 @@ pub word_unread : (s : Schema) (bytes first : List ℕ) (rest : Option (List ℕ
     → joined first rest ≡ bytes → ((w : Word) → word_text w ≡ first → ⊥) → IsLineOf s bytes None
 word_unread s bytes first rest n j none = λ l a e. none (first_of l) (line_cut s.graph l bytes first rest n j e).0
 
--- bytes are the line of their first word and what stands behind it
+-- bytes are the line of their first word and what stands after it
 pub line_read : (s : Schema) (bytes first : List ℕ) (rest : Option (List ℕ)) (w : Word) (r : Option program.Line)
     → (Contains first 32 → ⊥) → joined first rest ≡ bytes → word_text w ≡ first → IsReading s w rest r
     → IsLineOf s bytes r

@@ -24,13 +24,13 @@ abbrev first_open : List Open → Open
 first_open [] = Head
 first_open (o ∷ os) = o
 
--- what is open behind it
+-- what is open after it
 abbrev later_open : List Open → List Open
 later_open [] = []
 later_open (o ∷ os) = os
 
 module _ (f : Form) (k : Candidates) where
-  -- behind the first line the bottom category is open
+  -- after the first line the bottom category is open
   opened : (lines : List (List ℕ)) → IsCertificate f chain city_not_by_store k (head_text f ∷ lines)
       → Runs f chain city_not_by_store k lines (Bottom 1 ∷ []) []
   opened lines run = go (first_step f chain city_not_by_store k run (head_text f) lines refl)

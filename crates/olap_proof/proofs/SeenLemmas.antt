@@ -2,15 +2,13 @@
 --     possible_seen, seen_possible    those that weren't decided absent
 --     leading_seen                    those that were decided present, and ways that are there
 --     seen_present, seen_way          and each of these is known to be there
---     alone                           what a list of one has
-use Rattle.std.proofs.Common.{◌≡◌, ℕ, ◌<◌, ◌⊎◌, List, [], ◌∷◌, length, map, false, true, ap, refl, sym, subst, ◌∙◌, inl, inr}
+use Rattle.std.proofs.Common.{◌≡◌, ℕ, ◌<◌, ◌⊎◌, List, [], length, map, false, true, ap, refl, sym, subst, ◌∙◌, inl, inr}
 use Rattle.std.specs.Prelude.{Contains, filter}
 use Rattle.std.specs.List.{range_with_len}
 use Rattle.std.proofs.lemmas.List.{get_or_default}
 use Rattle.std.proofs.lemmas.List.Elements.{Contains-append_cases, Contains-append_left, Contains-append_right, Contains-get_or}
-use Rattle.olap_base.specs.Deciding.{contains_cases}
 use Rattle.olap_base.specs.Graph.{Edge, HasEdge}
-use Rattle.olap_base.proofs.ListLemmas.{Contains-nil, Contains-filter, Contains-from_filter, Contains-from_map, Contains-from_range, Contains-map, Contains-range}
+use Rattle.olap_base.proofs.ListLemmas.{Contains-filter, Contains-from_filter, Contains-from_map, Contains-from_range, Contains-map, Contains-range}
 use Rattle.olap_graph.specs.Lookups.{edge_at}
 use Rattle.olap_trail.specs.Decisions.{AreDecisions, Decided, Decision, present_edges, status_of}
 use Rattle.olap_trail.specs.Trails.{decision_of, decisions_of}
@@ -19,10 +17,6 @@ use Rattle.olap_proof.specs.KeptWays.{leading_way}
 use Rattle.olap_proof.specs.Places.{Place, Way, edge_of_way, leading_graph, possible_graph}
 use Rattle.olap_proof.specs.Seen.{is_possible, LeadsHere, SeenDecisions, SeenPossible, decision_at}
 use Rattle.olap_proof.proofs.KeptWayLemmas.{whole}
-
--- what a list of one has is that one
-pub alone : {A : Type 0} (x y : A) → Contains (x ∷ []) y → x ≡ y
-alone x y c = elim (contains_cases y x [] c) [ inl e ↦ e | inr n ↦ absurd (Contains-nil y n) ]
 
 -- ---- edges that weren't decided absent
 

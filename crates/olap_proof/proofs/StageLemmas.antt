@@ -25,13 +25,12 @@ use Rattle.olap_proof.specs.Asking.{names_in, question_in, schema_in}
 use Rattle.olap_proof.specs.Certificates.{IsCertificateText, IsFirstWrong, Open, Open.At, Open.Bottom, Open.Head, Runs, Runs.more, Runs.none, Steps, Steps.begins, Steps.roots, bottom_text, bottoms_of, head_text, lines_text, start}
 use Rattle.olap_proof.specs.Places.{Place}
 use Rattle.olap_proof.specs.Stages.{IsReached, IsStage, RunsFor, StepsTo, bottoms_from, has_no_child, open_at}
-use Rattle.olap_proof.specs.Verifying.{IsWrongAt}
 use Rattle.olap_proof.proofs.CertificateLemmas.{bottom_listed}
 use Rattle.olap_proof.proofs.LineLemmas.{parted}
 use Rattle.olap_proof.proofs.PlainLineLemmas.{step_whole}
 use Rattle.olap_proof.proofs.PlainTreeLemmas.{listed_bottom}
 use Rattle.olap_proof.proofs.StepLemmas.{FirstStep, FirstStep.first, first_step, step_bottom, step_head}
-use Rattle.olap_proof.proofs.TallyLemmas.{false_from}
+use Rattle.std.proofs.lemmas.Bool.{false_from_ne_true}
 
 -- ---- bottom categories
 
@@ -53,7 +52,7 @@ bottoms_here g n l b = bottoms_by g n true l
 pub bottoms_skip : (g : Graph) (n : ℕ) → 1 ≤ n → n < category_count g → (IsBottom g n → ⊥)
     → bottoms_from g n ≡ bottoms_from g (n + 1)
 bottoms_skip g n low l h =
-    bottoms_by g n false l (false_from (has_no_child g n) (λ t. h (listed_bottom g n
+    bottoms_by g n false l (false_from_ne_true (has_no_child g n) (λ t. h (listed_bottom g n
     (Contains-filter (has_no_child g) (range_with_len 1 (length g.names)) n t
     (Contains-range_at 1 (length g.names) n low (omega (arith, l)))))))
 
@@ -136,7 +135,7 @@ module _ (f : Form) (s : Schema) (q : Formula) (k : Candidates) where
 
 -- ---- a text
 
--- so many lines led to what is open there; they are no more than the bytes that were read
+-- this many lines led to what is open there; they are no more than the bytes that were read
 pub record IsRead (f : Form) (a : Asked) (text rest : List ℕ) (count : ℕ) (there : Stage) : Type 0 where
   pub reached : IsReached f a text rest count (open_at a there)
   pub stage : IsStage a there
@@ -168,13 +167,13 @@ module _ (f : Form) (a : Asked) where
   pub wrong_here : (text rest line others : List ℕ) (count : ℕ) (from : Stage) → IsHierarchy a.graph.now
       → length (schema_in a).constraints < 2 ^ 64 → IsReached f a text rest count (open_at a from)
       → rest ≡ line ++ 10 ∷ others → (Contains line 10 → ⊥) → StepsTo f a from line None
-      → IsFirstWrong f (schema_in a) (question_in a) (names_in a) text count
+      → IsFirstWrong f (schema_in a) (question_in a) (names_in a) text (count + 1)
   wrong_here text rest line others count from h few r e whole nothing = record {
     lines = r.lines;
     rest = rest;
     open_there = open_at a from;
     parts = r.parts;
-    counted = r.counted;
+    counted = ap (λ n. n + 1) (sym r.counted);
     run = r.run;
     too_early = λ z. absurd (not_empty line others (sym e ∙ z));
     stuck = λ l more left i run.
@@ -187,13 +186,13 @@ module _ (f : Form) (a : Asked) where
   -- no line is left, and the text is not at its end, or something is open
   wrong_end : (text rest : List ℕ) (count : ℕ) (from : Stage) → IsReached f a text rest count (open_at a from)
       → (Contains rest 10 → ⊥) → (rest ≡ [] → open_at a from ≢ [])
-      → IsFirstWrong f (schema_in a) (question_in a) (names_in a) text count
+      → IsFirstWrong f (schema_in a) (question_in a) (names_in a) text (count + 1)
   wrong_end text rest count from r whole early = record {
     lines = r.lines;
     rest = rest;
     open_there = open_at a from;
     parts = r.parts;
-    counted = r.counted;
+    counted = ap (λ n. n + 1) (sym r.counted);
     run = r.run;
     too_early = early;
     stuck = λ l more left i run. whole (subst (λ x. Contains x 10) (sym i)
@@ -204,10 +203,11 @@ module _ (f : Form) (a : Asked) where
   pub wrong_after : (text rest : List ℕ) (count : ℕ) (from : Stage) (o : Option ℕ)
       → IsReached f a text rest count (open_at a from) → (Contains rest 10 → ⊥)
       → IfSome o (λ line. (line ≡ count + 1) × ((rest ≡ []) × (open_at a from ≡ []) → ⊥))
-      → IfSome o (IsWrongAt f (schema_in a) (question_in a) (names_in a) text)
+      → IfSome o (IsFirstWrong f (schema_in a) (question_in a) (names_in a) text)
   wrong_after text rest count from None r whole h = tt
   wrong_after text rest count from (Some line) r whole h =
-      (count, h.0, wrong_end text rest count from r whole (λ e o. h.1 (e, o)))
+      subst (IsFirstWrong f (schema_in a) (question_in a) (names_in a) text) (sym h.0)
+      (wrong_end text rest count from r whole (λ e o. h.1 (e, o)))
 
   -- the text is at its end, and nothing is open
   pub right_end : (text rest : List ℕ) (count : ℕ) (from : Stage) → IsReached f a text rest count (open_at a from)

@@ -14,7 +14,6 @@ use Rattle.olap_base.specs.Graph.{CategoryReaches, Edge, Graph, HasEdge, IsCateg
 use Rattle.olap_base.specs.Reaching.{category_reaches, category_reaches_is}
 use Rattle.olap_base.specs.Steps.{Steps, Steps.here, Steps.step, Steps-from_reaches}
 use Rattle.olap_base.proofs.ListLemmas.{Contains-from_filter, Contains-from_map, list_any_is, same_truth}
-use Rattle.olap_ast.proofs.Shape.{either_true, is_same, same_is}
 use Rattle.olap_graph.specs.Lookups.{edge_at, edge_between}
 use Rattle.olap_names.specs.Names.{Named}
 use Rattle.olap_trail.specs.Decisions.{Decided, Decision, present_edges}
@@ -23,8 +22,10 @@ use Rattle.olap_proof.specs.Walking.{IsWalk}
 use Rattle.olap_proof.specs.Within.{IsWithin}
 use Rattle.olap_base.specs.declared.ids.EdgeId.{EdgeId}
 use Rattle.olap_proof.proofs.AgreeingLemmas.{index_some}
-use Rattle.olap_proof.proofs.LineLemmas.{edge_is, edge_there}
+use Rattle.olap_proof.proofs.LineLemmas.{edge_is}
 use Rattle.olap_proof.proofs.SeenLemmas.{possible_seen}
+use Rattle.olap_graph.proofs.TableLemmas.{has_edge_at}
+use Rattle.std.proofs.lemmas.Bool.{or_cases, eqb-true, eq-eqb}
 
 -- a look at a walk's set says what is reached
 pub walk_test : (g : Graph) (a : ℕ) (s : FinSet nat_cmp) (b : ℕ) → IsWalk g a s → contains s b ≡ category_reaches g a b
@@ -43,7 +44,7 @@ leading_within g k p h w e c = elim (Contains-append_cases (present_edges p.deci
           let inside : m.0.edge < length g.edges =
           subst (λ (d : Decision). d.edge < length g.edges) u.2 (w.edges u.0 m.0 u.1) in
           let ends =
-          h.categories (edge_at g m.0.edge).child (edge_at g m.0.edge).parent (edge_there g m.0.edge inside) in
+          h.categories (edge_at g m.0.edge).child (edge_at g m.0.edge).parent (has_edge_at g m.0.edge inside) in
           let same : edge_at g m.0.edge ≡ e = ap (λ (x : Graph). edge_at x m.0.edge) (sym w.graph) ∙ m.2 in
           subst (λ (x : Edge). IsCategory g x.child × IsCategory g x.parent) same ends
       | inr a ↦
@@ -55,15 +56,15 @@ leading_within g k p h w e c = elim (Contains-append_cases (present_edges p.deci
 -- what is known to have a member is a category
 pub known_category : (g : Graph) (k : Named) (p : Place) → IsHierarchy g → IsWithin g k p → (c : ℕ)
     → is_known p c ≡ true → IsCategory g c
-known_category g k p h w c t = elim (either_true (c == p.decided.root)
+known_category g k p h w c t = elim (or_cases (c == p.decided.root)
     (list_any (λ (e : Edge). (e.child == c) || (e.parent == c)) (leading_edges p)) t) [
-      | inl a ↦ subst (λ x. IsCategory g x) (sym (same_is c p.decided.root a)) w.root
+      | inl a ↦ subst (λ x. IsCategory g x) (sym (eqb-true c p.decided.root a)) w.root
       | inr a ↦
           let f = (list_any_is (λ (e : Edge). (e.child == c) || (e.parent == c)) (leading_edges p)).0 a in
           let ends = leading_within g k p h w f.0 f.1 in
-          elim (either_true (f.0.child == c) (f.0.parent == c) f.2) [
-            | inl b ↦ subst (λ x. IsCategory g x) (same_is f.0.child c b) ends.0
-            | inr b ↦ subst (λ x. IsCategory g x) (same_is f.0.parent c b) ends.1
+          elim (or_cases (f.0.child == c) (f.0.parent == c) f.2) [
+            | inl b ↦ subst (λ x. IsCategory g x) (eqb-true f.0.child c b) ends.0
+            | inr b ↦ subst (λ x. IsCategory g x) (eqb-true f.0.parent c b) ends.1
           ]
     ]
 
@@ -71,14 +72,14 @@ known_category g k p h w c t = elim (either_true (c == p.decided.root)
 pub no_way_out : (g : Graph) (t : Decided) → IsHierarchy g → t.graph ≡ g → (c d : ℕ) → (IsCategory g c → ⊥)
     → c == d ≡ category_reaches (possible_graph t) c d
 no_way_out g t h e c d out = same_truth (c == d) (category_reaches (possible_graph t) c d)
-    (λ s. (category_reaches_is (possible_graph t) c d).1 (inl (same_is c d s)))
-    (λ r. is_same c d (stays (Steps-from_reaches ((category_reaches_is (possible_graph t) c d).0 r)) out))
+    (λ s. (category_reaches_is (possible_graph t) c d).1 (inl (eqb-true c d s)))
+    (λ r. eq-eqb c d (stays (Steps-from_reaches ((category_reaches_is (possible_graph t) c d).0 r)) out))
   where
     stays : {a b : ℕ} → Steps (HasEdge (possible_graph t)) a b → (IsCategory g a → ⊥) → a ≡ b
     stays here n = refl
     stays (step {x = a} {y = b} j w) n =
         let s = possible_seen t a b j in
-        let there = edge_there t.graph s.0 s.1 in
+        let there = has_edge_at t.graph s.0 s.1 in
         let ends = h.categories (edge_at t.graph s.0).child (edge_at t.graph s.0).parent
         (subst (λ (x : Graph). HasEdge x (edge_at t.graph s.0).child (edge_at t.graph s.0).parent) e there) in
         absurd (n (subst (λ x. IsCategory g x) s.3 ends.0))
@@ -93,7 +94,7 @@ no_edge_out g t h e c d out = go (edge_between t.graph c d) refl
     go (Some i) q =
         let r : Option EdgeId = Some (record { 0 = i }) in
         let s = edge_is t.graph c d r (sym q) in
-        let there = subst (λ (x : Edge). HasEdge t.graph x.child x.parent) s.1 (edge_there t.graph i s.0) in
+        let there = subst (λ (x : Edge). HasEdge t.graph x.child x.parent) s.1 (has_edge_at t.graph i s.0) in
         absurd (out (h.categories c d (subst (λ (x : Graph). HasEdge x c d) e there)).0)
 
 -- a name that was decided is one of the category's

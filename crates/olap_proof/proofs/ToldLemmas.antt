@@ -15,8 +15,7 @@ use Rattle.olap_ast.specs.declared.three_values.Truth3.TheVariants.{No, Yes, Unk
 use Rattle.olap_eval.specs.Partial.{Agrees as Tells, Knowledge, value_along, value_at, values_of}
 use Rattle.olap_numerals.specs.Comparing.{Op}
 use Rattle.olap_proof.specs.declared.forms.Form.{Form}
-use Rattle.olap_proof.specs.Lines.{IsUnmet}
-use Rattle.olap_proof.specs.Closing.{IsUnmetAt}
+use Rattle.olap_proof.specs.Closing.{IsUnmet, IsUnmetAt}
 use Rattle.olap_proof.specs.Places.{Place}
 
 -- ---- values that aren't unknown

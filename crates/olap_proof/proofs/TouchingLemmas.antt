@@ -11,7 +11,6 @@ use Rattle.std.specs.List.{list_any}
 use Rattle.std.specs.Ordering.{nat_cmp}
 use Rattle.olap_base.specs.Graph.{Edge, HasEdge}
 use Rattle.olap_base.proofs.ListLemmas.{list_any_is}
-use Rattle.olap_ast.proofs.Shape.{either_true, is_same, same_is}
 use Rattle.olap_bits.proofs.CatSetLemmas.{in_insert}
 use Rattle.olap_graph.specs.Lookups.{edge_at}
 use Rattle.olap_graph.proofs.RowLemmas.{has_union}
@@ -22,17 +21,18 @@ use Rattle.olap_proof.specs.Seen.{LeadsHere, TouchedByDecisions, decision_at}
 use Rattle.olap_proof.specs.Walking.{IsIn, IsTouched, IsTouchedFrom, TouchedFrom, TouchedUpTo}
 use Rattle.olap_proof.proofs.SeenLemmas.{leading_seen, seen_present, seen_way}
 use Rattle.olap_proof.proofs.WalkingLemmas.{false_true}
+use Rattle.std.proofs.lemmas.Bool.{or_cases, eqb-true, eq-eqb}
 
 -- what is in a set after a number is put in
 pub put_in : (s : FinSet nat_cmp) (k x : ℕ) → IsIn (insert s k) x ↔ (IsIn s x ⊎ (k ≡ x))
 put_in s k x = (
-  λ h. elim (either_true (eqb x k) (contains s x) (sym (in_insert s k x) ∙ h)) [
-    | inl a ↦ inr (sym (same_is x k a))
+  λ h. elim (or_cases (eqb x k) (contains s x) (sym (in_insert s k x) ∙ h)) [
+    | inl a ↦ inr (sym (eqb-true x k a))
     | inr a ↦ inl a
   ],
   λ h. in_insert s k x ∙ (elim h [
     | inl a ↦ later (eqb x k) (contains s x) a
-    | inr a ↦ ap (λ b. b || contains s x) (is_same x k (sym a))
+    | inr a ↦ ap (λ b. b || contains s x) (eq-eqb x k (sym a))
   ]),
 )
   where
@@ -99,7 +99,7 @@ touched_at_first takes child parent s x = (
 
 -- ---- what leads from a category
 
--- it and those were added, where there are some
+-- it and those were added, if there are some
 pub touched_some : (old to new : FinSet nat_cmp) (c d : ℕ) → new ≡ union (insert old c) to → IsIn to d
     → IsTouchedFrom old c to new
 touched_some old to new c d e m = λ x. (
@@ -172,8 +172,8 @@ end_of p c d x h end = later (x == p.decided.root)
       record { child = c; parent = d },
       h,
       elim end [
-        | inl a ↦ ap (λ b. b || (d == x)) (is_same c x a)
-        | inr a ↦ later (c == x) (d == x) (is_same d x a)
+        | inl a ↦ ap (λ b. b || (d == x)) (eq-eqb c x a)
+        | inr a ↦ later (c == x) (d == x) (eq-eqb d x a)
       ],
     ))
   where
@@ -194,23 +194,23 @@ known_is p ds n listed within first mid new begun byDecisions byWays x = (
       | inl b ↦ elim ((put_in empty p.decided.root x).0 (subst (λ s. IsIn s x) begun b)) [
         | inl c ↦ absurd (false_true (contains {R = nat_cmp} empty x) (contains-empty nat_cmp x) c)
         | inr c ↦ ap (λ t. t || list_any (λ (e : Edge). (e.child == x) || (e.parent == x)) (leading_edges p))
-            (is_same x p.decided.root (sym c))
+            (eq-eqb x p.decided.root (sym c))
       ]
       | inr b ↦ end_of p (edge_at p.decided.graph (decision_at ds b.0).edge.0).child
           (edge_at p.decided.graph (decision_at ds b.0).edge.0).parent x (seen_present p ds listed b.0 b.1 b.2) b.3
     ]
     | inr a ↦ end_of p a.0 a.1 x (seen_way p a.0 a.1 a.3) a.4
   ],
-  λ h. elim (either_true (x == p.decided.root)
+  λ h. elim (or_cases (x == p.decided.root)
       (list_any (λ (e : Edge). (e.child == x) || (e.parent == x)) (leading_edges p)) h) [
         | inl a ↦ (byWays x).1 (inl ((byDecisions x).1 (inl (subst (λ s. IsIn s x) (sym begun)
-            ((put_in empty p.decided.root x).1 (inr (sym (same_is x p.decided.root a))))))))
+            ((put_in empty p.decided.root x).1 (inr (sym (eqb-true x p.decided.root a))))))))
         | inr a ↦ found ((list_any_is (λ (e : Edge). (e.child == x) || (e.parent == x)) (leading_edges p)).0 a)
       ],
 )
   where
     ends : (c d : ℕ) → (c == x) || (d == x) ≡ true → (c ≡ x) ⊎ (d ≡ x)
-    ends c d e = elim (either_true (c == x) (d == x) e) [ inl a ↦ inl (same_is c x a) | inr a ↦ inr (same_is d x a) ]
+    ends c d e = elim (or_cases (c == x) (d == x) e) [ inl a ↦ inl (eqb-true c x a) | inr a ↦ inr (eqb-true d x a) ]
 
     moved : {c d a b : ℕ} → a ≡ c → b ≡ d → (c ≡ x) ⊎ (d ≡ x) → (a ≡ x) ⊎ (b ≡ x)
     moved p q (inl e) = inl (p ∙ e)

@@ -1,5 +1,5 @@
 -- Trees, line by line, as the bytes that are appended.
---     adds_none, adds_more    nothing, and some behind others
+--     adds_none, adds_more    nothing, and some after others
 --     adds_leaf               a line that closes a place
 --     adds_edge               an edge's line, with the trees below it
 --     adds_names              a category's line, with those below it
@@ -33,8 +33,9 @@ use Rattle.olap_proof.specs.Within.{IsWithin}
 use Rattle.olap_proof.proofs.AgreeingLemmas.{index_some}
 use Rattle.olap_proof.proofs.ClosingLemmas.{full_places_close}
 use Rattle.olap_proof.proofs.PlainTreeLemmas.{decisions_push, index_new, index_other, status_new, status_other}
-use Rattle.olap_proof.proofs.TallyLemmas.{tally, tally_more}
+use Rattle.olap_proof.proofs.TallyLemmas.{tally}
 use Rattle.olap_proof.proofs.ReasonLemmas.{closing}
+use Rattle.olap_base.proofs.AboveLemmas.{tally-lt}
 
 -- ---- lines
 
@@ -177,7 +178,7 @@ open_names p = tally (λ c. is_none (index_of p.namings c)) (range_with_len 0 (c
 pub fewer_edges : (p : Place) (e : ℕ) (b : Bool) → e < length p.decided.graph.edges → status_of p.decided e ≡ None
     → open_edges (with_edge p e b) < open_edges p
 fewer_edges p e b h u =
-    tally_more (λ x. is_none (status_of (with_edge p e b).decided x)) (λ x. is_none (status_of p.decided x))
+    tally-lt (λ x. is_none (status_of (with_edge p e b).decided x)) (λ x. is_none (status_of p.decided x))
     (range_with_len 0 (length p.decided.graph.edges)) kept e (Contains-range (length p.decided.graph.edges) e h)
     (ap is_none (status_new p.decided.decisions e b u)) (ap is_none u)
   where
@@ -191,7 +192,7 @@ fewer_edges p e b h u =
 pub fewer_names : (p : Place) (c i : ℕ) → IsCategory p.decided.graph c → index_of p.namings c ≡ None
     → open_names (with_name p c i) < open_names p
 fewer_names p c i h u =
-    tally_more (λ x. is_none (index_of (with_name p c i).namings x)) (λ x. is_none (index_of p.namings x))
+    tally-lt (λ x. is_none (index_of (with_name p c i).namings x)) (λ x. is_none (index_of p.namings x))
     (range_with_len 0 (category_count p.decided.graph)) kept c (Contains-range (category_count p.decided.graph) c h)
     (ap is_none (index_new p.namings c i u)) (ap is_none u)
   where

@@ -4,8 +4,7 @@ use Rattle.std.proofs.Common.{◌↔◌, ℕ, zero, suc, ◌<◌, List, [], ◌�
 use Rattle.olap_ast.specs.Frozen.{Candidates}
 use Rattle.olap_ast.specs.Schema.{Constraint}
 use Rattle.olap_proof.specs.declared.forms.Form.{Form}
-use Rattle.olap_proof.specs.Lines.{IsUnmet}
-use Rattle.olap_proof.specs.Closing.{IsUnmetAt}
+use Rattle.olap_proof.specs.Closing.{IsUnmet, IsUnmetAt}
 use Rattle.olap_proof.specs.Places.{Place}
 
 -- it is the one that stands there

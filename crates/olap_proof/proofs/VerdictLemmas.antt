@@ -1,7 +1,7 @@
 -- A text has one first wrong line, or none and is a certificate.
 --     steps_once       a line does one thing
 --     Behind           one run of lines goes on where another has ended
---     one_behind       of two runs over one text, one is behind the other
+--     one_behind       of two runs over one text, one is after the other
 --     verdicts_are_one
 use Rattle.std.proofs.Common.{◌≡◌, ◌⊎◌, ◌∙◌, ℕ, ◌+◌, ◌<◌, ◌^◌, List, [], ◌∷◌, ◌++◌, length, inl, inr, refl, ap, sym, subst, arith}
 use Rattle.std.proofs.lemmas.List.{append_assoc, append-nil}
@@ -113,7 +113,7 @@ module _ (f : Form) (s : Schema) (q : Formula) (k : Candidates) (hier : IsHierar
   -- ---- the verdict
 
   module _ (text : List ℕ) where
-    -- no line is behind the first wrong one
+    -- no line is after the first wrong one
     none_behind : (n : ℕ) (w : IsFirstWrong f s q k text n) (ys : List (List ℕ)) (b : List Open) (t : List ℕ)
         → (h : Behind w.lines ys w.open_there b w.rest t) → h.lines ≡ []
     none_behind n w ys b t h = go h.lines h.run h.rest
@@ -162,14 +162,10 @@ module _ (f : Form) (s : Schema) (q : Formula) (k : Candidates) (hier : IsHierar
 -- the theorem: of two runs over one text neither can end where the other goes on
 pub verdicts_are_one : VerdictsAreOne
 verdicts_are_one f s q text hier few = (
-  λ line w t. none_wrong f s q t.0 hier few text w.2.0 (wrong_too w.0 t.0 w.2.0 w.1 t.1 w.2.2) t.2,
-  λ line other v w.
-      v.2.1
-      ∙ ap (λ n. n + 1)
-      (one_wrong f s q v.0 hier few text v.2.0 w.2.0 v.2.2 (wrong_too w.0 v.0 w.2.0 w.1 v.1 w.2.2))
-      ∙ sym w.2.1,
+  λ line w t. none_wrong f s q t.0 hier few text line (wrong_too w.0 t.0 line w.1 t.1 w.2) t.2,
+  λ line other v w. one_wrong f s q v.0 hier few text line other v.2 (wrong_too w.0 v.0 other w.1 v.1 w.2),
 )
   where
-    wrong_too : (k h : Candidates) (count : ℕ) → AreCandidates s q k → AreCandidates s q h
-        → IsFirstWrong f s q k text count → IsFirstWrong f s q h text count
-    wrong_too k h count a b w = wrong_alike f s q k h text count (alike s q k h a b) w
+    wrong_too : (k h : Candidates) (line : ℕ) → AreCandidates s q k → AreCandidates s q h
+        → IsFirstWrong f s q k text line → IsFirstWrong f s q h text line
+    wrong_too k h line a b w = wrong_alike f s q k h text line (alike s q k h a b) w

@@ -18,33 +18,28 @@ use Rattle.std.specs.FinSet.{FinSet, contains, contains-difference, contains-emp
 use Rattle.std.specs.Ordering.{nat_cmp}
 use Rattle.olap_base.specs.Graph.{CategoryReaches, Graph, HasEdge}
 use Rattle.olap_base.specs.Steps.{Steps, Steps.here, Steps.step, Steps-append, Steps-from_reaches, reaches_from_Steps}
-use Rattle.olap_base.proofs.ListLemmas.{both_true, first_true, second_true}
+use Rattle.olap_base.proofs.ListLemmas.{first_true, second_true}
 use Rattle.olap_bits.proofs.CatSetLemmas.{in_insert}
 use Rattle.olap_graph.proofs.RowLemmas.{has_union}
-use Rattle.olap_ast.proofs.Shape.{either_true, is_same, same_is}
 use Rattle.olap_proof.specs.Walking.{Grows, IsAdded, IsAddedFrom, IsIn, IsWalk, SeenFrom, SeenUpTo}
+use Rattle.std.proofs.lemmas.Bool.{not-true, or_parts, or_cases, and_from, eqb-true, eq-eqb}
 
 -- nothing is both false and true
 pub false_true : (b : Bool) → b ≡ false → b ≡ true → ⊥
 false_true b p q = let z : false ≡ true = sym p ∙ q in cc
-
--- what is turned to true is false
-pub not_true : (b : Bool) → not b ≡ true → b ≡ false
-not_true true h = sym h
-not_true false h = refl
 
 -- where an edge joins them, c is in the set and d isn't, d is added
 pub added_is : (old new : FinSet nat_cmp) (joins : Bool) (c d : ℕ) (grew : Bool) → new ≡ insert old d → joins ≡ true
     → contains old c ≡ true → contains old d ≡ false → IsAdded old joins c d grew new true
 added_is old new joins c d grew e j there absent = record {
   kept = λ x h. subst (λ s. IsIn s x) (sym e) (in_insert old d x ∙ either (eqb x d) (contains old x) h);
-  only = λ x h. elim (either_true (eqb x d) (contains old x) (sym (in_insert old d x) ∙ subst (λ s. IsIn s x) e h)) [
-    | inl a ↦ inr (same_is x d a, there, j)
+  only = λ x h. elim (or_cases (eqb x d) (contains old x) (sym (in_insert old d x) ∙ subst (λ s. IsIn s x) e h)) [
+    | inl a ↦ inr (eqb-true x d a, there, j)
     | inr a ↦ inl a
   ];
   same = λ f. absurd (let z : true ≡ false = f in cc);
   more = λ t. inr (
-    subst (λ s. IsIn s d) (sym e) (in_insert old d d ∙ ap (λ b. b || contains old d) (is_same d d refl)),
+    subst (λ s. IsIn s d) (sym e) (in_insert old d d ∙ ap (λ b. b || contains old d) (eq-eqb d d refl)),
     λ h. false_true (contains old d) absent h,
   );
 }
@@ -73,11 +68,6 @@ grows_none g n Seen s none = record {
   closed = λ f c d i. absurd (none c d i);
   more = λ t. absurd (let z : false ≡ true = t in cc);
 }
-
--- where not one of two is so, neither is
-neither : (a b : Bool) → a || b ≡ false → (a ≡ false) × (b ≡ false)
-neither true b h = absurd (let z : true ≡ false = h in cc)
-neither false b h = (refl, h)
 
 -- and after one edge more
 pub grows_by : (g : Graph) (n : ℕ) (takes : ℕ → Bool) (child parent : ℕ → ℕ) (i : ℕ) (old mid new : FinSet nat_cmp)
@@ -142,7 +132,7 @@ one_left old to less x l m =
     let both : contains to x && not (contains old x) ≡ true =
     sym (contains-difference nat_cmp_total to old x) ∙ subst (λ s. IsIn s x) l m in (
       first_true (contains to x) (not (contains old x)) both,
-      false_true (contains old x) (not_true (contains old x) (second_true (contains to x) (not (contains old x)) both)),
+      false_true (contains old x) (not-true (contains old x) (second_true (contains to x) (not (contains old x)) both)),
     )
 
 -- and where nothing is left, all is in it
@@ -159,7 +149,7 @@ none_left old to less l e x m = go (contains old x) refl
     go true h = h
     go false h = absurd (
         let both : contains to x && not (contains old x) ≡ true =
-        both_true (contains to x) (not (contains old x)) m (ap not h) in
+        and_from (contains to x) (not (contains old x)) m (ap not h) in
         false_true (contains to x && not (contains old x)) nothing both)
 
 -- and after one category more
@@ -211,14 +201,14 @@ pub grows_then : (g : Graph) (n : ℕ) (Seen After : ℕ → ℕ → Type 0) (ol
 grows_then g n Seen After old mid new grew grows h k = record {
   kept = λ x i. k.kept x (h.kept x i);
   sound = λ a all x i. k.sound a (λ y j. h.sound a all y j) x i;
-  same = λ f. let b = neither grew grows f in k.same b.1 ∙ h.same b.0;
+  same = λ f. let b = or_parts grew grows f in k.same b.1 ∙ h.same b.0;
   closed = λ f x y now i.
-      let b = neither grew grows f in
+      let b = or_parts grew grows f in
       elim now [
         | inl s ↦ h.closed b.0 x y s i
         | inr s ↦ subst (λ z. IsIn z y) (h.same b.0) (k.closed b.1 x y s (subst (λ z. IsIn z x) (sym (h.same b.0)) i))
       ];
-  more = λ t. elim (either_true grew grows t) [
+  more = λ t. elim (or_cases grew grows t) [
     | inl b ↦ let w = h.more b in (w.0, w.1, k.kept w.0 w.2, w.3)
     | inr b ↦ let w = k.more b in (w.0, w.1, w.2, λ i. w.3 (h.kept w.0 i))
   ];
@@ -298,10 +288,10 @@ pub record IsOnWay (g : Graph) (a : ℕ) (s : FinSet nat_cmp) (grows : Bool) : T
 pub way_begins : (g : Graph) (a : ℕ) (s : FinSet nat_cmp) → s ≡ insert empty a → IsOnWay g a s true
 way_begins g a s e = record {
   from = subst (λ z. IsIn z a) (sym e)
-      (in_insert empty a a ∙ ap (λ b. b || contains {R = nat_cmp} empty a) (is_same a a refl));
-  reached = λ x i. elim (either_true (eqb x a) (contains {R = nat_cmp} empty x)
+      (in_insert empty a a ∙ ap (λ b. b || contains {R = nat_cmp} empty a) (eq-eqb a a refl));
+  reached = λ x i. elim (or_cases (eqb x a) (contains {R = nat_cmp} empty x)
       (sym (in_insert empty a x) ∙ subst (λ z. IsIn z x) e i)) [
-        | inl h ↦ inl (sym (same_is x a h))
+        | inl h ↦ inl (sym (eqb-true x a h))
         | inr h ↦ absurd (false_true (contains {R = nat_cmp} empty x) (contains-empty nat_cmp x) h)
       ];
   closed = λ f. absurd (let z : true ≡ false = f in cc);

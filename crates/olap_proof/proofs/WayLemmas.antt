@@ -19,11 +19,10 @@ use Rattle.olap_base.specs.Instance.{Instance, IsBelow}
 use Rattle.olap_base.specs.Reaching.{category_reaches, category_reaches_is}
 use Rattle.olap_base.specs.Steps.{Steps, Steps.here, Steps.step, Steps-append, Steps-from_reaches, reaches_from_Steps}
 use Rattle.olap_base.proofs.AboveLemmas.{reaches_all}
-use Rattle.olap_base.proofs.ListLemmas.{Contains-from_filter, Contains-from_map, contains_head}
+use Rattle.olap_base.proofs.ListLemmas.{Contains-from_filter, Contains-from_map, contains_head, list_any_is}
 use Rattle.olap_ast.specs.Formula.{Formula, Holds, IsNumbered}
 use Rattle.olap_ast.specs.Frozen.{Candidates, Frozen, IsFrozen, instance_of, is_present, name_in}
 use Rattle.olap_ast.specs.Schema.{Constraint, Schema}
-use Rattle.olap_ast.proofs.Shape.{either_true, list_any_is, same_is}
 use Rattle.olap_ast.specs.ThreeValues.{known}
 use Rattle.olap_ast.specs.declared.three_values.Truth3.TheVariants.{No, Yes, Unknown}
 use Rattle.olap_eval.specs.Partial.{Agrees as Tells, Completes, value_at}
@@ -38,11 +37,13 @@ use Rattle.olap_trail.specs.Decisions.{Decided, Decision, HoldsCycle, HoldsShort
 use Rattle.olap_proof.specs.declared.forms.Form.{Form}
 use Rattle.olap_proof.specs.declared.forms.Form.TheVariants.{Long, Short}
 use Rattle.olap_proof.specs.Places.{Naming, Place, Way, edge_of_way, is_known, is_top, knowledge, leading_edges, leading_graph, leads, name_of, possible_graph, truth_of_name, truth_of_reach, way_of}
-use Rattle.olap_proof.specs.Lines.{IsClash, IsDead, IsLoose, IsUnmet, IsUnreached, Line, Line.Asked, Line.Clash, Line.Cycle, Line.Dead, Line.EdgeOrNot, Line.Loose, Line.NameOf, Line.Shortcut, Line.Unmet, Line.Unreached, Line.WayOrNot}
-use Rattle.olap_proof.specs.Closing.{Closes, IsUnmetAt}
+use Rattle.olap_proof.specs.Lines.{Line, Line.Asked, Line.Clash, Line.Cycle, Line.Dead, Line.EdgeOrNot, Line.Loose, Line.NameOf, Line.Shortcut, Line.Unmet, Line.Unreached, Line.WayOrNot}
+use Rattle.olap_proof.specs.Closing.{Closes, IsClash, IsDead, IsLoose, IsUnmet, IsUnmetAt, IsUnreached}
 use Rattle.olap_proof.proofs.AgreeingLemmas as agreeing
 use Rattle.olap_proof.proofs.CycleLemmas.{cyclic_is, shortened_is}
-use Rattle.olap_proof.proofs.AgreeingLemmas.{Like, edge_from, edges_in, wider, wider_climb}
+use Rattle.olap_proof.proofs.AgreeingLemmas.{Like, edge_from, edges_in}
+use Rattle.std.proofs.lemmas.Bool.{or_cases, eqb-true}
+use Rattle.olap_base.proofs.StepLemmas.{wider}
 
 -- the decision that tells of a way
 pub way_some : (ws : List Way) (a b : ℕ) (t : Bool) → way_of ws a b ≡ Some t
@@ -56,7 +57,7 @@ way_some (w ∷ ws) a b t h = go (w.child == a) refl (w.parent == b) refl h (way
         → (v : Way) × Contains ws v × (v.child ≡ a) × (v.parent ≡ b) × (v.there ≡ t))
         → (v : Way) × Contains (w ∷ ws) v × (v.child ≡ a) × (v.parent ≡ b) × (v.there ≡ t)
     go true x true y q rest =
-        let same : w.there ≡ t = cc in (w, contains_head w ws, same_is w.child a x, same_is w.parent b y, same)
+        let same : w.there ≡ t = cc in (w, contains_head w ws, eqb-true w.child a x, eqb-true w.parent b y, same)
     go true x false y q rest = let r = rest q in (r.0, contains_cons r.0 ws w r.1, r.2, r.3, r.4)
     go false x true y q rest = let r = rest q in (r.0, contains_cons r.0 ws w r.1, r.2, r.3, r.4)
     go false x false y q rest = let r = rest q in (r.0, contains_cons r.0 ws w r.1, r.2, r.3, r.4)
@@ -160,15 +161,15 @@ module _ (form : Form) (s : Schema) (q : Formula) (r : ℕ) (k : Candidates) (f 
       ]
 
   known_there : (c : ℕ) → is_known p c ≡ true → present c ≡ true
-  known_there c h = elim (either_true (c == r)
+  known_there c h = elim (or_cases (c == r)
       (list_any (λ (e : Edge). (e.child == c) || (e.parent == c)) (leading_edges p)) h) [
-        | inl a ↦ subst (λ x. present x ≡ true) (sym (same_is c r a)) (made.root_present s.graph r es ch)
+        | inl a ↦ subst (λ x. present x ≡ true) (sym (eqb-true c r a)) (made.root_present s.graph r es ch)
         | inr a ↦
             let w = (list_any_is (λ (e : Edge). (e.child == c) || (e.parent == c)) (leading_edges p)).0 a in
             let j = leading_on w.0 w.1 in
-            elim (either_true (w.0.child == c) (w.0.parent == c) w.2) [
-              | inl b ↦ subst (λ x. present x ≡ true) (same_is w.0.child c b) j.0
-              | inr b ↦ subst (λ x. present x ≡ true) (same_is w.0.parent c b) (steps_present j.0 j.1)
+            elim (or_cases (w.0.child == c) (w.0.parent == c) w.2) [
+              | inl b ↦ subst (λ x. present x ≡ true) (eqb-true w.0.child c b) j.0
+              | inr b ↦ subst (λ x. present x ≡ true) (eqb-true w.0.parent c b) (steps_present j.0 j.1)
             ]
       ]
 
@@ -189,7 +190,7 @@ module _ (form : Form) (s : Schema) (q : Formula) (r : ℕ) (k : Candidates) (f 
     where
       top_is : (o : Form) → is_top o b ≡ true → b ≡ 0
       top_is Long e = absurd (cc)
-      top_is Short e = same_is b 0 e
+      top_is Short e = eqb-true b 0 e
 
       go : (x : Bool) → is_known p a ≡ x → (y : Bool) → is_top form b ≡ y
           → (z : Bool) → category_reaches (leading_graph p) a b ≡ z → x && (y || z) ≡ true → Leads s r f a b

@@ -6,7 +6,7 @@ use Rattle.std.proofs.Common.{◌≡◌, ◌++◌, ◌<◌, ◌≤◌, ℕ, List
 use Rattle.std.specs.Prelude.{All}
 use Rattle.std.proofs.lemmas.List.Elements.{Contains-append_cases, Contains-get_or}
 use Rattle.olap_base.specs.Graph.{Graph, IsCategory, category_count}
-use Rattle.olap_base.proofs.ListLemmas.{Contains-nil}
+use Rattle.olap_base.proofs.ListLemmas.{Contains-nil, Contains-only}
 use Rattle.olap_names.specs.Names.{Named}
 use Rattle.olap_trail.specs.Decisions.{Decision}
 use Rattle.olap_proof.specs.declared.branches.Choice.{Choice}
@@ -15,14 +15,13 @@ use Rattle.olap_proof.specs.Branches.{AreLegal, IsBranch, IsLegal, first_of, wit
 use Rattle.olap_proof.specs.Certificates.{start}
 use Rattle.olap_proof.specs.Places.{Naming, Place, Way as WayHere}
 use Rattle.olap_proof.specs.Within.{IsWithin}
-use Rattle.olap_proof.proofs.SeenLemmas.{alone}
 
 -- what holds of a list's elements holds of those of a longer one
 all_more : {A : Type 0} (P : A → Type 0) (xs : List A) (y : A) → All P xs → P y → All P (xs ++ y ∷ [])
 all_more P xs y all last = λ i d l.
     elim (Contains-append_cases xs (y ∷ []) (get_or (xs ++ y ∷ []) i d) (Contains-get_or (xs ++ y ∷ []) i d l)) [
       | inl a ↦ subst P a.2 (all a.0 (get_or (xs ++ y ∷ []) i d) a.1)
-      | inr b ↦ subst P (alone y (get_or (xs ++ y ∷ []) i d) b) last
+      | inr b ↦ subst P (Contains-only y (get_or (xs ++ y ∷ []) i d) b) last
     ]
 
 -- nothing is decided
@@ -60,7 +59,7 @@ within_more g k p (Name c i) w l =
       indexes = λ n m. elim (Contains-append_cases p.namings (y ∷ []) n m) [
         | inl a ↦ w.indexes n a
         | inr b ↦ subst (λ (z : Naming). IsCategory g z.category × (z.index ≤ length (get_or k.texts z.category [])))
-            (alone y n b) (l.0.1, l.1)
+            (Contains-only y n b) (l.0.1, l.1)
       ];
     }
 within_more g k p (Way a b t) w l =
@@ -71,7 +70,7 @@ within_more g k p (Way a b t) w l =
       edges = w.edges;
       ways = λ v m. elim (Contains-append_cases p.ways (y ∷ []) v m) [
         | inl h ↦ w.ways v h
-        | inr h ↦ subst (λ (z : WayHere). IsCategory g z.child × IsCategory g z.parent) (alone y v h) (l.0, l.1)
+        | inr h ↦ subst (λ (z : WayHere). IsCategory g z.child × IsCategory g z.parent) (Contains-only y v h) (l.0, l.1)
       ];
       texts = w.texts;
       indexes = w.indexes;

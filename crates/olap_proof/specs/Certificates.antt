@@ -48,17 +48,16 @@ pub data Open : Type 0 where
 abbrev pub start : Graph → ℕ → Place
 start g b = record { decided = record { graph = g; root = b; decisions = [] }; namings = []; ways = [] }
 
--- one decision more, on an edge
+-- the place with one more decision on an edge
 abbrev pub with_edge : Place → ℕ → Bool → Place
 with_edge p e b =
-    let decisions = p.decided.decisions ++ (record { edge = e; present = b }) ∷ [] in
-    record p { decided = record p.decided { decisions = decisions } }
+    record p { decided = record p.decided { decisions = p.decided.decisions ++ record { edge = e; present = b } ∷ [] } }
 
--- on a name
+-- the place with one more decision on a name
 abbrev pub with_name : Place → ℕ → ℕ → Place
 with_name p c i = record p { namings = p.namings ++ (record { category = c; index = i }) ∷ [] }
 
--- on a way
+-- the place with one more decision on a way
 abbrev pub with_way : Place → ℕ → ℕ → Bool → Place
 with_way p a b t = record p { ways = p.ways ++ (record { child = a; parent = b; there = t }) ∷ [] }
 
@@ -68,7 +67,7 @@ indexes_of k c = range_with_len 0 (length (k.texts c) + 1)
 
 -- ---- certificates
 
--- the line stands at the first of what is open, and leaves this open
+-- the line acts on the first open item, and leaves these open in its place
 pub data Steps (f : Form) (s : Schema) (q : Formula) (k : Candidates) : List ℕ → Open → List Open → Type 0 where
   begins : Steps f s q k (head_text f) Head (map Bottom (bottoms_of s.graph))
   roots : {b : ℕ} → Steps f s q k (bottom_text s.graph b) (Bottom b) (At (start s.graph b) ∷ [])
@@ -81,14 +80,14 @@ pub data Steps (f : Form) (s : Schema) (q : Formula) (k : Candidates) : List ℕ
       (At (with_way p a b false) ∷ At (with_way p a b true) ∷ [])
   closes : {p : Place} (l : Line) → IsReason f s q k p l → Steps f s q k (line_text s.graph l) (At p) []
 
--- lines one after another
+-- the lines act one after another, each on the first open item, and turn one list of open items into the other
 pub data Runs (f : Form) (s : Schema) (q : Formula) (k : Candidates) : List (List ℕ) → List Open → List Open → Type 0
   where
     none : {os : List Open} → Runs f s q k [] os os
     more : {line : List ℕ} {lines : List (List ℕ)} {o : Open} {new rest end : List Open}
         → Steps f s q k line o new → Runs f s q k lines (new ++ rest) end → Runs f s q k (line ∷ lines) (o ∷ rest) end
 
--- the lines close all
+-- the lines, begun with the first line open, leave nothing open
 abbrev pub IsCertificate : Form → Schema → Formula → Candidates → List (List ℕ) → Type 0
 IsCertificate f s q k lines = Runs f s q k lines (Head ∷ []) []
 
@@ -103,20 +102,21 @@ abbrev pub IsCertificateText : Form → Schema → Formula → Candidates → Li
 IsCertificateText f s q k text =
     (lines : List (List ℕ)) × (text ≡ lines_text lines) × Runs f s q k lines (Head ∷ []) []
 
--- so many lines run; then the text ends while something is open, or what stands there is no line that does something
-pub record IsFirstWrong (f : Form) (s : Schema) (q : Formula) (k : Candidates) (text : List ℕ) (count : ℕ) : Type 0
+-- this line is the first that is wrong, counted from 1 on: those before it run; then the text ends while something is
+-- open, or what stands there is no line that does something
+pub record IsFirstWrong (f : Form) (s : Schema) (q : Formula) (k : Candidates) (text : List ℕ) (at : ℕ) : Type 0
   where
     pub lines : List (List ℕ)
     pub rest : List ℕ
     pub open_there : List Open
     pub parts : text ≡ lines_text lines ++ rest
-    pub counted : length lines ≡ count
+    pub counted : at ≡ length lines + 1
     pub run : Runs f s q k lines (Head ∷ []) open_there
     pub too_early : rest ≡ [] → open_there ≢ []
     pub stuck : (line more : List ℕ) (left : List Open) → rest ≡ line ++ line_feed ∷ more
         → Runs f s q k (line ∷ []) open_there left → ⊥
 
--- a certificate, of either form, exists only where the target is summarizable
+-- a certificate, of either form, exists only if the target is summarizable
 abbrev pub CertificatesAreRight : Type 0
 CertificatesAreRight = (f : Form) (s : Schema) (c : ℕ) (sources : List ℕ) (k : Candidates) (lines : List (List ℕ))
     → IsHierarchy s.graph → AreCandidates s (not_by_one c sources) k

@@ -1,7 +1,7 @@
 -- Lines at the program's place, of a schema with some constraints, for a question.
 --     schema_at   the schema
 --     DoesHere    the line does something
---     open_after  what is open after it
+--     open_after  what is open after the line
 --     StepsHere   bytes do this
 use Rattle.std.specs.Prelude.{ℕ, List, map}
 use Rattle.olap_ast.specs.Schema.{Schema}
@@ -24,7 +24,7 @@ abbrev pub DoesHere : Known → List Constraint → Formula → program.Line →
 DoesHere p cs q l =
     Does p.form (schema_at p cs) (formula_of q) (candidates_of p.candidates.now) p.place.now (meaning l)
 
--- what is open after it
+-- what is open after the line
 abbrev pub open_after : Known → program.Line → List Open
 open_after p l = leaves_open (candidates_of p.candidates.now) p.place.now (meaning l)
 

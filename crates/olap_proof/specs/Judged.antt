@@ -7,7 +7,7 @@ use Rattle.olap_ast.specs.Schema.{Schema}
 use Rattle.olap_proof.specs.Verifying.{IsCertificateOf, IsFirstWrongOf}
 use Rattle.olap_proof.specs.declared.forms.Form.{Form}
 
--- where there are candidates, a text is a certificate, or some line is the first that is wrong
+-- if there are candidates, a text is a certificate, or some line is the first that is wrong
 abbrev pub TextsAreJudged : Type 0
 TextsAreJudged = (f : Form) (s : Schema) (q : Formula) (k : Candidates) (text : List ℕ) → AreCandidates s q k
     → IsCertificateOf f s q text ⊎ ((line : ℕ) × IsFirstWrongOf f s q text line)

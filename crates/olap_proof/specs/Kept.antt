@@ -1,4 +1,4 @@
--- The definitions' place behind the program's.
+-- The definitions' place that the program's stands for.
 use Rattle.std.specs.Prelude.{map}
 use Rattle.olap_proof.specs.declared.places.Place.TheInside as place
 use Rattle.olap_proof.specs.KeptParts.{naming_kept}

@@ -1,4 +1,4 @@
--- The definitions' decision on a name behind the program's.
+-- The definitions' decision on a name that the program's stands for.
 use Rattle.olap_proof.specs.declared.places.Naming.{Naming as OneNaming}
 use Rattle.olap_proof.specs.Places.{Naming}
 

@@ -9,7 +9,7 @@ use Rattle.olap_base.specs.Chains.{Leads}
 use Rattle.olap_base.specs.Graph.{CategoryReaches, Graph, HasEdge, IsCategory}
 use Rattle.olap_ast.specs.Formula.{Formula}
 use Rattle.olap_ast.specs.Frozen.{Candidates}
-use Rattle.olap_ast.specs.Schema.{Constraint, Schema}
+use Rattle.olap_ast.specs.Schema.{Schema}
 use Rattle.olap_ast.specs.declared.three_values.Truth3.TheVariants.{No}
 use Rattle.olap_eval.specs.Partial.{value_at}
 use Rattle.olap_graph.specs.Lookups.{edge_at, edges_from, name_of_category}
@@ -18,7 +18,7 @@ use Rattle.olap_proof.specs.declared.forms.Form.{Form}
 use Rattle.olap_proof.specs.declared.forms.Form.TheVariants.{Long, Short}
 use Rattle.olap_proof.specs.Places.{Place, is_known, knowledge, leads, possible_graph, truth_of_reach, way_of}
 
--- the first three split what is open; the others close it
+-- the first three kinds split a place into cases; the others close it
 pub data Line : Type 0 where
   EdgeOrNot : (edge : ℕ) → Line
   NameOf : (category : ℕ) → Line
@@ -62,49 +62,34 @@ line_text g Asked = codes "question"
 
 -- ---- the reasons
 
--- a walk of edges leads back to where it began
-abbrev pub IsCyclic : Graph → Type 0
-IsCyclic g = (c : ℕ) × Leads (HasEdge g) c c
-
--- an edge, and a walk of two edges or more between the same categories
-abbrev pub IsShortened : Graph → Type 0
-IsShortened g = (a b c : ℕ) × HasEdge g a b × HasEdge g a c × Leads (HasEdge g) c b
-
--- c has a member, and all edges out of c are absent
-abbrev pub IsDead : Graph → Place → ℕ → Type 0
-IsDead g p c = (c ≢ 0) × IsTrue (is_known p c) × All (λ e. status_of p.decided e ≡ Some false) (edges_from g c)
-
--- the edge is present, and no walk of edges that aren't absent leads from the root to its child, another category
-abbrev pub IsLoose : Graph → Place → ℕ → Type 0
-IsLoose g p e = ((edge_at g e).child ≢ p.decided.root) × (status_of p.decided e ≡ Some true)
-    × (CategoryReaches (possible_graph p.decided) p.decided.root (edge_at g e).child → ⊥)
-
--- c has a member, and the root's, another one, doesn't reach it
-abbrev pub IsUnreached : Form → Place → ℕ → Type 0
-IsUnreached f p c = (c ≢ p.decided.root) × IsTrue (is_known p c) × (truth_of_reach f p p.decided.root c ≡ No)
-
 -- the edge is absent, or what it leads to doesn't reach b
 abbrev pub IsNoStep : Form → Graph → Place → ℕ → ℕ → Type 0
 IsNoStep f g p b e = (status_of p.decided e ≡ Some false) ⊎ (truth_of_reach f p (edge_at g e).parent b ≡ No)
 
--- it was decided that the way is there, and no first step of it can be; or that it isn't, and it is known to be
-abbrev pub IsClash : Form → Graph → Place → ℕ → ℕ → Type 0
-IsClash f g p a b =
-    ((way_of p.ways a b ≡ Some true) × (a ≢ b) × All (IsNoStep f g p b) (edges_from g a))
-    ⊎ ((way_of p.ways a b ≡ Some false) × IsTrue (leads f p a b))
-
--- the root of the constraint has a member, at which the formula is known to be false
-abbrev pub IsUnmet : Form → Candidates → Place → Constraint → Type 0
-IsUnmet f k p c = IsTrue (is_known p c.root) × (value_at (knowledge f k p) c.root c.formula ≡ No)
-
 -- what the line names is in the schema, and no frozen dimension for the question has what is decided: the line says why
 abbrev pub IsReason : Form → Schema → Formula → Candidates → Place → Line → Type 0
-IsReason f s q k p (Dead c) = IsCategory s.graph c × IsDead s.graph p c
-IsReason f s q k p Cycle = IsCyclic (present_graph p.decided)
-IsReason f s q k p Shortcut = IsShortened (present_graph p.decided)
-IsReason f s q k p (Loose e) = (f ≡ Long) × (e < length s.graph.edges) × IsLoose s.graph p e
-IsReason f s q k p (Unreached c) = (f ≡ Short) × IsCategory s.graph c × IsUnreached f p c
-IsReason f s q k p (Clash a b) = (f ≡ Short) × IsCategory s.graph a × IsCategory s.graph b × IsClash f s.graph p a b
-IsReason f s q k p (Unmet n) = MatchOption (slice_get s.constraints n) ⊥ (IsUnmet f k p)
+-- c has a member, and all edges out of c are absent
+IsReason f s q k p (Dead c) = IsCategory s.graph c × (c ≢ 0) × IsTrue (is_known p c)
+    × All (λ e. status_of p.decided e ≡ Some false) (edges_from s.graph c)
+-- a walk of present edges leads back to where it began
+IsReason f s q k p Cycle = (c : ℕ) × Leads (HasEdge (present_graph p.decided)) c c
+-- a present edge, and a walk of two present edges or more between the same categories
+IsReason f s q k p Shortcut = let g = present_graph p.decided in
+    (a b c : ℕ) × HasEdge g a b × HasEdge g a c × Leads (HasEdge g) c b
+-- the edge is present, and no walk of edges that aren't absent leads from the root to its child, another category
+IsReason f s q k p (Loose e) = (f ≡ Long) × (e < length s.graph.edges)
+    × ((edge_at s.graph e).child ≢ p.decided.root) × (status_of p.decided e ≡ Some true)
+    × (CategoryReaches (possible_graph p.decided) p.decided.root (edge_at s.graph e).child → ⊥)
+-- c has a member, and the root's, another one, doesn't reach it
+IsReason f s q k p (Unreached c) = (f ≡ Short) × IsCategory s.graph c × (c ≢ p.decided.root) × IsTrue (is_known p c)
+    × (truth_of_reach f p p.decided.root c ≡ No)
+-- it was decided that the way is there, and no first step of it can be; or that it isn't, and it is known to be
+IsReason f s q k p (Clash a b) = (f ≡ Short) × IsCategory s.graph a × IsCategory s.graph b
+    × (((way_of p.ways a b ≡ Some true) × (a ≢ b) × All (IsNoStep f s.graph p b) (edges_from s.graph a))
+    ⊎ ((way_of p.ways a b ≡ Some false) × IsTrue (leads f p a b)))
+-- the root of the constraint has a member, at which the formula is known to be false
+IsReason f s q k p (Unmet n) = MatchOption (slice_get s.constraints n) ⊥
+    (λ c. IsTrue (is_known p c.root) × (value_at (knowledge f k p) c.root c.formula ≡ No))
+-- the question is known to be false at the root
 IsReason f s q k p Asked = value_at (knowledge f k p) p.decided.root q ≡ No
 IsReason f s q k p l = ⊥

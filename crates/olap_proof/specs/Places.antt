@@ -10,13 +10,12 @@ use Rattle.std.specs.List.{range_with_len}
 use Rattle.std.specs.Str.{bytes_eq}
 use Rattle.olap_base.specs.Graph.{Edge, Graph}
 use Rattle.olap_base.specs.Reaching.{category_reaches}
-use Rattle.olap_ast.specs.Frozen.{Candidates, is_present}
+use Rattle.olap_ast.specs.Frozen.{Candidates, is_present, text_of_index}
 use Rattle.olap_ast.specs.ThreeValues.{known}
 use Rattle.olap_ast.specs.declared.three_values.Truth3.{Truth3}
 use Rattle.olap_ast.specs.declared.three_values.Truth3.TheVariants.{No, Yes, Unknown}
 use Rattle.olap_eval.specs.Partial.{Knowledge}
 use Rattle.olap_graph.specs.Lookups.{edge_at, edge_between}
-use Rattle.olap_names.specs.Names.{name_at}
 use Rattle.olap_numerals.specs.Comparing.{is_numbered}
 use Rattle.olap_trail.specs.Decisions.{Decided, present_edges, status_of}
 use Rattle.olap_proof.specs.declared.forms.Form.{Form}
@@ -97,18 +96,14 @@ truth_of_reach f p a b = elim (way_of p.ways a b) [
 
 -- ---- edges and names
 
--- what a decision says
-abbrev pub truth_of : Option Bool → Truth3
-truth_of present = unwrap_or (option_map known present) Unknown
-
--- whether the edge between two categories is present, if there is one
+-- whether the edge between two categories is present, if there is one: what was decided
 abbrev pub truth_of_edge : Decided → Option ℕ → Truth3
-truth_of_edge d edge = unwrap_or (option_map (λ e. truth_of (status_of d e)) edge) No
+truth_of_edge d edge = unwrap_or (option_map (λ e. unwrap_or (option_map known (status_of d e)) Unknown) edge) No
 
 -- the name that was decided; that of `All` always is
 abbrev pub name_of : Candidates → List Naming → ℕ → Option (List ℕ)
 name_of k ns zero = Some (codes "all")
-name_of k ns (suc c) = option_map (name_at k (suc c)) (index_of ns (suc c))
+name_of k ns (suc c) = option_map (text_of_index (k.first (suc c)) (k.texts (suc c))) (index_of ns (suc c))
 
 -- whether the category has a member whose name passes the test, where its name is decided
 abbrev pub truth_of_name : Place → ℕ → (List ℕ → Bool) → Option (List ℕ) → Truth3

@@ -1,7 +1,7 @@
 -- The lines of trees as the program has them, and what reading one answers.
 --     meaning   the definitions' line
 --     first_of  the word that a line begins with
---     rest_of   what stands behind it
+--     rest_of   what stands after it
 --     IsLineOf  bytes are this line, or no line at all
 use Rattle.std.specs.Prelude.{◌≡◌, ◌≢◌, ℕ, suc, List, Option, Some, None, codes, slice_index_or}
 use Rattle.std.specs.Fmt.{decimal}
@@ -60,7 +60,7 @@ first_of (Clash a b) = word.Steps
 first_of (Unmet n) = word.Constraint
 first_of Asked = word.Question
 
--- what stands behind it, if anything does
+-- what stands after it, if anything does
 abbrev pub rest_of : Graph → Line → Option (List ℕ)
 rest_of g (EdgeOrNot e) = Some (edge_words g e)
 rest_of g (NameOf c) = Some (name_of_category g c)
@@ -74,7 +74,7 @@ rest_of g (Clash a b) = Some (way_words g a b)
 rest_of g (Unmet n) = Some (decimal (suc n))
 rest_of g Asked = None
 
--- a first word with what stands behind it is this line, or no line at all
+-- a first word with what stands after it is this line, or no line at all
 abbrev pub IsReading : Schema → Word → Option (List ℕ) → Option program.Line → Type 0
 IsReading s w rest None = (l : Line) → IsAbout s l → first_of l ≡ w → rest_of s.graph l ≡ rest → ⊥
 IsReading s w rest (Some l) = IsAbout s (meaning l) × (first_of (meaning l) ≡ w) × (rest_of s.graph (meaning l) ≡ rest)

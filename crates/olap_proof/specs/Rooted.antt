@@ -1,4 +1,4 @@
--- The definitions' place behind one in a tree that is written.
+-- The definitions' place after one in a tree that is written.
 --     place_in    its decisions
 --     IsRooted    the root that is kept beside them is theirs
 use Rattle.std.specs.Prelude.{◌≡◌}

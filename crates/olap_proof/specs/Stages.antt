@@ -54,7 +54,7 @@ abbrev pub StepsTo : Form → Asked → Stage → List ℕ → Option Stage → 
 StepsTo f a from line None = (left : List Open) → RunsFor f a (line ∷ []) (open_at a from) left → ⊥
 StepsTo f a from line (Some to) = IsStage a to × RunsFor f a (line ∷ []) (open_at a from) (open_at a to)
 
--- so many lines, each ended by an LF, led there; this is left of the text
+-- this many lines, each ended by an LF, led there; this is left of the text
 pub record IsReached (f : Form) (a : Asked) (text rest : List ℕ) (count : ℕ) (os : List Open) : Type 0 where
   pub lines : List (List ℕ)
   pub parts : text ≡ lines_text lines ++ rest

@@ -1,11 +1,10 @@
 -- Verdicts on a text, for candidates that there are. Any serve: those of one schema and one question have the same
 -- names.
---     IsWrongAt           a line is the first that is wrong
 --     IsCertificateOf     a text is a certificate, for a question
 --     IsFirstWrongOf      a line of a text is the first that is wrong, for a question
 --     IsCertificateFor, IsFirstWrongFor    for a target and sources
 --     VerdictsAreOne      a certificate has no first wrong line, and another text has one at most
-use Rattle.std.specs.Prelude.{◌≡◌, ◌+◌, ◌<◌, ◌^◌, ℕ, List, length}
+use Rattle.std.specs.Prelude.{◌≡◌, ◌<◌, ◌^◌, ℕ, List, length}
 use Rattle.olap_base.specs.Graph.{IsHierarchy}
 use Rattle.olap_ast.specs.Formula.{Formula}
 use Rattle.olap_ast.specs.Frozen.{AreCandidates, Candidates}
@@ -14,17 +13,13 @@ use Rattle.olap_ast.specs.Summarizable.{not_by_one}
 use Rattle.olap_proof.specs.declared.forms.Form.{Form}
 use Rattle.olap_proof.specs.Certificates.{IsCertificateText, IsFirstWrong}
 
--- the line is the first that is wrong, counted from 1 on
-abbrev pub IsWrongAt : Form → Schema → Formula → Candidates → List ℕ → ℕ → Type 0
-IsWrongAt f s q k text line = (count : ℕ) × (line ≡ count + 1) × IsFirstWrong f s q k text count
-
 -- there are candidates, and the text is a certificate
 abbrev pub IsCertificateOf : Form → Schema → Formula → List ℕ → Type 0
 IsCertificateOf f s q text = (k : Candidates) × AreCandidates s q k × IsCertificateText f s q k text
 
 -- there are candidates, and the line is the first that is wrong
 abbrev pub IsFirstWrongOf : Form → Schema → Formula → List ℕ → ℕ → Type 0
-IsFirstWrongOf f s q text line = (k : Candidates) × AreCandidates s q k × IsWrongAt f s q k text line
+IsFirstWrongOf f s q text line = (k : Candidates) × AreCandidates s q k × IsFirstWrong f s q k text line
 
 -- the text is a certificate of why the target is summarizable from the sources
 abbrev pub IsCertificateFor : Form → Schema → ℕ → List ℕ → List ℕ → Type 0

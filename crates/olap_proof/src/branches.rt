@@ -52,7 +52,7 @@ fn take(
     }
 }
 
-/// Decides what was chosen, and puts it behind the choices. `Memory`: out of memory.
+/// Decides what was chosen, and puts it after the choices. `Memory`: out of memory.
 pub(crate) fn choose(
     graph: &Graph,
     candidates: &Candidates,

@@ -49,7 +49,7 @@ fn dead_line(known: &Known<'_>, constraints: &[Constraint], question: &Formula) 
     None
 }
 
-/// Whether the root can't reach the edge's child, where this is what it can reach, and that closes the place.
+/// Whether the root can't reach the edge's child, given what it can reach, and that closes the place.
 fn is_loose(
     known: &Known<'_>,
     constraints: &[Constraint],

@@ -2,7 +2,7 @@
 ghost use Rattle.std.specs.Prelude.{◌≡◌, ◌<◌, ◌↔◌, ℕ, Contains, IfSome, IsNone, IsTrue, length, true};
 ghost use Rattle.olap_base.specs.Graph.{HasEdge};
 ghost use Rattle.olap_graph.specs.Lookups.{edge_at};
-ghost use Rattle.olap_proof.specs.Lines.{IsCyclic, IsShortened};
+ghost use Rattle.olap_proof.specs.Closing.{IsCyclic, IsShortened};
 ghost use Rattle.olap_proof.specs.Seen.{decision_at};
 ghost use Rattle.olap_trail.specs.Decisions.{present_edges, present_graph};
 

@@ -7,7 +7,7 @@ pub fn full_places_close()
     ensures { FullPlacesClose }
 {}
 
-/// A certificate exists exactly where the target is summarizable from the sources.
+/// A certificate exists exactly if the target is summarizable from the sources.
 pub fn certificates_exist_exactly_where_summarizable()
     ensures { CertificatesExistExactlyWhereSummarizable }
 {}

@@ -13,7 +13,7 @@ use crate::splitting::{next_edge, next_name};
 use crate::writing::push_bounded;
 use olap_base::Memory;
 
-/// Appends the lines of a tree over the place, where there is no frozen dimension with its root.
+/// Appends the lines of a tree over the place, if there is no frozen dimension with its root.
 ///
 /// The place is closed if some line closes it. Else it is split by an edge that isn't decided, and where each edge is
 /// by a name. It calls itself as deep as there are edges and names. `Memory`: out of memory, or the text would be

@@ -4,7 +4,7 @@ ghost use Rattle.olap_base.specs.Bytes.{line_feed};
 ghost use Rattle.olap_proof.specs.Asking.{IsAsked, names_in, question_in, schema_in};
 ghost use Rattle.olap_proof.specs.Certificates.{IsCertificateText};
 ghost use Rattle.olap_proof.specs.Stages.{open_at};
-ghost use Rattle.olap_proof.specs.Verifying.{IsWrongAt};
+ghost use Rattle.olap_proof.specs.Certificates.{IsFirstWrong};
 ghost use Rattle.olap_proof.specs.declared.asking.Asked.{Asked as AnyAsked};
 ghost use Rattle.olap_proof.specs.declared.stages.Stage.TheVariants as variant;
 
@@ -27,7 +27,7 @@ fn next_line(text: &[u8]) -> Option<(&[u8], &[u8])>
     }
 }
 
-/// The line at which the text ends too early, if it does: the one after so many.
+/// The line at which the text ends too early, if it does: the one after this many.
 fn early_end(rest: &[u8], stage: &Stage, count: u64) -> Option<u64>
     requires { count + 1 < 2 ^ 64 }
     ensures none { (a : AnyAsked) → IsNone result → (rest.now ≡ []) × (open_at a stage.now ≡ []) }
@@ -54,7 +54,7 @@ fn first_wrong_from(
     ensures none { IfOk result (λ o. IsNone o
         → IsCertificateText form (schema_in asked.now) (question_in asked.now) (names_in asked.now) text.now) }
     ensures some { IfOk result (λ o. IfSome o
-        (IsWrongAt form (schema_in asked.now) (question_in asked.now) (names_in asked.now) text.now)) }
+        (IsFirstWrong form (schema_in asked.now) (question_in asked.now) (names_in asked.now) text.now)) }
 {
     let mut rest = text;
     let mut count = 0u64;
@@ -81,7 +81,7 @@ pub(crate) fn first_wrong(
     ensures none { IfOk result (λ o. IsNone o
         → IsCertificateText form (schema_in asked.now) (question_in asked.now) (names_in asked.now) text.now) }
     ensures some { IfOk result (λ o. IfSome o
-        (IsWrongAt form (schema_in asked.now) (question_in asked.now) (names_in asked.now) text.now)) }
+        (IsFirstWrong form (schema_in asked.now) (question_in asked.now) (names_in asked.now) text.now)) }
 {
     let mut stage = Stage::Head;
     first_wrong_from(alloc, asked, form, &mut stage, text)

@@ -12,7 +12,7 @@ use olap_base::CatId;
 use olap_graph::{Categories, Graph};
 use olap_trail::Decision;
 
-/// Adds both ends of an edge, where it is one that is taken.
+/// Adds both ends of an edge, if it is one that is taken.
 fn touch(set: &mut Categories, joins: bool, child: CatId, parent: CatId)
     requires child { child.0 < most_categories }
     requires parent { parent.0 < most_categories }
@@ -33,7 +33,7 @@ fn touch_from(set: &mut Categories, child: CatId, parents: &Categories)
     }
 }
 
-/// Adds the ends of ways that are there, between so many categories.
+/// Adds the ends of ways that are there, between this many categories.
 fn touch_ways(place: &Place, count: u16, set: &mut Categories)
     requires few { count ≤ most_categories }
     ensures { (x : ℕ) → IsIn (members set.new) x ↔ TouchedFrom (members set.old) (LeadsHere place.now.ways) count x }

@@ -4,12 +4,13 @@ ghost use Rattle.olap_proof.specs.Examples.{ChainIsCertified, ChainIsShortlyCert
 ghost use Rattle.olap_proof.specs.Judged.{TextsAreJudged};
 ghost use Rattle.olap_proof.specs.Verifying.{VerdictsAreOne};
 
-/// A certificate, of either form, exists only where the target is summarizable from the sources.
+/// A certificate, of either form, exists only if the target is summarizable from the sources.
 pub fn certificates_are_right()
     ensures { CertificatesAreRight }
 {}
 
-/// City's totals can be taken from Store's, where Store, City and `All` stand one above the other: five lines say why.
+/// City's totals can be computed from Store's, where Store, City and `All` stand one above the other: five lines say
+/// why.
 pub fn chain_is_certified()
     ensures { ChainIsCertified }
 {}

@@ -16,7 +16,7 @@ use olap_base::{CatId, EdgeId};
 use olap_graph::Graph;
 use std::str;
 
-/// A line of a tree: the first three split what is open, the others close it.
+/// A line of a tree: the first three kinds split a place into cases, the others close it.
 #[derive(Clone, Copy)]
 pub enum Line {
     /// `edge C D`.
@@ -92,7 +92,7 @@ impl Word {
     }
 }
 
-/// What stands before the first such byte, and what stands behind it, if there is one.
+/// What stands before the first such byte, and what stands after it, if there is one.
 pub(crate) fn cut(bytes: &[u8], mark: u8) -> (&[u8], Option<&[u8]>)
     ensures some { IfSome result.1 (λ rest. bytes.now ≡ result.0.now ++ mark ∷ rest.now) }
     ensures none { IsNone result.1 → result.0.now ≡ bytes.now }
@@ -202,7 +202,7 @@ fn number(bytes: &[u8]) -> Option<u64>
     }
 }
 
-/// The place of a constraint, by its number, of so many.
+/// The place of a constraint, by its number, of this many.
 fn place(count: usize, bytes: &[u8]) -> Option<usize>
     ensures some { IfSome result (λ n. (n < count) × (decimal (suc n) ≡ bytes.now)) }
     ensures none { IsNone result → (n : ℕ) → n < count → decimal (suc n) ≢ bytes.now }
@@ -244,7 +244,7 @@ fn loose(graph: &Graph, constraints: &[Constraint], rest: &[u8]) -> Option<Line>
     }
 }
 
-/// The line of a word with others behind it.
+/// The line of a word with others after it.
 fn line_with_rest(
     graph: &Graph,
     constraints: &[Constraint],

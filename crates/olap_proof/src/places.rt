@@ -34,7 +34,7 @@ pub(crate) struct Place {
     trail: Trail<{ WORDS }>,
     namings: Vec<Naming>,
     ways: Ways,
-    /// For each category what it reaches by edges that weren't decided absent, where the tables are fresh.
+    /// For each category what it reaches by edges that weren't decided absent, if the tables are fresh.
     possible: Vec<Categories>,
     /// And by what is known to be there.
     leading: Vec<Categories>,

@@ -44,7 +44,7 @@ fn push_tree(
     grow(&mut case, asked, form, out)
 }
 
-/// Appends a certificate, where no bottom category has a frozen dimension for the question.
+/// Appends a certificate, if no bottom category has a frozen dimension for the question.
 fn push_all(alloc: Global, asked: &Asked<'_>, form: Form, out: &mut Vec<u8>) -> Result<(), Memory>
     requires asked { IsAsked asked.now }
     requires none { (b : ℕ) → IsBottom asked.now.graph.now b → (f : Frozen)
@@ -63,7 +63,7 @@ fn push_all(alloc: Global, asked: &Asked<'_>, form: Form, out: &mut Vec<u8>) -> 
     Ok(())
 }
 
-/// A certificate, where no bottom category has a frozen dimension for the question.
+/// A certificate, if no bottom category has a frozen dimension for the question.
 fn plain(alloc: Global, asked: &Asked<'_>, form: Form) -> Result<Text, Memory>
     requires asked { IsAsked asked.now }
     requires none { (b : ℕ) → IsBottom asked.now.graph.now b → (f : Frozen)
@@ -106,7 +106,7 @@ fn plain_by_names(
     plain(alloc, &asked, form)
 }
 
-/// A certificate of that form, where the target is summarizable from the sources: it is written with nothing learnt.
+/// A certificate of that form, if the target is summarizable from the sources, written by going through all cases.
 ///
 /// It may take as long as there are choices of edges and names, and be as long. `Memory`: out of memory, or it would be
 /// longer than a file may be, so that nobody could hand it to `verify`.

@@ -16,7 +16,7 @@ use olap_base::{CatId, EdgeId};
 use olap_graph::{Categories, Graph, WORDS, close, isolate};
 use olap_trail::{Decision, Trail};
 
-/// The set of a category, where the tables are those of what is decided.
+/// The set of a category, if the tables are those of what is decided.
 pub(crate) fn row_if(fresh: bool, rows: &[Categories], c: CatId) -> Option<Categories>
     ensures { IfSome result (λ s. (fresh ≡ true) × (c.0 < length rows.now) × (members s ≡ row rows.now c.0)) }
 {

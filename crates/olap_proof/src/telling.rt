@@ -4,9 +4,9 @@ ghost use Rattle.olap_ast.specs.Trees.{op_of};
 ghost use Rattle.olap_base.specs.Graph.{IsCategory};
 ghost use Rattle.olap_base.specs.Reaching.{category_reaches};
 ghost use Rattle.olap_bits.specs.Sets.{members};
-ghost use Rattle.olap_proof.specs.Places.{is_known, is_top, leading_graph, leads, possible_graph, truth_of, truth_of_reach};
+ghost use Rattle.olap_proof.specs.Places.{is_known, is_top, leading_graph, leads, possible_graph, truth_of_reach};
 ghost use Rattle.olap_proof.specs.Walking.{IsWalk};
-ghost use Rattle.olap_proof.specs.Within.{AreKnown, IsWithin, when_there};
+ghost use Rattle.olap_proof.specs.Within.{AreKnown, IsWithin, truth_of, when_there};
 
 use crate::Form;
 use crate::places::Place;
@@ -129,7 +129,7 @@ impl<'a> Known<'a> {
         }
     }
 
-    /// Whether the category has a member with this name, where its name was decided, and is or isn't this one.
+    /// Whether the category has a member with this name, if its name was decided, and is or isn't this one.
     fn when_there(&self, c: CatId, same: bool) -> Truth3
         ensures { result ≡ when_there self.now.place.now c.0 same }
     {

@@ -5,8 +5,8 @@ ghost use Rattle.olap_base.specs.Graph.{IsCategory};
 ghost use Rattle.olap_base.specs.Limits.{most_constraints};
 ghost use Rattle.olap_names.specs.Names.{CanBeNamed, with_graph};
 ghost use Rattle.olap_proof.specs.Asking.{IsAsked, names_in, question_in, schema_in};
-ghost use Rattle.olap_proof.specs.Certificates.{IsCertificateText};
-ghost use Rattle.olap_proof.specs.Verifying.{IsCertificateFor, IsCertificateOf, IsFirstWrongFor, IsFirstWrongOf, IsWrongAt};
+ghost use Rattle.olap_proof.specs.Certificates.{IsCertificateText, IsFirstWrong};
+ghost use Rattle.olap_proof.specs.Verifying.{IsCertificateFor, IsCertificateOf, IsFirstWrongFor, IsFirstWrongOf};
 ghost use Rattle.olap_ast.specs.Trees.{constraint_of, formula_of, numbers_of};
 ghost use Rattle.olap_base.specs.declared.refusals.Refusal.TheVariants as refusal;
 ghost use Rattle.olap_proof.specs.declared.verifying.VerifyFault.TheVariants as fault;
@@ -45,7 +45,7 @@ fn judge_asked(
     ensures ok { OnOk result
         (IsCertificateText form (schema_in asked.now) (question_in asked.now) (names_in asked.now) text.now) }
     ensures rejected { (line : ℕ) → result ≡ Err (refusal.Kind (fault.Rejected line))
-        → IsWrongAt form (schema_in asked.now) (question_in asked.now) (names_in asked.now) text.now line }
+        → IsFirstWrong form (schema_in asked.now) (question_in asked.now) (names_in asked.now) text.now line }
 {
     match first_wrong(alloc, asked, form, text)? {
         None => Ok(()),

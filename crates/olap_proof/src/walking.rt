@@ -13,7 +13,7 @@ use olap_base::{CatId, EdgeId};
 use olap_graph::{Categories, Graph};
 use olap_trail::Decision;
 
-/// Adds a category to the set, where an edge joins it to another in the set. Whether the set grew, now or before.
+/// Adds a category to the set, if an edge joins it to another in the set. Whether the set grew, now or before.
 fn add(set: &mut Categories, joins: bool, child: CatId, parent: CatId, grew: bool) -> bool
     requires { parent.0 < most_categories }
     ensures { IsAdded (members set.old) joins child.0 parent.0 grew (members set.new) result }
@@ -33,7 +33,7 @@ fn lacking_category(set: &Categories, from: &Categories) -> Option<u16>
     from.minus(*set).first()
 }
 
-/// Adds the categories to which another one leads, where it is in the set. Whether the set grew, now or before.
+/// Adds the categories to which another one leads, if that one is in the set. Whether the set grew, now or before.
 fn add_from(set: &mut Categories, child: CatId, parents: &Categories, grew: bool) -> bool
     ensures { IsAddedFrom (members set.old) child.0 (members parents.now) grew (members set.new) result }
 {
@@ -49,7 +49,7 @@ fn add_from(set: &mut Categories, child: CatId, parents: &Categories, grew: bool
     }
 }
 
-/// Adds what ways that are there, between so many categories, lead to. Whether the set grew.
+/// Adds what ways that are there, between this many categories, lead to. Whether the set grew.
 fn grow_by_ways(place: &Place, count: u16, set: &mut Categories) -> bool
     requires { (w : OneWay) → Contains place.now.ways w → w.parent < count }
     ensures { (g : AnyGraph) → ((c d : ℕ) → LeadsHere place.now.ways c d → HasEdge g c d)

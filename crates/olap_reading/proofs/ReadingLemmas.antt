@@ -1,7 +1,8 @@
 -- A file whose text has a fault is refused, and so is the run.
 --     fault_read    where a text comes to a refusal, the file does
+--     content_read  where it comes to a value, the file does
 --     fault_told    the same of a file that has no more bytes than a limit
-use Rattle.std.proofs.Common.{◌≡◌, ◌≤◌, ◌++◌, ◌∙◌, ℕ, List, Option, None, Some, MatchOption, Result, Err, false, length, codes, refl, subst, sym, arith, nat_lt}
+use Rattle.std.proofs.Common.{◌≡◌, ◌≤◌, ◌++◌, ◌∙◌, ℕ, List, Option, None, Some, MatchOption, Result, Err, Ok, false, length, codes, refl, subst, sym, arith, nat_lt}
 use Rattle.std.specs.Prelude.{if◌then◌else◌}
 use Rattle.std.proofs.lemmas.Bool.Decides.{nat_tests}
 use Rattle.olap_outside.specs.Files.{Files, IsContent}
@@ -11,7 +12,7 @@ use Rattle.olap_order.specs.Order.{Order, Done, Read, and_then, refused}
 use Rattle.olap_order.specs.Outputs.{refusal}
 use Rattle.olap_order.specs.Refusals.{IsRefusal}
 use Rattle.olap_order.specs.Steps.{text_file}
-use Rattle.olap_order.specs.Taken.{FileStep, NoAnswer}
+use Rattle.olap_order.specs.Taken.{ComesOut, ComesOutTold, FileStep, NoAnswer}
 use Rattle.olap_order.specs.declared.replies.Stop.{Stop}
 use Rattle.olap_order.specs.declared.replies.Stop.TheVariants as stops
 use Rattle.olap_order.specs.declared.status.Status.TheVariants as statuses
@@ -55,6 +56,22 @@ module _ {T : Type 0} (file : List ℕ) (next : List ℕ → Order T) (text why 
     same = same;
     later = later;
   }
+
+-- where a text comes to a value, the file does
+pub content_read : {T : Type 0} (file : List ℕ) (next : List ℕ → Order T) (text : List ℕ) (x : T) → {D : Type 0}
+    {L : Library D} {old new : D} → next text ≡ Done x → IsContent (L.contents old) file text → IsLater L old new
+    → L.contents new ≡ L.contents old → FileStep L old new (Read file next) (λ x. x) (Ok x)
+content_read {T} file next text x {L = L} {old = old} e content later same = record {
+  comes_out = out (L.contents old) content;
+  ends = tt;
+  same = same;
+  later = later;
+}
+  where
+    out : (told : Option Files) → IsContent told file text → ComesOutTold told (Read file next) x
+    out None content = λ none. absurd none
+    out (Some files) content = subst (λ o. MatchOption o ⊥ (λ t. ComesOut files (next t) x)) (sym content)
+        (subst (λ o. ComesOut files o x) (sym e) refl)
 
 -- the same of a file that has no more bytes than a limit
 pub fault_told : {T : Type 0} (label file : List ℕ) (most : ℕ) (next : List ℕ → Order T) (text why : List ℕ)

@@ -6,6 +6,7 @@
 --     told-fault    a refusal is that of the whole, whether it was read or not
 --     told-end      at the end of the file
 --     fault-out     the first fault of the facts in a file
+--     facts-out     the facts in a file, and views of them
 use Rattle.std.proofs.Common.{◌≡◌, ◌<◌, ◌≤◌, ◌⊎◌, ◌++◌, ◌∙◌, ℕ, List, Option, None, Some, Result, [], length, false, true, inl, inr, refl, sym, ap, arith, subst, append_assoc, length-append}
 use Rattle.std.specs.Prelude.{IfErr, IfSome, Ok, Err, codes}
 use Rattle.std.specs.Result.{IsErrAnd}
@@ -14,6 +15,7 @@ use Rattle.std.proofs.lemmas.List.{append-nil}
 use Rattle.olap_base.specs.Graph.{Graph}
 use Rattle.olap_base.specs.Instance.{Instance}
 use Rattle.olap_base.specs.Limits.{most_facts}
+use Rattle.olap_base.specs.Views.{View}
 use Rattle.olap_base.specs.declared.ids.Memory.{Memory}
 use Rattle.olap_base.specs.declared.refusals.Fault.{Fault}
 use Rattle.olap_base.specs.declared.refusals.Refusal.TheVariants as refusal
@@ -22,6 +24,9 @@ use Rattle.olap_records.specs.Pieces.{RecordsAtEnd}
 use Rattle.olap_records.specs.Records.{records_of}
 use Rattle.olap_records.specs.Standing.{records_fed, unmarked}
 use Rattle.olap_records.proofs.MarkLemmas.{strip-more}
+use Rattle.olap_records.specs.Tables.{named}
+use Rattle.olap_facts.proofs.MeaningLemmas.{facts-named, meant-facts}
+use Rattle.olap_facts.specs.FactMeaning.{facts_meant}
 use Rattle.olap_facts.specs.FactText.{facts_read_within}
 use Rattle.olap_facts.specs.Kinds.{name_of_kind}
 use Rattle.olap_facts.specs.declared.kinds.FactKind.{FactKind}
@@ -33,16 +38,17 @@ use Rattle.olap_order.specs.Refusals.{IsRefusal, part_text}
 use Rattle.olap_order.specs.Steps.{meaning_or_fault}
 use Rattle.olap_order.specs.Taken.{FileStep}
 use Rattle.olap_order.specs.declared.replies.Stop.{Stop}
-use Rattle.olap_view.specs.RollingUp.{HasTaken, Rolling}
+use Rattle.olap_view.specs.RollingUp.{AreRolledUp, HasTaken, Rolling}
+use Rattle.olap_reading.specs.OfFacts.{AreOfFacts}
 use Rattle.olap_reading.specs.Rest.{IsOfRest, IsOutOfMemory, IsWhyUnrolled}
 use Rattle.olap_reading.specs.Steps.{facts_file}
 use Rattle.olap_reading.specs.declared.rolling.Unrolled.{Unrolled}
 use Rattle.olap_reading.specs.declared.rolling.Unrolled.TheVariants as unrolled
-use Rattle.olap_reading.proofs.ReadingLemmas.{fault_read}
+use Rattle.olap_reading.proofs.ReadingLemmas.{content_read, fault_read}
 
 -- ---- pieces
 
--- these bytes were taken off the front of what was left, the last so many at once, and the roller has taken them
+-- these bytes were taken off the front of what was left, the last this many at once, and the roller has taken them
 pub record IsSoFar (old new : Option (List ℕ)) (count : ℕ) (g : Graph) (i : Instance) (categories : List ℕ)
     (r : Rolling) : Type 0 where
   pub text : List ℕ
@@ -58,6 +64,7 @@ parts-more (Some a) None n xs ys h t = absurd h
 parts-more (Some a) (Some b) None xs ys h t = absurd t
 parts-more (Some a) (Some b) (Some c) xs ys h t = h ∙ ap (λ zs. xs ++ zs) t ∙ sym (append_assoc xs ys c)
 
+-- if some bytes were taken and the rest is at its end, the file is at its end
 pub ends-told : (o m n : Option (List ℕ)) (xs : List ℕ) → Consumes o m xs → EndsTold m n → EndsTold o n
 ends-told None m n xs h e = tt
 ends-told (Some a) None n xs h e = absurd h
@@ -67,9 +74,11 @@ ends-told (Some a) (Some b) n xs h e = e
 pub mark-joined : (text piece : List ℕ) → 3 ≤ length text → unmarked text ++ piece ≡ unmarked (text ++ piece)
 mark-joined text piece l = sym (strip-more text piece l)
 
+-- a text of three bytes or more stays one with more bytes
 pub longer : (text piece : List ℕ) → 3 ≤ length text → 3 ≤ length (text ++ piece)
 longer text piece l = let a = length-append text piece in omega arith
 
+-- a number is below 65,536, or not
 split : (n : ℕ) → (n < 65536) ⊎ (65536 ≤ n)
 split n = grind arith
 
@@ -96,6 +105,7 @@ memory-at : (g : Graph) (i : Instance) (rest : Option (List ℕ)) (m : Memory)
 memory-at g i None m = record { text = []; told = tt; so = tt }
 memory-at g i (Some whole) m = record { text = whole; told = refl; so = tt }
 
+-- a refusal that is out of memory says why no facts were rolled up
 pub no-memory : {X : Type 0} (g : Graph) (i : Instance) (rest : Option (List ℕ)) (result : Result X Unrolled)
     → IsErrAnd result IsOutOfMemory → IfErr result (IsWhyUnrolled g i rest)
 no-memory g i rest (Ok x) is = absurd is
@@ -148,8 +158,23 @@ module _ {D : Type 0} {L : Library D} {old new : D} (s : Schema) (i : Instance) 
       → IsRefusal (part_text (codes "facts") (codes "record") fault.at (name_of_kind fault.kind)) stop
       → FileStep L old new (facts_file s i (codes "facts") file) (λ facts. facts) (Err stop)
   fault-out fault h stop is =
-      fault_read file (λ t. meaning_or_fault (codes "facts") (codes "record") name_of_kind
-      (facts_read_within most_facts s.graph i (records_of t))) h.text
+      fault_read file (λ t. meaning_or_fault (codes "facts") (codes "record")
+      (facts_meant most_facts s.graph i (records_of t))) h.text
       (part_text (codes "facts") (codes "record") fault.at (name_of_kind fault.kind))
-      (ap (meaning_or_fault (codes "facts") (codes "record") name_of_kind) h.so)
+      (ap (meaning_or_fault (codes "facts") (codes "record"))
+      (facts-named most_facts s.graph i (records_of h.text) ∙ ap (named name_of_kind) h.so))
       (content (L.contents old) file rest h.text opens h.told) later same stop is
+
+  -- the facts in the file, and views of them
+  pub facts-out : (categories : List ℕ) (views : List (View ℕ ℕ))
+      → IsOfRest rest (λ text. AreRolledUp s.graph i (records_of text) categories views)
+      → AreOfFacts L old new s i categories file views
+  facts-out categories views h = record {
+    facts = h.so.facts;
+    direct = h.so.direct;
+    step = content_read file (λ t. meaning_or_fault (codes "facts") (codes "record")
+        (facts_meant most_facts s.graph i (records_of t))) h.text h.so.facts
+        (ap (meaning_or_fault (codes "facts") (codes "record"))
+        (meant-facts most_facts s.graph i (records_of h.text) h.so.facts h.so.read))
+        (content (L.contents old) file rest h.text opens h.told) later same;
+  }

@@ -1,9 +1,7 @@
 -- The members that a violation names are there, and its words.
-use Rattle.std.proofs.Common.{◌≡◌, ℕ, ◌<◌, length, ap, refl, subst, sym, ◌∙◌}
-use Rattle.std.specs.Prelude.{slice_index}
-use Rattle.std.proofs.lemmas.List.Elements.{Contains-get_or}
+use Rattle.std.proofs.Common.{◌≡◌, ℕ, ap, refl, subst, sym, ◌∙◌}
 use Rattle.olap_base.specs.Graph.{IsCategory}
-use Rattle.olap_base.specs.Instance.{Instance, IsBelow, IsFarBelow, IsInstance, IsMember, parents_of}
+use Rattle.olap_base.specs.Instance.{Instance, IsBelow, IsFarBelow, IsInstance, IsMember}
 use Rattle.olap_base.specs.Deciding.{below_is_member}
 use Rattle.olap_base.specs.Steps.{Steps, Steps.here, Steps.step, Climb, Climb.climb, Climb-from_leads}
 use Rattle.olap_ast.specs.Schema.{Schema, IsLegal}
@@ -18,10 +16,7 @@ use Rattle.olap_reading.specs.Broken.{IsBrokenBy}
 use Rattle.olap_instance.specs.Made.{IsMadeFor}
 use Rattle.olap_reading.specs.Telling.{IsTellable, told_text}
 use Rattle.olap_reading.specs.Violations.{violation_text}
-
--- the k-th parent is a parent
-parent_below : (i : Instance) (x k : ℕ) → k < length (parents_of i x) → IsBelow i x (slice_index (parents_of i x) k)
-parent_below i x k h = Contains-get_or (parents_of i x) k 0 h
+use Rattle.olap_check.proofs.FirstLemmas.{parent_at}
 
 -- what is reached by steps from a member is one
 steps_inside : (i : Instance) → IsInstance i → {x y : ℕ} → Steps (IsBelow i) x y → IsMember i x → IsMember i y
@@ -46,13 +41,13 @@ far_to i v x y f = go (Climb-from_leads f)
 pub tellable : (s : Schema) (i : Instance) → IsInstance i → IsMadeFor s.graph i → (w : Violation) → IsViolation s i w
     → IsTellable s.graph i (told i w)
 tellable s i v m (NoEdge x k) w =
-    let b = parent_below i x k w.0 in (below_is_member i x _ b, v.parents_are_members x _ b)
+    let b = parent_at i x k w.0 in (below_is_member i x _ b, v.parents_are_members x _ b)
 tellable s i v m (NoParent x) w = w.0
 tellable s i v m (SameCategory x) w = far_from i x w.0 w.1
 tellable s i v m (TwoAncestors x c) w =
     (far_from i x w.0 w.2, subst (λ d. IsCategory s.graph d) w.4 (m.categories w.0 (far_to i v x w.0 w.2)))
 tellable s i v m (Shortcut x k) w =
-    let b = parent_below i x k w.1 in (below_is_member i x _ b, v.parents_are_members x _ b)
+    let b = parent_at i x k w.1 in (below_is_member i x _ b, v.parents_are_members x _ b)
 tellable s i v m (Unmet k x) w = w.2.0
 
 -- the program's words for a violation are those of the violation

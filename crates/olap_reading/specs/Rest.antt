@@ -11,7 +11,7 @@ use Rattle.olap_facts.specs.FactText.{facts_read_within}
 use Rattle.olap_reading.specs.declared.rolling.Unrolled.{Unrolled}
 use Rattle.olap_reading.specs.declared.rolling.Unrolled.TheVariants as unrolled
 
--- so it is of some text, and where it is told what is left, of that
+-- P holds of some text; if what is left is told, of that text
 pub record IsOfRest (rest : Option (List ℕ)) (P : List ℕ → Type 0) : Type 0 where
   pub text : List ℕ
   pub told : IfSome rest (λ whole. whole ≡ text)

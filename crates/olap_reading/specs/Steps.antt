@@ -9,10 +9,10 @@ use Rattle.olap_base.specs.Views.{Fact, View}
 use Rattle.olap_ast.specs.Schema.{Schema}
 use Rattle.olap_ast.specs.Violation.{Violation}
 use Rattle.olap_records.specs.Records.{records_of}
+use Rattle.olap_records.specs.Tables.{named}
 use Rattle.olap_instance.specs.InstanceText.{instance_read}
 use Rattle.olap_instance.specs.Kinds.{name_of_kind as instance_kind}
-use Rattle.olap_facts.specs.FactText.{facts_read_within}
-use Rattle.olap_facts.specs.Kinds.{name_of_kind as fact_kind}
+use Rattle.olap_facts.specs.FactMeaning.{facts_meant}
 use Rattle.olap_view.specs.StoreText.{store_read}
 use Rattle.olap_view.specs.Kinds.{name_of_kind as store_kind}
 use Rattle.olap_check.specs.FirstViolation.{first_violation}
@@ -29,15 +29,16 @@ legal_or_violation label s i (Some v) = refused (label ++ (codes " " ++ violatio
 abbrev pub legal_file : Schema → List ℕ → List ℕ → Order Instance
 legal_file s label file =
     and_then (text_file label most_instance_bytes file) (λ text.
-    and_then (meaning_or_fault label (codes "record") instance_kind (instance_read s.graph (records_of text))) (λ i.
+    and_then (meaning_or_fault label (codes "record")
+    (named instance_kind (instance_read s.graph (records_of text)))) (λ i.
     legal_or_violation label s i (first_violation s i)))
 
 -- the facts at an instance's members in a file of any length
-abbrev pub facts_file : Schema → Instance → List ℕ → List ℕ → Order (List Fact)
+abbrev pub facts_file : Schema → Instance → List ℕ → List ℕ → Order (List (Fact ℕ))
 facts_file s i label file = Read file (λ text.
-    meaning_or_fault label (codes "record") fact_kind (facts_read_within most_facts s.graph i (records_of text)))
+    meaning_or_fault label (codes "record") (facts_meant most_facts s.graph i (records_of text)))
 
 -- the stored views of an instance in a file
-abbrev pub store_file : Schema → Instance → List ℕ → List ℕ → Order (List View)
+abbrev pub store_file : Schema → Instance → List ℕ → List ℕ → Order (List (View ℕ ℕ))
 store_file s i label file = and_then (text_file label most_store_bytes file) (λ text.
-    meaning_or_fault label (codes "record") store_kind (store_read s.graph i (records_of text)))
+    meaning_or_fault label (codes "record") (named store_kind (store_read s.graph i (records_of text))))

@@ -1,4 +1,4 @@
--- The words in which a violation of the program is told.
+-- The words that report a violation of the program.
 --     law_text      which law is broken, or that it is a constraint
 --     named_text    what a violation names
 --     told_text     the one, and the other

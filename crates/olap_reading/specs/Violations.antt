@@ -1,4 +1,4 @@
--- The words in which a violation is told.
+-- The words that report a violation.
 --     violation_text   which law is broken, or that it is a constraint, and what breaks it
 use Rattle.std.specs.Prelude.{ℕ, suc, List, ◌++◌, codes, slice_index}
 use Rattle.std.specs.Fmt.{decimal}

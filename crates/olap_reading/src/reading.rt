@@ -22,7 +22,7 @@ use olap_schema::Schema;
 use olap_view::{Store, View, read_store};
 use std::alloc::Global;
 
-/// The instance, where it is legal; else the refusal that tells its first violation.
+/// The instance, if it is legal; else the refusal that reports its first violation.
 fn legal_or_refused(
     alloc: Global,
     schema: &Schema,

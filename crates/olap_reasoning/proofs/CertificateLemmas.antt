@@ -1,6 +1,6 @@
 -- What is found answers a question.
-use Rattle.std.proofs.Common.{◌≡◌, ℕ, ◌<◌, List, [], ◌∷◌, ◌++◌, Bool, true, false, ◌||◌, codes, Ok, refl, inl, inr, subst, sym}
-use Rattle.std.specs.Prelude.{All, Contains, IsTrue, not, filter, flat_map, ◌==◌}
+use Rattle.std.proofs.Common.{◌≡◌, ℕ, ◌<◌, List, [], ◌++◌, codes, Ok, subst, sym, inl, inr}
+use Rattle.std.specs.Prelude.{All, Contains, IsTrue, flat_map}
 use Rattle.std.specs.List.{list_any}
 use Rattle.std.specs.Str.{is_utf8}
 use Rattle.std.proofs.lemmas.List.{get_or-map, length-map}
@@ -8,12 +8,13 @@ use Rattle.std.proofs.lemmas.List.Elements.{Contains-append_cases}
 use Rattle.olap_base.specs.Graph.{Graph, IsCategory, IsHierarchy}
 use Rattle.olap_base.specs.Instance.{IsMember, ReachesCategory}
 use Rattle.olap_base.specs.declared.ids.CatId.{CatId}
-use Rattle.olap_base.proofs.ListLemmas.{Contains-nil, Contains-from_filter, Contains-from_map}
-use Rattle.olap_ast.specs.Constants.{IsConstant, all_equalities}
-use Rattle.olap_ast.specs.Formula.{Equality, Formula, Formula.Truth, Formula.Not, equalities, equalities_of_terms}
+use Rattle.olap_base.proofs.ListLemmas.{Contains-nil}
+use Rattle.olap_ast.specs.Constants.{IsConstant}
+use Rattle.olap_ast.specs.Formula.{Formula, Formula.Truth, Formula.Not, Constant.AText}
+use Rattle.olap_ast.specs.Atoms.{all_equalities, equalities, equalities_of_terms}
 use Rattle.olap_ast.specs.Frozen.{IsFrozen, IsLeastFrozen}
 use Rattle.olap_ast.specs.Schema.{Schema}
-use Rattle.olap_ast.specs.Summarizable.{IsSummarizable, not_by_one, vias}
+use Rattle.olap_ast.specs.Summarizable.{IsSummarizable, not_by_one}
 use Rattle.olap_instance.specs.Printing.{text_of_instance}
 use Rattle.olap_cex.specs.CexText.{counterexample_text}
 use Rattle.olap_cex.specs.FoundFor.{IsFoundFor, found_instance, found_place}
@@ -26,17 +27,19 @@ use Rattle.olap_schema.specs.Readable.{is_control}
 use Rattle.olap_schema.specs.Readable.{AreTexts}
 use Rattle.olap_summ.specs.Counterexamples.{IsCounterexampleFound}
 use Rattle.olap_ast.specs.Trees.{numbers_of}
+use Rattle.olap_ast.proofs.ComparedLemmas.{atom_of_text}
 use Rattle.olap_reasoning.specs.Certificates.{ShowsDifference, ShowsUnmet}
-use Rattle.olap_order.specs.Judged.{IsVerdict, Replies}
-use Rattle.olap_order.proofs.Replying.{done}
+use Rattle.olap_order.specs.Judged.{Replies}
 use Rattle.olap_proof.specs.Verifying.{IsCertificateFor}
 use Rattle.olap_proof.specs.declared.forms.Form.{Form}
 use Rattle.olap_order.specs.Order.{Done}
 use Rattle.olap_order.specs.Outputs.{line}
 use Rattle.olap_reasoning.specs.Questions.{ByImplied, ByProof, BySatisfiable, IsAnswer, Question}
 use Rattle.olap_order.specs.declared.replies.Reply.{Reply}
-use Rattle.olap_order.specs.declared.status.Status.{Status}
 use Rattle.olap_order.specs.declared.status.Status.TheVariants.{No, Yes}
+use Rattle.olap_ast.proofs.SourceLemmas.{vias_free}
+use Rattle.olap_base.proofs.GeneralLemmas.{first_of_not_or}
+use Rattle.olap_reasoning.proofs.ReplyLemmas.{answers_by}
 
 -- ---- replies
 
@@ -46,20 +49,13 @@ pub member_shown : (s : Schema) (c : ℕ) (found : Found) → IsLeastFound s Tru
     → reply.bytes.items ≡ line (codes "yes") ++ frozen_text s.graph (candidates_of found.candidates)
     found.frozen.root.0 (frozen_of found.frozen)
     → Replies IsAnswer (Done (BySatisfiable s c)) (Ok reply)
-member_shown s c found least reply status text = record {
-  right = λ files. inr (
-    status,
-    record {
-      candidates = candidates_of found.candidates;
-      frozen = frozen_of found.frozen;
-      least = least.least;
-      text = subst (λ r. reply.bytes.items ≡ line (codes "yes") ++ frozen_text s.graph
-          (candidates_of found.candidates) r (frozen_of found.frozen)) least.root text;
-    },
-  );
-  verdict = subst IsVerdict (sym status) tt;
-  unread = λ e. absurd (cc);
-}
+member_shown s c found least reply status text = answers_by (BySatisfiable s c) Yes tt reply status (record {
+  candidates = candidates_of found.candidates;
+  frozen = frozen_of found.frozen;
+  least = least.least;
+  text = subst (λ r. reply.bytes.items ≡ line (codes "yes") ++ frozen_text s.graph (candidates_of found.candidates)
+      r (frozen_of found.frozen)) least.root text;
+})
 
 -- the least frozen dimension that was found shows that the constraint isn't met by all legal instances
 pub unmet_shown : (s : Schema) (r : ℕ) (q : Formula) (found : Found) → IsLeastFound s (Not q) r found → (reply : Reply)
@@ -67,11 +63,8 @@ pub unmet_shown : (s : Schema) (r : ℕ) (q : Formula) (found : Found) → IsLea
     → reply.bytes.items ≡ line (codes "no") ++ (frozen_text s.graph (candidates_of found.candidates)
     found.frozen.root.0 (frozen_of found.frozen) ++ text_of_instance s.graph (found_instance s.graph found))
     → Replies IsAnswer (Done (ByImplied s r q)) (Ok reply)
-unmet_shown s r q found least reply status text = record {
-  right = λ files. inr (status, at_root r least text);
-  verdict = subst IsVerdict (sym status) tt;
-  unread = λ e. absurd (cc);
-}
+unmet_shown s r q found least reply status text =
+    answers_by (ByImplied s r q) No tt reply status (at_root r least text)
   where
     at_root : (r : ℕ) → IsLeastFound s (Not q) r found
         → reply.bytes.items ≡ line (codes "no") ++ (frozen_text s.graph (candidates_of found.candidates)
@@ -89,37 +82,29 @@ unmet_shown s r q found least reply status text = record {
 -- question that this answers
 pub difference_shown : (q : Question) (s : Schema) (c : ℕ) (sources : List ℕ) (found : Found)
     → IsCounterexampleFound s c sources found
-    → ((status : Status) (bytes : List ℕ) → status ≡ No → ShowsDifference s c sources bytes → IsAnswer q status bytes)
+    → ((bytes : List ℕ) → ShowsDifference s c sources bytes → IsAnswer q No bytes)
     → (reply : Reply) → reply.status ≡ No
     → reply.bytes.items ≡ line (codes "no") ++ (frozen_text s.graph (candidates_of found.candidates)
     found.frozen.root.0 (frozen_of found.frozen)
     ++ counterexample_text s (candidates_of found.candidates) found.frozen.root.0 (frozen_of found.frozen) c sources)
     → Replies IsAnswer (Done q) (Ok reply)
-difference_shown q s c sources found f answers reply status text = record {
-  right = λ files. answers reply.status reply.bytes.items status (record {
-    candidates = candidates_of found.candidates;
-    root = found.frozen.root.0;
-    frozen = frozen_of found.frozen;
-    counterexample = f.is_one;
-    text = text;
-  });
-  verdict = subst IsVerdict (sym status) tt;
-  unread = λ e. absurd (cc);
-}
+difference_shown q s c sources found f answers reply status text =
+    answers_by q No tt reply status (answers reply.bytes.items (record {
+      candidates = candidates_of found.candidates;
+      root = found.frozen.root.0;
+      frozen = frozen_of found.frozen;
+      counterexample = f.is_one;
+      text = text;
+    }))
 
 -- a certificate shows that the target is summarizable
 pub certificate_shown : (f : Form) (s : Schema) (c : ℕ) (sources : List ℕ) → IsSummarizable s c sources
     → (reply : Reply) → reply.status ≡ Yes → IsCertificateFor f s c sources reply.bytes.items
     → Replies IsAnswer (Done (ByProof f s c sources)) (Ok reply)
-certificate_shown f s c sources is reply status certificate = done (ByProof f s c sources) reply status
-    (inl (status, is, certificate))
+certificate_shown f s c sources is reply status certificate =
+    answers_by (ByProof f s c sources) Yes tt reply status (is, certificate)
 
 -- ---- constants are UTF-8
-
--- an implication is false only if its premise is true
-not_bad : (u b : Bool) → (not u || b) ≡ false → u ≡ true
-not_bad true b e = refl
-not_bad false b e = absurd (cc)
 
 -- the atoms of a schema and a question have texts
 pub all_texts : (s : Schema) (q : Formula) → AreTexts (flat_map (λ c. equalities c.formula) s.constraints)
@@ -132,21 +117,14 @@ all_texts s q a b e h = elim (Contains-append_cases (flat_map (λ c. equalities 
 
 -- where all texts that are compared are UTF-8, the constants are
 constant_is_utf8 : (s : Schema) (q : Formula) → AreTexts (all_equalities s q) → (c : ℕ) (text : List ℕ)
-    → IsConstant s q c text → IsTrue (is_utf8 text)
+    → IsConstant s q c (AText text) → IsTrue (is_utf8 text)
 constant_is_utf8 s q a c text h =
-    let m = Contains-from_map (λ (e : Equality). e.text)
-    (filter (λ (e : Equality). e.category == c) (all_equalities s q)) text h in
-    let f = Contains-from_filter (λ (e : Equality). e.category == c) (all_equalities s q) m.0 m.1 in
-    subst (λ w. IsTrue (is_utf8 w)) m.2 (not_bad (is_utf8 m.0.text) (list_any is_control m.0.text) (a m.0 f.0))
-
--- the question of a counterexample has no atom on names
-no_atoms : (c : ℕ) (sources : List ℕ) → equalities_of_terms (vias c sources) ≡ []
-no_atoms c [] = refl
-no_atoms c (s ∷ sources) = no_atoms c sources
+    first_of_not_or (is_utf8 text) (list_any is_control text)
+    (a (record { category = c; text = text }) (atom_of_text s q c text h))
 
 -- the question of summarizability compares no texts
 pub question_has_texts : (c : ℕ) (sources : List ℕ) → AreTexts (equalities (not_by_one c sources))
-question_has_texts c sources e h = absurd (Contains-nil e (subst (λ es. Contains es e) (no_atoms c sources) h))
+question_has_texts c sources e h = absurd (Contains-nil e (subst (λ es. Contains es e) (vias_free c sources) h))
 
 -- ---- what is found may be printed
 

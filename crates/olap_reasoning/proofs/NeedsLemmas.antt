@@ -4,7 +4,7 @@
 --     emptied_are_categories         what is left without members are categories
 --     lines_of, emptied_text         the lines of both
 --     needs_listed, needs_emptied    they are answers
-use Rattle.std.proofs.Common.{◌≡◌, ◌≢◌, ◌⊎◌, ◌∙◌, ℕ, List, [], ◌∷◌, ◌++◌, Ok, Err, true, false, codes, length, map, ap, refl, sym, subst, inl, inr, arith}
+use Rattle.std.proofs.Common.{◌≡◌, ◌≢◌, ◌∙◌, ℕ, List, [], ◌∷◌, ◌++◌, Ok, true, false, codes, length, map, ap, refl, sym, subst, arith}
 use Rattle.std.specs.Prelude.{◌==◌, All, flat_map}
 use Rattle.std.proofs.lemmas.List.{length-map}
 use Rattle.std.proofs.lemmas.List.Elements.{Contains-get_or}
@@ -15,22 +15,22 @@ use Rattle.olap_ast.specs.declared.formulas.Constraint.{Constraint}
 use Rattle.olap_base.specs.Graph.{Graph, IsCategory}
 use Rattle.olap_base.specs.declared.ids.CatId.{CatId}
 use Rattle.olap_base.proofs.ListLemmas.{Contains-map}
-use Rattle.olap_base.proofs.ViewLemmas.{eqb_is}
 use Rattle.olap_needs.specs.Listing.{ListsNeeded}
 use Rattle.olap_needs.specs.Needs.{AreEmptied, AreNeeded, HasRoom, need, needs_text, with_needs}
 use Rattle.olap_needs.specs.declared.needing.Needs.{Needs}
 use Rattle.olap_needs.proofs.NeedLemmas.{emptied_are_one, needs_are_one}
-use Rattle.olap_order.specs.Judged.{IsVerdict, Replies}
+use Rattle.olap_order.specs.Judged.{Replies}
 use Rattle.olap_order.specs.Order.{Done}
 use Rattle.olap_order.specs.Outputs.{line}
 use Rattle.olap_order.specs.declared.replies.Reply.{Reply}
 use Rattle.olap_order.specs.declared.status.Status.{Status}
-use Rattle.olap_order.specs.declared.status.Status.TheVariants.{No, Yes}
-use Rattle.olap_order.proofs.Replying.{done}
+use Rattle.olap_order.specs.declared.status.Status.TheVariants.{No, Refused, Yes}
 use Rattle.olap_schema_text.specs.Printing.{constraint_text, text_of_lines}
 use Rattle.olap_reasoning.specs.Listings.{finding_text}
 use Rattle.olap_reasoning.specs.Needing.{HasNoRoom, ListsEmptied, ListsNeeds}
 use Rattle.olap_reasoning.specs.Questions.{ByNeeds, IsAnswer}
+use Rattle.std.proofs.lemmas.Bool.{eqb-true}
+use Rattle.olap_reasoning.proofs.ReplyLemmas.{answers_by}
 
 module _ (s : Schema) (c : ℕ) (sources : List ℕ) where
   -- room for one list is room for the other
@@ -63,15 +63,19 @@ module _ (s : Schema) (c : ℕ) (sources : List ℕ) where
   -- one status and one text
   pub one_needs : (st t : Status) (xs ys : List ℕ) → IsAnswer (ByNeeds s c sources) st xs
       → IsAnswer (ByNeeds s c sources) t ys → (st ≡ t) × (xs ≡ ys)
-  one_needs st t xs ys (inl a) (inl b) = (a.0 ∙ sym b.0, one_list xs ys a.1 b.1)
-  one_needs st t xs ys (inl a) (inr (inl b)) = absurd (not_both xs ys a.1 b.1)
-  one_needs st t xs ys (inl a) (inr (inr b)) = absurd (no_room a.1.bottoms a.1.are_needed a.1.room b.1)
-  one_needs st t xs ys (inr (inl a)) (inl b) = absurd (not_both ys xs b.1 a.1)
-  one_needs st t xs ys (inr (inl a)) (inr (inl b)) = (a.0 ∙ sym b.0, one_emptied xs ys a.1 b.1)
-  one_needs st t xs ys (inr (inl a)) (inr (inr b)) = absurd (no_room a.1.bottoms a.1.are_needed a.1.room b.1)
-  one_needs st t xs ys (inr (inr a)) (inl b) = absurd (no_room b.1.bottoms b.1.are_needed b.1.room a.1)
-  one_needs st t xs ys (inr (inr a)) (inr (inl b)) = absurd (no_room b.1.bottoms b.1.are_needed b.1.room a.1)
-  one_needs st t xs ys (inr (inr a)) (inr (inr b)) = (a.0 ∙ sym b.0, a.2 ∙ sym b.2)
+  one_needs Yes Yes xs ys a b = (refl, one_list xs ys a b)
+  one_needs Yes No xs ys a b = absurd (not_both xs ys a b)
+  one_needs Yes Refused xs ys a b = absurd (no_room a.bottoms a.are_needed a.room b.0)
+  one_needs Yes t xs ys a b = absurd b
+  one_needs No Yes xs ys a b = absurd (not_both ys xs b a)
+  one_needs No No xs ys a b = (refl, one_emptied xs ys a b)
+  one_needs No Refused xs ys a b = absurd (no_room a.bottoms a.are_needed a.room b.0)
+  one_needs No t xs ys a b = absurd b
+  one_needs Refused Yes xs ys a b = absurd (no_room b.bottoms b.are_needed b.room a.0)
+  one_needs Refused No xs ys a b = absurd (no_room b.bottoms b.are_needed b.room a.0)
+  one_needs Refused Refused xs ys a b = (refl, a.1 ∙ sym b.1)
+  one_needs Refused t xs ys a b = absurd b
+  one_needs st t xs ys a b = absurd a
 
 -- ---- what is told
 
@@ -86,7 +90,7 @@ emptied_text g ds = line (codes "no") ++ flat_map (λ b. finding_text g (Unsatis
 -- a list of length 0 is empty
 no_categories : (ds : List CatId) → (length ds == 0) ≡ true → ds ≡ []
 no_categories [] n = refl
-no_categories (d ∷ ds) n = let z : length (d ∷ ds) ≡ 0 = eqb_is (length (d ∷ ds)) 0 n in absurd (omega arith)
+no_categories (d ∷ ds) n = let z : length (d ∷ ds) ≡ 0 = eqb-true (length (d ∷ ds)) 0 n in absurd (omega arith)
 
 -- any other is not
 some_categories : (ds : List CatId) → (length ds == 0) ≡ false → numbers_of ds ≢ []
@@ -109,35 +113,25 @@ module _ (s : Schema) (c : ℕ) (sources : List ℕ) (needs : Needs) (l : ListsN
   pub needs_listed : HasRoom (with_needs s c sources l.bottoms) → (length needs.emptied.items == 0) ≡ true
       → (reply : Reply) → reply.status ≡ Yes → reply.bytes.items ≡ lines_of s.graph needs.constraints.items
       → Replies IsAnswer (Done (ByNeeds s c sources)) (Ok reply)
-  needs_listed room none reply status text = done (ByNeeds s c sources) reply status (inl (
-    status,
-    record {
-      bottoms = l.bottoms;
-      are_needed = l.are;
-      room = room;
-      none_emptied = subst (AreEmptied s c sources l.bottoms) (ap numbers_of (no_categories needs.emptied.items none))
-          l.emptied;
-      text = text ∙ ap (λ ds. text_of_lines (map (constraint_text s.graph) ds)) l.same;
-    },
-  ))
+  needs_listed room none reply status text = answers_by (ByNeeds s c sources) Yes tt reply status (record {
+    bottoms = l.bottoms;
+    are_needed = l.are;
+    room = room;
+    none_emptied = subst (AreEmptied s c sources l.bottoms) (ap numbers_of (no_categories needs.emptied.items none))
+        l.emptied;
+    text = text ∙ ap (λ ds. text_of_lines (map (constraint_text s.graph) ds)) l.same;
+  })
 
   -- and no is the answer if some are
   pub needs_emptied : HasRoom (with_needs s c sources l.bottoms) → (length needs.emptied.items == 0) ≡ false
       → (reply : Reply) → reply.status ≡ No → reply.bytes.items ≡ emptied_text s.graph needs.emptied.items
       → Replies IsAnswer (Done (ByNeeds s c sources)) (Ok reply)
-  needs_emptied room some reply status text = record {
-    right = λ files. inr (inl (
-      status,
-      record {
-        bottoms = l.bottoms;
-        emptied = numbers_of needs.emptied.items;
-        are_needed = l.are;
-        room = room;
-        are_emptied = l.emptied;
-        some = some_categories needs.emptied.items some;
-        text = text;
-      },
-    ));
-    verdict = subst IsVerdict (sym status) tt;
-    unread = λ e. absurd (cc);
-  }
+  needs_emptied room some reply status text = answers_by (ByNeeds s c sources) No tt reply status (record {
+    bottoms = l.bottoms;
+    emptied = numbers_of needs.emptied.items;
+    are_needed = l.are;
+    room = room;
+    are_emptied = l.emptied;
+    some = some_categories needs.emptied.items some;
+    text = text;
+  })

@@ -1,23 +1,20 @@
 -- There is one answer at most to a question about all legal instances.
-use Rattle.std.proofs.Common.{◌≡◌, ◌⊎◌, [], ℕ, ◌≤◌, List, ◌∷◌, ◌++◌, length, refl, ap, sym, ◌∙◌, inl, inr, arith}
+use Rattle.std.proofs.Common.{◌≡◌, ◌⊎◌, [], ℕ, ◌≤◌, List, ◌++◌, length, refl, ap, sym, ◌∙◌, inl, inr, arith}
 use Rattle.std.specs.Prelude.{codes, flat_map}
 use Rattle.std.specs.Fmt.{decimal}
-use Rattle.olap_base.specs.Graph.{Graph}
 use Rattle.olap_ast.specs.Findings.{IsUnsatisfiable}
 use Rattle.olap_ast.specs.Formula.{Formula, Formula.Truth, Formula.Not}
-use Rattle.olap_ast.specs.Frozen.{Candidates, Frozen, chosen, name_in, root_place, thawed}
+use Rattle.olap_ast.specs.Frozen.{Frozen, root_place, thawed}
 use Rattle.olap_ast.specs.Questions.{IsImplied}
 use Rattle.olap_ast.specs.Schema.{Schema}
 use Rattle.olap_ast.specs.Summarizable.{IsSummarizable}
 use Rattle.olap_ast.proofs.Determined.{findings_are_one, not_both_answers, not_more, one_list, same_name, the_counterexample_is_one, the_least_is_one}
 use Rattle.olap_cex.specs.CexText.{direct_sum, sums_text, views_sum}
-use Rattle.olap_cex.specs.FrozenText.{edge_bits, frozen_text}
-use Rattle.olap_cex.specs.Present.{first_present}
-use Rattle.olap_grammar.specs.Quoting.{quoted}
-use Rattle.olap_graph.specs.Lookups.{name_of_category}
+use Rattle.olap_cex.specs.FrozenText.{frozen_text}
 use Rattle.olap_instance.specs.Printing.{text_of_instance}
 use Rattle.olap_order.specs.Outputs.{line}
 use Rattle.olap_order.specs.declared.status.Status.{Status}
+use Rattle.olap_order.specs.declared.status.Status.TheVariants.{Yes, No, Refused}
 use Rattle.olap_reasoning.specs.Certificates.{ShowsDifference, ShowsMember, ShowsUnmet}
 use Rattle.olap_reasoning.specs.Laws.{AllFrozenAreOne, AnswersAreOne, AreCertificates, FindingsAreOne, TooManyAreNotListed}
 use Rattle.olap_reasoning.specs.Listings.{HasTooMany, ListsFindings, ListsFrozen, finding_text}
@@ -25,16 +22,9 @@ use Rattle.olap_reasoning.proofs.NeedsLemmas.{one_needs}
 use Rattle.olap_reasoning.specs.ShapeListings.{HasTooManyShapes, ListsShapes}
 use Rattle.olap_reasoning.proofs.ShapeLemmas.{shapes_are_one, too_many_shapes_are_not_listed}
 use Rattle.olap_reasoning.specs.Questions.{IsAnswer, Question, BySatisfiable, ByImplied, BySummarizable, ByProof, ByNeeds, ByFrozen, ByShapes, ByAudit}
+use Rattle.olap_cex.proofs.OneLine.{same_line}
 
 -- ---- the line of a frozen dimension
-
--- frozen dimensions that can't be told apart have one line
-same_line : (g : Graph) (k h : Candidates) (r d : ℕ) (f w : Frozen) → r ≡ d → f ≡ w
-    → ((c : ℕ) → name_in k f c ≡ name_in h w c) → frozen_text g k r f ≡ frozen_text g h d w
-same_line g k h r d f w q p n = λ i.
-    codes "frozen " ++ (edge_bits (p i).edges ++ (flat_map
-    (λ c. 32 ∷ (name_of_category g c ++ 61 ∷ quoted (n c i)))
-    (first_present (q i) (chosen g.edges (p i).edges) (length g.names)) ++ 10 ∷ []))
 
 -- ---- satisfiable, implies, summarizable
 
@@ -87,18 +77,18 @@ one_listing : (s : Schema) (c : ℕ) (xs ys : List ℕ) → ListsFrozen s c xs �
 one_listing s c xs ys a b =
     let k = a.candidates in let h = b.candidates in
     let p : a.frozen ≡ b.frozen =
-    one_list s Truth c k h a.all.candidates b.all.candidates a.frozen b.frozen a.all.ordered
-    b.all.ordered a.all.sound b.all.sound a.all.complete b.all.complete in
+    one_list s Truth c k h a.all.0 b.all.0 a.frozen b.frozen a.all.1.ordered
+    b.all.1.ordered a.all.1.sound b.all.1.sound a.all.1.complete b.all.1.complete in
     let m : (f : Frozen) → frozen_text s.graph k c f ≡ frozen_text s.graph h c f = λ f.
-    same_line s.graph k h c c f f refl refl (λ d. same_name s Truth k h a.all.candidates b.all.candidates f d) in
+    same_line s.graph k h c c f f refl refl (λ d. same_name s Truth k h a.all.0 b.all.0 f d) in
     a.text ∙ (λ i. flat_map (λ f. m f i) (p i) ++ line (codes "count " ++ decimal (length (p i)))) ∙ sym b.text
 
 -- there is none where they are too many
 no_listing : (s : Schema) (c : ℕ) (ys : List ℕ) → HasTooMany s c → ListsFrozen s c ys → ⊥
 no_listing s c ys m l =
     let h = m.0 in let t = m.1 in
-    let r : length t.some ≤ length l.frozen = not_more s Truth c l.candidates h l.all.candidates t.candidates l.frozen
-    t.some l.all.complete t.differ t.sound in
+    let r : length t.some ≤ length l.frozen = not_more s Truth c l.candidates h l.all.0 t.candidates l.frozen
+    t.some l.all.1.complete t.differ t.sound in
     let many = t.many in let few = l.few in omega (arith, r, many, few)
 
 -- the list of all shapes has one text
@@ -123,38 +113,56 @@ one_audit s xs ys a b =
 
 -- ---- all questions
 
--- one status and one text for each question, but for certificates
+-- one status and one text for each question, but for certificates of a yes
 one_answer : (q : Question) (s t : Status) (xs ys : List ℕ) → IsAnswer q s xs → IsAnswer q t ys
-    → (s ≡ t) × ((xs ≡ ys) ⊎ AreCertificates q xs ys)
-one_answer (BySatisfiable z c) s t xs ys (inl a) (inl b) = (a.0 ∙ sym b.0, inl (a.2 ∙ sym b.2))
-one_answer (BySatisfiable z c) s t xs ys (inl a) (inr b) = absurd (no_member z c ys a.1 b.1)
-one_answer (BySatisfiable z c) s t xs ys (inr a) (inl b) = absurd (no_member z c xs b.1 a.1)
-one_answer (BySatisfiable z c) s t xs ys (inr a) (inr b) = (a.0 ∙ sym b.0, inl (one_member z c xs ys a.1 b.1))
-one_answer (ByImplied z r q) s t xs ys (inl a) (inl b) = (a.0 ∙ sym b.0, inl (a.2 ∙ sym b.2))
-one_answer (ByImplied z r q) s t xs ys (inl a) (inr b) = absurd (no_unmet z r q ys a.1 b.1)
-one_answer (ByImplied z r q) s t xs ys (inr a) (inl b) = absurd (no_unmet z r q xs b.1 a.1)
-one_answer (ByImplied z r q) s t xs ys (inr a) (inr b) = (a.0 ∙ sym b.0, inl (one_unmet z r q xs ys a.1 b.1))
-one_answer (BySummarizable z c sources) s t xs ys (inl a) (inl b) = (a.0 ∙ sym b.0, inl (a.2 ∙ sym b.2))
-one_answer (BySummarizable z c sources) s t xs ys (inl a) (inr b) = absurd (no_difference z c sources ys a.1 b.1)
-one_answer (BySummarizable z c sources) s t xs ys (inr a) (inl b) = absurd (no_difference z c sources xs b.1 a.1)
-one_answer (BySummarizable z c sources) s t xs ys (inr a) (inr b) =
-    (a.0 ∙ sym b.0, inl (one_difference z c sources xs ys a.1 b.1))
-one_answer (ByProof f z c sources) s t xs ys (inl a) (inl b) = (a.0 ∙ sym b.0, inr (a.2, b.2))
-one_answer (ByProof f z c sources) s t xs ys (inl a) (inr b) = absurd (no_difference z c sources ys a.1 b.1)
-one_answer (ByProof f z c sources) s t xs ys (inr a) (inl b) = absurd (no_difference z c sources xs b.1 a.1)
-one_answer (ByProof f z c sources) s t xs ys (inr a) (inr b) =
-    (a.0 ∙ sym b.0, inl (one_difference z c sources xs ys a.1 b.1))
+    → (s ≡ t) × ((xs ≡ ys) ⊎ ((s ≡ Yes) × AreCertificates q xs ys))
+one_answer (BySatisfiable z c) Yes Yes xs ys a b = (refl, inl (one_member z c xs ys a b))
+one_answer (BySatisfiable z c) Yes No xs ys a b = absurd (no_member z c xs b.0 a)
+one_answer (BySatisfiable z c) Yes t xs ys a b = absurd b
+one_answer (BySatisfiable z c) No Yes xs ys a b = absurd (no_member z c ys a.0 b)
+one_answer (BySatisfiable z c) No No xs ys a b = (refl, inl (a.1 ∙ sym b.1))
+one_answer (BySatisfiable z c) No t xs ys a b = absurd b
+one_answer (BySatisfiable z c) s t xs ys a b = absurd a
+one_answer (ByImplied z r q) Yes Yes xs ys a b = (refl, inl (a.1 ∙ sym b.1))
+one_answer (ByImplied z r q) Yes No xs ys a b = absurd (no_unmet z r q ys a.0 b)
+one_answer (ByImplied z r q) Yes t xs ys a b = absurd b
+one_answer (ByImplied z r q) No Yes xs ys a b = absurd (no_unmet z r q xs b.0 a)
+one_answer (ByImplied z r q) No No xs ys a b = (refl, inl (one_unmet z r q xs ys a b))
+one_answer (ByImplied z r q) No t xs ys a b = absurd b
+one_answer (ByImplied z r q) s t xs ys a b = absurd a
+one_answer (BySummarizable z c sources) Yes Yes xs ys a b = (refl, inl (a.1 ∙ sym b.1))
+one_answer (BySummarizable z c sources) Yes No xs ys a b = absurd (no_difference z c sources ys a.0 b)
+one_answer (BySummarizable z c sources) Yes t xs ys a b = absurd b
+one_answer (BySummarizable z c sources) No Yes xs ys a b = absurd (no_difference z c sources xs b.0 a)
+one_answer (BySummarizable z c sources) No No xs ys a b = (refl, inl (one_difference z c sources xs ys a b))
+one_answer (BySummarizable z c sources) No t xs ys a b = absurd b
+one_answer (BySummarizable z c sources) s t xs ys a b = absurd a
+one_answer (ByProof f z c sources) Yes Yes xs ys a b = (refl, inr (refl, (a.1, b.1)))
+one_answer (ByProof f z c sources) Yes No xs ys a b = absurd (no_difference z c sources ys a.0 b)
+one_answer (ByProof f z c sources) Yes t xs ys a b = absurd b
+one_answer (ByProof f z c sources) No Yes xs ys a b = absurd (no_difference z c sources xs b.0 a)
+one_answer (ByProof f z c sources) No No xs ys a b = (refl, inl (one_difference z c sources xs ys a b))
+one_answer (ByProof f z c sources) No t xs ys a b = absurd b
+one_answer (ByProof f z c sources) s t xs ys a b = absurd a
 one_answer (ByNeeds z c sources) s t xs ys a b =
     let one = one_needs z c sources s t xs ys a b in (one.0, inl one.1)
-one_answer (ByFrozen z c) s t xs ys (inl a) (inl b) = (a.0 ∙ sym b.0, inl (one_listing z c xs ys a.1 b.1))
-one_answer (ByFrozen z c) s t xs ys (inl a) (inr b) = absurd (no_listing z c xs b.1 a.1)
-one_answer (ByFrozen z c) s t xs ys (inr a) (inl b) = absurd (no_listing z c ys a.1 b.1)
-one_answer (ByFrozen z c) s t xs ys (inr a) (inr b) = (a.0 ∙ sym b.0, inl (a.2 ∙ sym b.2))
-one_answer (ByShapes z c) s t xs ys (inl a) (inl b) = (a.0 ∙ sym b.0, inl (one_shaping z c xs ys a.1 b.1))
-one_answer (ByShapes z c) s t xs ys (inl a) (inr b) = absurd (no_shaping z c xs b.1 a.1)
-one_answer (ByShapes z c) s t xs ys (inr a) (inl b) = absurd (no_shaping z c ys a.1 b.1)
-one_answer (ByShapes z c) s t xs ys (inr a) (inr b) = (a.0 ∙ sym b.0, inl (a.2 ∙ sym b.2))
-one_answer (ByAudit z) s t xs ys a b = (a.0 ∙ sym b.0, inl (one_audit z xs ys a.1 b.1))
+one_answer (ByFrozen z c) Yes Yes xs ys a b = (refl, inl (one_listing z c xs ys a b))
+one_answer (ByFrozen z c) Yes Refused xs ys a b = absurd (no_listing z c xs b.0 a)
+one_answer (ByFrozen z c) Yes t xs ys a b = absurd b
+one_answer (ByFrozen z c) Refused Yes xs ys a b = absurd (no_listing z c ys a.0 b)
+one_answer (ByFrozen z c) Refused Refused xs ys a b = (refl, inl (a.1 ∙ sym b.1))
+one_answer (ByFrozen z c) Refused t xs ys a b = absurd b
+one_answer (ByFrozen z c) s t xs ys a b = absurd a
+one_answer (ByShapes z c) Yes Yes xs ys a b = (refl, inl (one_shaping z c xs ys a b))
+one_answer (ByShapes z c) Yes Refused xs ys a b = absurd (no_shaping z c xs b.0 a)
+one_answer (ByShapes z c) Yes t xs ys a b = absurd b
+one_answer (ByShapes z c) Refused Yes xs ys a b = absurd (no_shaping z c ys a.0 b)
+one_answer (ByShapes z c) Refused Refused xs ys a b = (refl, inl (a.1 ∙ sym b.1))
+one_answer (ByShapes z c) Refused t xs ys a b = absurd b
+one_answer (ByShapes z c) s t xs ys a b = absurd a
+one_answer (ByAudit z) Yes Yes xs ys a b = (refl, inl (one_audit z xs ys a b))
+one_answer (ByAudit z) Yes t xs ys a b = absurd b
+one_answer (ByAudit z) s t xs ys a b = absurd a
 
 -- so it is of all questions
 pub answers_are_one : AnswersAreOne
@@ -164,10 +172,10 @@ answers_are_one = one_answer
 
 -- all frozen dimensions are one list
 pub all_frozen_are_one : AllFrozenAreOne
-all_frozen_are_one s q r k h xs ys a b = one_list s q r k h a.candidates b.candidates xs ys a.ordered b.ordered a.sound
-    b.sound a.complete b.complete
+all_frozen_are_one s q r k h xs ys a b = one_list s q r k h a.0 b.0 xs ys a.1.ordered b.1.ordered a.1.sound b.1.sound
+    a.1.complete b.1.complete
 
--- where there are too many, no list has all
+-- if there are too many, no list has all
 pub too_many_are_not_listed : TooManyAreNotListed
 too_many_are_not_listed = no_listing
 

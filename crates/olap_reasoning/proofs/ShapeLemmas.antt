@@ -1,5 +1,5 @@
 -- Shapes: what is listed answers its question, and it is one list.
-use Rattle.std.proofs.Common.{◌≡◌, ℕ, ◌≤◌, List, [], Bool, ◌++◌, length, get_or, codes, decimal, Ok, inl, ap, sym, subst, ◌∙◌, arith}
+use Rattle.std.proofs.Common.{◌≡◌, ℕ, ◌≤◌, List, [], Bool, ◌++◌, length, codes, decimal, Ok, ap, sym, subst, ◌∙◌, arith}
 use Rattle.std.specs.Prelude.{◌≢◌, AllPairs, Contains, flat_map}
 use Rattle.std.proofs.lemmas.List.{get_or-map, length-map}
 use Rattle.std.proofs.lemmas.List.Elements.{All-contains_itself}
@@ -19,8 +19,8 @@ use Rattle.olap_order.specs.Order.{Done}
 use Rattle.olap_order.specs.Outputs.{line}
 use Rattle.olap_order.specs.declared.replies.Reply.{Reply}
 use Rattle.olap_order.specs.declared.status.Status.TheVariants.{Yes}
-use Rattle.olap_order.proofs.Replying.{done}
 use Rattle.olap_reasoning.specs.Questions.{ByShapes, IsAnswer}
+use Rattle.olap_reasoning.proofs.ReplyLemmas.{answers_by}
 use Rattle.olap_reasoning.specs.ShapeLaws.{EachShapeIsListedOnce, ShapesAreOne, TooManyShapesAreNotListed, edges_of}
 
 -- the lines of the least frozen dimensions of all shapes answer `shapes`
@@ -28,14 +28,12 @@ pub shapes_listed : (s : Schema) (c : ℕ) (k : Candidates) (shapes : List Froze
     → length shapes ≤ most_frozen → (reply : Reply) → reply.status ≡ Yes
     → reply.bytes.items ≡ flat_map (frozen_text s.graph k c) shapes ++ line (codes "count " ++ decimal (length shapes))
     → Replies IsAnswer (Done (ByShapes s c)) (Ok reply)
-shapes_listed s c k shapes are few reply status text = done (ByShapes s c) reply status (inl (
-  status,
-  record { candidates = k; frozen = shapes; all = are; few = few; text = text },
-))
+shapes_listed s c k shapes are few reply status text = answers_by (ByShapes s c) Yes tt reply status
+    (record { candidates = k; frozen = shapes; all = are; few = few; text = text })
 
 -- ---- one list
 
--- before, by their codes, of values with so many edges
+-- before, by their codes, of values with this many edges
 abbrev Before : ℕ → Frozen → Frozen → Type 0
 Before n f h = IsBefore f h × (length f.edges ≡ n) × (length h.edges ≡ n)
 
@@ -43,7 +41,7 @@ Before n f h = IsBefore f h × (length f.edges ≡ n) × (length h.edges ≡ n)
 apart_before : (n : ℕ) → Apart (Before n)
 apart_before n f h a b = a.0.1 (code_is_one f h (a.1 ∙ sym a.2) a.0.0 b.0.0)
 
--- what is listed is in order, with so many edges
+-- what is listed is in order, with this many edges
 in_order : (s : Schema) (q : Formula) (r : ℕ) (k : Candidates) (xs : List Frozen) → AreShapes s q r k xs
     → AllPairs (Before (length s.graph.edges)) xs
 in_order s q r k xs a i j d l m = (
@@ -85,7 +83,7 @@ differ xs other i j e l m q =
     none = record { edges = []; names = [] }
 
 -- no two that are listed have the same edges
-no_two : (s : Schema) (q : Formula) (r : ℕ) (k : Candidates) (xs : List Frozen) → AreShapes s q r k xs
+pub no_two : (s : Schema) (q : Formula) (r : ℕ) (k : Candidates) (xs : List Frozen) → AreShapes s q r k xs
     → AllPairs (λ f h. f.edges ≢ h.edges) xs
 no_two s q r k xs a i j d l m e =
     let f = a.sound _ (All-contains_itself xs i d (omega arith)) in
@@ -121,7 +119,7 @@ no_more s q r k h xs some others a other sound =
         let g = a.complete f.0 (still_frozen s q r h k others a.candidates f.0 (sound f.0 f.1)) in
         subst (Contains (edges_of xs)) f.2 (edges_in xs f.0 g.0 g.1 g.2)
 
--- where there are too many shapes, no list has all
+-- if there are too many shapes, no list has all
 pub too_many_shapes_are_not_listed : TooManyShapesAreNotListed
 too_many_shapes_are_not_listed s c bytes m l =
     let t = m.1 in

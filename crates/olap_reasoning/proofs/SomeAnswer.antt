@@ -1,5 +1,5 @@
 -- Each question about all legal instances of a valid schema has an answer.
-use Rattle.std.proofs.Common.{ℕ, ◌<◌, ◌≤◌, List, ◌++◌, length, refl, inl, inr, arith}
+use Rattle.std.proofs.Common.{ℕ, List, ◌++◌, length, refl, inl, inr}
 use Rattle.std.specs.Prelude.{◌⊎◌, codes, flat_map}
 use Rattle.std.specs.Fmt.{decimal}
 use Rattle.olap_base.specs.Limits.{most_frozen}
@@ -28,10 +28,7 @@ use Rattle.olap_reasoning.specs.Listings.{finding_text}
 use Rattle.olap_reasoning.specs.Questions.{IsAnswer, Question, BySatisfiable, ByImplied, BySummarizable, ByProof, ByFrozen, ByAudit, ByNeeds, ByShapes}
 use Rattle.olap_reasoning.proofs.SomeNeeds.{needs_exist}
 use Rattle.olap_reasoning.proofs.SomeShapes.{shapes_exist}
-
--- so many at most, or more
-few_or_more : (n m : ℕ) → (n ≤ m) ⊎ (m < n)
-few_or_more n m = grind arith
+use Rattle.olap_base.proofs.GeneralLemmas.{at_most_or_greater}
 
 -- the question has an answer
 abbrev Answered : Question → Type 0
@@ -49,9 +46,9 @@ satisfied least candidates unsatisfiable s c v =
     go k are (inl t) = (
       Yes,
       line (codes "yes") ++ frozen_text s.graph k c t.0,
-      inr (refl, record { candidates = k; frozen = t.0; least = t.1; text = refl }),
+      record { candidates = k; frozen = t.0; least = t.1; text = refl },
     )
-    go k are (inr n) = (No, line (codes "no"), inl (refl, (unsatisfiable s c k v.hierarchy are).1 n, refl))
+    go k are (inr n) = (No, line (codes "no"), ((unsatisfiable s c k v.hierarchy are).1 n, refl))
 
 -- a constraint is met, or a least frozen dimension doesn't meet it
 met : LeastFrozenExist → ValidSchemasHaveCandidates → ImpliedExactlyIfNoneFrozen → (s : Schema) (r : ℕ) (q : Formula)
@@ -65,9 +62,9 @@ met least candidates implied s r q v t =
     go k are (inl t) = (
       No,
       line (codes "no") ++ (frozen_text s.graph k r t.0 ++ text_of_instance s.graph (thawed s k r t.0)),
-      inr (refl, record { candidates = k; frozen = t.0; least = t.1; text = refl }),
+      record { candidates = k; frozen = t.0; least = t.1; text = refl },
     )
-    go k are (inr n) = (Yes, line (codes "yes"), inl (refl, (implied s r q k v.hierarchy are).1 n, refl))
+    go k are (inr n) = (Yes, line (codes "yes"), ((implied s r q k v.hierarchy are).1 n, refl))
 
 -- a target is summarizable, or there is a difference to show
 summed : CounterexamplesExist → (s : Schema) (c : ℕ) (sources : List ℕ) → IsValidSchema s
@@ -96,31 +93,22 @@ listed lists candidates s c v = let k = candidates s 0 Truth v tt in go k.0 k.1 
   where
     go : (k : Candidates) → AreCandidates s Truth k
         → (all : List Frozen) × AreExactly code (IsFrozen s Truth c k) all → Answered (ByFrozen s c)
-    go k are t = elim (few_or_more (length t.0) most_frozen) [
+    go k are t = elim (at_most_or_greater (length t.0) most_frozen) [
       | inl l ↦ (
         Yes,
         flat_map (frozen_text s.graph k c) t.0 ++ line (codes "count " ++ decimal (length t.0)),
-        inl (
-          refl,
-          record {
-            candidates = k;
-            frozen = t.0;
-            all = record {
-              candidates = are;
-              ordered = t.1.ordered;
-              sound = t.1.sound;
-              complete = t.1.complete;
-            };
-            few = l;
-            text = refl;
-          },
-        ),
+        record {
+          candidates = k;
+          frozen = t.0;
+          all = (are, t.1);
+          few = l;
+          text = refl;
+        },
       )
       | inr m ↦ (
         Refused,
         refusal (codes "frozen TooMany"),
-        inr (
-          refl,
+        (
           (
             k,
             record {
@@ -144,12 +132,12 @@ module _ (least : LeastFrozenExist) (lists : FrozenAreListed) (counterexamples :
   answers_exist (BySatisfiable s c) v = satisfied least candidates unsatisfiable s c v
   answers_exist (ByImplied s r q) t = met least candidates implied s r q t.0 t.1
   answers_exist (BySummarizable s c sources) v = elim (summed counterexamples s c sources v) [
-    | inl h ↦ (Yes, line (codes "yes"), inl (refl, h, refl))
-    | inr t ↦ (No, t.0, inr (refl, t.1))
+    | inl h ↦ (Yes, line (codes "yes"), (h, refl))
+    | inr t ↦ (No, t.0, t.1)
   ]
   answers_exist (ByProof f s c sources) v = elim (summed counterexamples s c sources v) [
-    | inl h ↦ let w = certified of_sources certificates f s c sources v h in (Yes, w.0, inl (refl, h, w.1))
-    | inr t ↦ (No, t.0, inr (refl, t.1))
+    | inl h ↦ let w = certified of_sources certificates f s c sources v h in (Yes, w.0, (h, w.1))
+    | inr t ↦ (No, t.0, t.1)
   ]
   answers_exist (ByNeeds s c sources) v = needs_exist least implied leave of_sources s c sources v
   answers_exist (ByFrozen s c) v = listed lists candidates s c v
@@ -158,5 +146,5 @@ module _ (least : LeastFrozenExist) (lists : FrozenAreListed) (counterexamples :
       let t = findings s v in (
         Yes,
         flat_map (finding_text s.graph) t.0 ++ line (codes "findings " ++ decimal (length t.0)),
-        (refl, record { findings = t.0; are_findings = t.1; text = refl }),
+        record { findings = t.0; are_findings = t.1; text = refl },
       )

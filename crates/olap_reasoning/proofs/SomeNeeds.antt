@@ -18,7 +18,7 @@ use Rattle.olap_ast.specs.Valid.{IsValidSchema, node_count}
 use Rattle.olap_ast.proofs.SameAtoms.{candidates_too}
 use Rattle.olap_exists.specs.Existing.{LeastFrozenExist}
 use Rattle.olap_exists.proofs.Counterexamples.{dec_bottom}
-use Rattle.olap_exists.proofs.Finite.{dec_each, dec_not}
+use Rattle.olap_exists.proofs.Finite.{dec_each}
 use Rattle.olap_exists.proofs.Listed.{AreListed, all_pairs}
 use Rattle.olap_needs.specs.Laws.{NeedsLeaveMembers}
 use Rattle.olap_needs.specs.Needs.{AreAscending, AreEmptied, AreNeeded, HasRoom, IsNeeded, by_one, needs_text, with_needs}
@@ -26,13 +26,13 @@ use Rattle.olap_order.specs.Outputs.{line, refusal}
 use Rattle.olap_order.specs.declared.status.Status.{Status}
 use Rattle.olap_order.specs.declared.status.Status.TheVariants.{Yes, No, Refused}
 use Rattle.olap_reasoning.specs.Listings.{finding_text}
-use Rattle.olap_reasoning.specs.Needing.{HasNoRoom, ListsEmptied, ListsNeeds}
+use Rattle.olap_base.proofs.GeneralLemmas.{equal_or_less}
+use Rattle.olap_base.proofs.DecisionLemmas.{dec_not}
+use Rattle.olap_reasoning.specs.Questions.{ByNeeds, IsAnswer}
 
 -- ---- numbers with a property that can be decided
 
-same_or_more : (j b : ℕ) → j ≤ b → (j ≡ b) ⊎ (suc j ≤ b)
-same_or_more j b l = grind arith
-
+-- a number from j on is j, or is from j + 1 on
 module _ (P : ℕ → Type 0) (d : (b : ℕ) → Dec (P b)) where
   -- those of n numbers from j on
   abbrev From : ℕ → ℕ → ℕ → Type 0
@@ -61,7 +61,7 @@ module _ (P : ℕ → Type 0) (d : (b : ℕ) → Dec (P b)) where
             | inr h ↦ let s = t.1.sound b h in
                 ((let l = s.0 in omega (arith, l)), (let l = s.1 in omega (arith, l)), s.2)
           ];
-          complete = λ b s. elim (same_or_more j b s.0) [
+          complete = λ b s. elim (equal_or_less j b s.0) [
             | inl e ↦ subst (λ x. Contains (j ∷ t.0) x) e (contains_head j t.0)
             | inr l ↦ contains_cons b t.0 j (t.1.complete b (l, (let m = s.1 in omega (arith, m)), s.2))
           ];
@@ -73,7 +73,7 @@ module _ (P : ℕ → Type 0) (d : (b : ℕ) → Dec (P b)) where
           ordered = t.1.ordered;
           sound = λ b c. let s = t.1.sound b c in
               ((let l = s.0 in omega (arith, l)), (let l = s.1 in omega (arith, l)), s.2);
-          complete = λ b s. elim (same_or_more j b s.0) [
+          complete = λ b s. elim (equal_or_less j b s.0) [
             | inl e ↦ absurd (m (subst P (sym e) s.2))
             | inr l ↦ t.1.complete b (l, (let k = s.1 in omega (arith, k)), s.2)
           ];
@@ -150,9 +150,7 @@ dec_room s =
 -- the answer of `needs`
 abbrev NeedsAnswered : Schema → ℕ → List ℕ → Type 0
 NeedsAnswered s c sources = (status : Status) × (bytes : List ℕ)
-    × (((status ≡ Yes) × ListsNeeds s c sources bytes)
-    ⊎ ((status ≡ No) × ListsEmptied s c sources bytes)
-    ⊎ ((status ≡ Refused) × HasNoRoom s c sources × (bytes ≡ refusal (codes "needs TooMany"))))
+    × IsAnswer (ByNeeds s c sources) status bytes
 
 -- the constraints are told, or whom they empty, or that they are too many
 pub needs_exist : LeastFrozenExist → ImpliedExactlyIfNoneFrozen → NeedsLeaveMembers → SourcesHaveCandidates
@@ -165,25 +163,22 @@ needs_exist least implied leave candidates s c sources v =
   where
     go : (bs : List ℕ) → AreNeeded s c sources bs → (es : List ℕ) → AreEmptied s c sources bs es
         → Dec (HasRoom (with_needs s c sources bs)) → NeedsAnswered s c sources
-    go bs n es e (no m) = (Refused, refusal (codes "needs TooMany"), inr (inr (refl, (bs, n, m), refl)))
+    go bs n es e (no m) = (Refused, refusal (codes "needs TooMany"), ((bs, n, m), refl))
     go bs n [] e (yes r) = (
       Yes,
       needs_text s.graph c sources bs,
-      inl (refl, record { bottoms = bs; are_needed = n; room = r; none_emptied = e; text = refl }),
+      record { bottoms = bs; are_needed = n; room = r; none_emptied = e; text = refl },
     )
     go bs n (x ∷ xs) e (yes r) = (
       No,
       line (codes "no") ++ flat_map (λ b. finding_text s.graph (Unsatisfiable b)) (x ∷ xs),
-      inr (inl (
-        refl,
-        record {
-          bottoms = bs;
-          emptied = x ∷ xs;
-          are_needed = n;
-          room = r;
-          are_emptied = e;
-          some = λ q. absurd (cc);
-          text = refl;
-        },
-      )),
+      record {
+        bottoms = bs;
+        emptied = x ∷ xs;
+        are_needed = n;
+        room = r;
+        are_emptied = e;
+        some = λ q. absurd (cc);
+        text = refl;
+      },
     )

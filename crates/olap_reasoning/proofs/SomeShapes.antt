@@ -1,12 +1,11 @@
 -- Of a valid schema there is a list of the shapes of each root, or it has more than may be listed.
 --     least_ones      of a list in order those that are least with their edges
 --     shapes_listed   the shapes of a root are listed
---     shapes_differ   no two of them have the same edges
 --     shapes_exist    they are told, or that they are too many
-use Rattle.std.proofs.Common.{◌≡◌, ℕ, ◌<◌, ◌≤◌, List, [], ◌∷◌, ◌++◌, length, get_or, refl, ap, subst, sym, ◌∙◌, inl, inr, arith}
+use Rattle.std.proofs.Common.{◌≡◌, ℕ, List, [], ◌∷◌, ◌++◌, length, refl, ap, subst, sym, ◌∙◌, inl, inr}
 use Rattle.std.specs.Prelude.{◌⊎◌, ◌≢◌, AllPairs, Contains, codes, flat_map}
 use Rattle.std.specs.Fmt.{decimal}
-use Rattle.std.proofs.lemmas.List.Elements.{All-contains, Contains-get_or}
+use Rattle.std.proofs.lemmas.List.Elements.{All-contains}
 use mathlib.Core.List.{List-discrete}
 use Rattle.olap_base.specs.Deciding.{contains_cases, contains_cons}
 use Rattle.olap_base.specs.Limits.{most_frozen}
@@ -18,26 +17,23 @@ use Rattle.olap_ast.specs.Questions.{ValidSchemasHaveCandidates}
 use Rattle.olap_ast.specs.Schema.{Schema}
 use Rattle.olap_ast.specs.Valid.{IsValidSchema}
 use Rattle.olap_ast.proofs.OrderedLists.{head_before, tail_ordered}
-use Rattle.olap_ast.proofs.Uniqueness.{code_is_one}
 use Rattle.olap_cex.specs.FrozenText.{frozen_text}
 use Rattle.olap_dimsat.specs.Listed.{IsBefore}
 use Rattle.olap_dimsat.specs.Shapes.{AreShapes}
 use Rattle.olap_exists.specs.Existing.{FrozenAreListed}
-use Rattle.olap_exists.proofs.Finite.{dec_bit}
 use Rattle.olap_exists.proofs.Listed.{Ordered, all_pairs}
 use Rattle.olap_order.specs.Outputs.{line, refusal}
 use Rattle.olap_order.specs.declared.status.Status.{Status}
 use Rattle.olap_order.specs.declared.status.Status.TheVariants.{Yes, Refused}
-use Rattle.olap_reasoning.specs.ShapeListings.{HasTooManyShapes, ListsShapes}
+use Rattle.olap_base.proofs.RankLemmas.{not_after_itself}
+use Rattle.olap_reasoning.proofs.ShapeLemmas.{no_two}
+use Rattle.olap_base.proofs.DecisionLemmas.{dec_bit}
+use Rattle.olap_base.proofs.GeneralLemmas.{at_most_or_greater}
+use Rattle.olap_reasoning.specs.Questions.{ByShapes, IsAnswer}
 
 -- whether two have the same edges
 dec_edges : (f h : Frozen) → Dec (f.edges ≡ h.edges)
 dec_edges f h = List-discrete dec_bit f.edges h.edges
-
--- a list comes not after itself
-same_code : (xs : List ℕ) → IsNotAfter xs xs
-same_code [] = tt
-same_code (x ∷ xs) = inr (refl, same_code xs)
 
 -- f is one of the list, and none with its edges that is has a smaller code
 record IsLeastLike (all : List Frozen) (f : Frozen) : Type 0 where
@@ -106,7 +102,7 @@ least_ones (x ∷ all) o = go (least_ones all o.1)
         first = record {
           here = contains_head x all;
           least = λ h c e. elim (contains_cases h x all c) [
-            | inl q ↦ subst (λ (z : Frozen). IsNotAfter (code x) (code z)) q (same_code (code x))
+            | inl q ↦ subst (λ (z : Frozen). IsNotAfter (code x) (code z)) q (not_after_itself (code x))
             | inr l ↦ (o.0 h l).0
           ];
         }
@@ -141,7 +137,7 @@ least_ones (x ∷ all) o = go (least_ones all o.1)
             kept h c f e (yes q) = (x, contains_head x a.0, sym q ∙ e)
             kept h c f e (no n) = (h, contains_cons h a.0 x (a.1.complete h c n), e)
 
--- where elements at two places are in order, each is before those behind it
+-- where elements at two places are in order, each is before those after it
 to_ordered : {X : Type 0} (R : X → X → Type 0) (xs : List X) → AllPairs R xs → Ordered R xs
 to_ordered R [] h = tt
 to_ordered R (x ∷ xs) h =
@@ -165,24 +161,9 @@ shapes_listed lists s q r k are =
       },
     )
 
--- no two that are listed have the same edges
-shapes_differ : (s : Schema) (q : Formula) (r : ℕ) (k : Candidates) (shapes : List Frozen)
-    → AreShapes s q r k shapes → AllPairs (λ f h. f.edges ≢ h.edges) shapes
-shapes_differ s q r k shapes a i j d l h e =
-    let f = get_or shapes i d in
-    let g = get_or shapes j d in
-    let x = a.sound f (Contains-get_or shapes i d (omega (arith, l, h))) in
-    let y = a.sound g (Contains-get_or shapes j d h) in
-    (a.ordered i j d l h).1 (code_is_one f g (ap length e) (x.least g y.is_one (sym e)) (y.least f x.is_one e))
-
--- so many at most, or more
-few_or_more : (n m : ℕ) → (n ≤ m) ⊎ (m < n)
-few_or_more n m = grind arith
-
 -- the answer of `shapes`
 abbrev ShapesAnswered : Schema → ℕ → Type 0
-ShapesAnswered s c = (status : Status) × (bytes : List ℕ) × (((status ≡ Yes) × ListsShapes s c bytes)
-    ⊎ ((status ≡ Refused) × HasTooManyShapes s c × (bytes ≡ refusal (codes "shapes TooMany"))))
+ShapesAnswered s c = (status : Status) × (bytes : List ℕ) × IsAnswer (ByShapes s c) status bytes
 
 -- they are told, or that they are too many
 pub shapes_exist : FrozenAreListed → ValidSchemasHaveCandidates → (s : Schema) (c : ℕ) → IsValidSchema s
@@ -192,24 +173,23 @@ shapes_exist lists candidates s c v =
   where
     go : (k : Candidates) → AreCandidates s Truth k → (shapes : List Frozen) × AreShapes s Truth c k shapes
         → ShapesAnswered s c
-    go k are t = elim (few_or_more (length t.0) most_frozen) [
+    go k are t = elim (at_most_or_greater (length t.0) most_frozen) [
       | inl l ↦ (
         Yes,
         flat_map (frozen_text s.graph k c) t.0 ++ line (codes "count " ++ decimal (length t.0)),
-        inl (refl, record { candidates = k; frozen = t.0; all = t.1; few = l; text = refl }),
+        record { candidates = k; frozen = t.0; all = t.1; few = l; text = refl },
       )
       | inr m ↦ (
         Refused,
         refusal (codes "shapes TooMany"),
-        inr (
-          refl,
+        (
           (
             k,
             record {
               candidates = are;
               some = t.0;
               many = m;
-              differ = shapes_differ s Truth c k t.0 t.1;
+              differ = no_two s Truth c k t.0 t.1;
               sound = λ f h. (t.1.sound f h).is_one;
             },
           ),

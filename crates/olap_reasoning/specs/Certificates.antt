@@ -1,4 +1,4 @@
--- What is told beside yes or no: frozen dimensions with their lines.
+-- What is printed beside yes or no: frozen dimensions with their lines.
 --     ShowsMember       a category can have a member
 --     ShowsUnmet        a constraint isn't met by all legal instances
 --     ShowsDifference   a view isn't always that from the sources' views

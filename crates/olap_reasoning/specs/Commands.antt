@@ -1,6 +1,6 @@
 -- The order in which each command about a schema judges its file and words.
 --     category_order, sources_order    of a question about a category; about a target and its sources
---     order_named                      of the command of that name, by the words after it
+--     order_named                      the order of the command of that name with these words, if there is one
 use Rattle.std.specs.Prelude.{ℕ, List, codes, if◌then◌else◌, Option, None}
 use Rattle.std.specs.Str.{bytes_eq}
 use Rattle.olap_ast.specs.Schema.{Schema}
@@ -43,7 +43,7 @@ sources_order asked words =
 abbrev pub audit_order : List (List ℕ) → Order Question
 audit_order words = and_then (schema_file (codes "schema") (word 2 words)) (λ s. Done (ByAudit s))
 
--- of the command of that name
+-- the order of the command of that name with these words, if there is one
 abbrev pub order_named : List ℕ → List (List ℕ) → Option (Order Question)
 order_named name words =
     if bytes_eq name (codes "format") then exactly 1 format_order words

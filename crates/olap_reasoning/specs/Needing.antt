@@ -1,4 +1,4 @@
--- What `needs` tells: the constraints that a target needs, or which categories they leave without members.
+-- What `needs` prints: the constraints that a target needs, or which categories they leave without members.
 --     ListsNeeds      the lines of the constraints
 --     ListsEmptied    a line for each category that they leave without members
 --     HasNoRoom       there are more of them than a schema may have

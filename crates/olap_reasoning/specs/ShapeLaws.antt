@@ -1,7 +1,7 @@
 -- What the definitions of shapes leave no choice in.
 --     ShapesAreOne                the least frozen dimensions of all shapes are one list
 --     EachShapeIsListedOnce       no shape is listed twice, and no frozen dimension has another
---     TooManyShapesAreNotListed   where there are more than may be listed, no list has all
+--     TooManyShapesAreNotListed   if there are more than may be listed, no list has all
 use Rattle.std.specs.Prelude.{◌≡◌, ◌≢◌, ℕ, Bool, List, AllPairs, Contains, map}
 use Rattle.olap_ast.specs.Formula.{Formula}
 use Rattle.olap_ast.specs.Frozen.{Candidates, Frozen, IsFrozen}

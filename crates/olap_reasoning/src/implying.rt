@@ -1,6 +1,6 @@
 // The command `implies`: whether all legal instances meet a constraint.
 ghost use Rattle.std.specs.Prelude.{◌≡◌, ◌++◌, codes, IfErr, IfOk};
-ghost use Rattle.olap_ast.specs.Formula.{equalities};
+ghost use Rattle.olap_ast.specs.Atoms.{equalities};
 ghost use Rattle.olap_ast.specs.Frozen.{thawed};
 ghost use Rattle.olap_ast.specs.Trees.{formula_of};
 ghost use Rattle.olap_ast.specs.Valid.{IsQuestion};

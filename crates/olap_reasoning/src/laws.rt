@@ -11,7 +11,7 @@ use olap_exists::{counterexamples_exist, findings_exist, frozen_are_listed, leas
 use olap_needs::needs_leave_members;
 use olap_proof::certificates_exist_exactly_where_summarizable;
 
-/// A question has one status at most, and one list of bytes, but that there may be many certificates. So "exactly if"
+/// A question has one status at most, and one list of bytes, but that a yes may have many certificates. So "exactly if"
 /// of each answer is a theorem.
 pub fn answers_are_one()
     ensures { AnswersAreOne }

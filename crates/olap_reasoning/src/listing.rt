@@ -97,7 +97,7 @@ fn told(
     }
 }
 
-/// All frozen dimensions with a root, where they aren't too many.
+/// All frozen dimensions with a root, if they aren't too many.
 fn answered(alloc: Global, schema: &Schema, root: CatId) -> Result<Reply, Stop>
     requires { IsCategory (schema_of schema.now).graph root.0 }
     ensures replies { Replies IsAnswer (Done (ByFrozen (schema_of schema.now) root.0)) result }

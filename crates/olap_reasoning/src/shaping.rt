@@ -52,7 +52,7 @@ fn told(
     }
 }
 
-/// For each shape of a root the least frozen dimension, where they aren't too many.
+/// For each shape of a root the least frozen dimension, if they aren't too many.
 fn answered(alloc: Global, schema: &Schema, root: CatId) -> Result<Reply, Stop>
     requires { IsCategory (schema_of schema.now).graph root.0 }
     ensures replies { Replies IsAnswer (Done (ByShapes (schema_of schema.now) root.0)) result }

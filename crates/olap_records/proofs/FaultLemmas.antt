@@ -6,7 +6,7 @@ use Rattle.olap_records.specs.Faults.{first_fault, or_after}
 use Rattle.olap_records.specs.FaultLaws.{IsFirstFault, Passes}
 
 module _ {R K : Type 0} (fault : List R → R → Option K) where
-  -- the record behind those before it
+  -- the record after those before it
   at-seam : (before after : List R) (r : R) → slice_get (before ++ r ∷ after) (length before) ≡ Some r
   at-seam [] after r = refl
   at-seam (x ∷ xs) after r = at-seam xs after r
@@ -20,7 +20,7 @@ module _ {R K : Type 0} (fault : List R → R → Option K) where
   at-or-past : (n j : ℕ) → n ≤ j → (j ≡ n) ⊎ (n + 1 ≤ j)
   at-or-past n j l = elim (eqb_tells j n) [ inl t ↦ inl t.1 | inr m ↦ let ne = m.1 in inr (omega arith) ]
 
-  -- the record behind those before it passes, where it has no fault after them
+  -- the record after those before it passes, where it has no fault after them
   passes-here : (before after : List R) (r : R) → fault before r ≡ None
       → Passes fault (before ++ r ∷ after) (length before)
   passes-here before after r f q s =
@@ -38,7 +38,7 @@ module _ {R K : Type 0} (fault : List R → R → Option K) where
   past-end (x ∷ xs) zero l q s = omega arith
   past-end (x ∷ xs) (suc j) l q s = past-end xs j (omega arith) q s
 
-  -- where there is no fault from here on, each record from here on passes
+  -- if there is no fault from here on, each record from here on passes
   pass-from : (before rs : List R) → first_fault fault before rs ≡ None → PassFrom (length before) (before ++ rs)
   pass-from before [] e = λ j l q s. absurd (past-end before j l q s)
   pass-from before (r ∷ rs) e = by (fault before r) refl e (pass-from (before ++ r ∷ []) rs)
@@ -76,7 +76,7 @@ module _ {R K : Type 0} (fault : List R → R → Option K) where
         λ j a b. absurd (omega arith),
       )
 
-  -- the first fault behind a record that passes is the first from it on
+  -- the first fault after a record that passes is the first from it on
   later : (before after : List R) (r : R) (i : ℕ) (k : K) → fault before r ≡ None
       → IsFirstFrom (length before + 1) (before ++ r ∷ after) i k
       → IsFirstFrom (length before) (before ++ r ∷ after) i k
@@ -141,7 +141,7 @@ module _ {R K : Type 0} (fault : List R → R → Option K) where
           let g : k ≡ l = cc in
           ap (λ (n : ℕ). (n, k)) e ∙ ap (λ (m : K). (j, m)) g
 
-  -- `first_fault` is a place and a kind exactly where they are the first fault
+  -- `first_fault` is a place and a kind exactly if they are the first fault
   pub first-iff : (rows : List R) (i : ℕ) (k : K)
       → (first_fault fault [] rows ≡ Some (i, k)) ↔ IsFirstFault fault rows i k
   first-iff rows i k = (first-to rows i k, λ h. by (first_fault fault [] rows) refl h)
@@ -150,7 +150,7 @@ module _ {R K : Type 0} (fault : List R → R → Option K) where
       by None e h = absurd (not-both rows i k h (pass-to rows e i))
       by (Some p) e h = ap Some (same-first rows p.0 i p.1 k (first-to rows p.0 p.1 e) h)
 
-  -- it is nothing exactly where each record passes
+  -- it is nothing exactly if each record passes
   pub none-iff : (rows : List R) → (first_fault fault [] rows ≡ None) ↔ ((j : ℕ) → Passes fault rows j)
   none-iff rows = (pass-to rows, λ h. by (first_fault fault [] rows) refl h)
     where

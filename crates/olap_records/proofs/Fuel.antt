@@ -6,14 +6,11 @@ use Rattle.csv.specs.Reading.{records_from, records_next}
 use Rattle.csv.specs.declared.parser.Config.{Config}
 use Rattle.csv.specs.declared.parser.State.{State}
 use Rattle.csv.specs.declared.parser.State.TheVariants as st
+use Rattle.olap_base.proofs.GeneralLemmas.{some_same}
 
 -- a read leaves fewer bytes, or stands at the end of the text
 abbrev Leaves : List ℕ → Read → Type 0
 Leaves xs q = (length q.2 < length xs) ⊎ ((q.1 ≡ st.StartRecord) × (q.2 ≡ []))
-
--- what an option has is one
-the-some : {A : Type 0} (x y : A) → Some x ≡ Some y → x ≡ y
-the-some x y e = cc
 
 -- what holds of the rest of a text holds of the text
 leaves-front : (c : ℕ) (rest : List ℕ) (q : Read) → Leaves rest q → Leaves (c ∷ rest) q
@@ -25,11 +22,11 @@ leaves : (cfg : Config) (s : State) (fields : List (List ℕ)) (field xs : List 
     → next_record cfg s fields field xs ≡ Some q → Leaves xs q
 unfolding next_record
 leaves cfg s fields field [] q e = elim (cases_Bool (ends_at_end s)) [
-  | inl t ↦ let g = the-some _ _ (rw t at e) in inr (sym (ap (λ (p : Read). p.1) g), sym (ap (λ (p : Read). p.2) g))
+  | inl t ↦ let g = some_same _ _ (rw t at e) in inr (sym (ap (λ (p : Read). p.1) g), sym (ap (λ (p : Read). p.2) g))
   | inr f ↦ cc (rw f at e)
 ]
 leaves cfg s fields field (c ∷ rest) q e = elim (cases_Bool (is_end (step cfg s c).1)) [
-  | inl t ↦ let g = the-some _ _ (rw t at e) in let len = ap (λ (p : Read). length p.2) g in inl (omega arith)
+  | inl t ↦ let g = some_same _ _ (rw t at e) in let len = ap (λ (p : Read). length p.2) g in inl (omega arith)
   | inr f ↦ leaves-front c rest q
       (leaves cfg (step cfg s c).0 (fields_after (step cfg s c).1 fields field) (field_after (step cfg s c).1 c field)
       rest q (rw f at e))
@@ -73,7 +70,7 @@ records-more cfg s xs q e = elim (leaves cfg s [] [] xs q e) [
       (the-cons q.0 _ _ (none-at-end cfg (length xs) ∙ sym (none-at-end cfg 1)))
 ]
 
--- where there is none, there are no records
+-- if there is none, there are no records
 pub records-none : (cfg : Config) (s : State) (xs : List ℕ) → next_record cfg s [] [] xs ≡ None
     → records_from cfg (length xs + 1) s xs ≡ []
 unfolding records_from

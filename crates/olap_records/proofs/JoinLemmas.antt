@@ -1,5 +1,5 @@
 -- What was read before stays in front.
---     behind-joins   the records before stay in front of those of a piece
+--     behind-joins   the earlier records stay before those of a piece
 --     cutter-behind  a splitter's place after some records
 --     fed-more       a piece more
 --     end-behind     the same at the end of the text
@@ -27,7 +27,7 @@ action-behind d t s act.Copy c = refl
 action-behind d t s act.EndField c = refl
 action-behind d t s act.EndRecord c = rw (append_assoc d t.done ((t.fields ++ t.field ∷ []) ∷ [])) refl
 
--- the records before stay in front of those of a piece
+-- the earlier records stay before those of a piece
 pub behind-joins : (d : List (List (List ℕ))) (t : Standing) (xs : List ℕ)
     → standing (behind d t) xs ≡ behind d (standing t xs)
 behind-joins d t [] = refl
@@ -46,6 +46,7 @@ place-behind : (d : List (List (List ℕ))) (w : Bool) (fields : List (List ℕ)
 place-behind d true fields field p = rw (append-nil d) refl
 place-behind d false fields field p = rw (append-nil d) refl
 
+-- a splitter's place after some records
 pub cutter-behind : (d : List (List (List ℕ))) (s : Cutter) → stand_of d s ≡ behind d (stand_of [] s)
 cutter-behind d s = place-behind d s.whole (fields_of s.row) (partial_of s.row ++ s.field.items) s.place
 

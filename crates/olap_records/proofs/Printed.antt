@@ -23,7 +23,7 @@ unsigned-same ds h = let n = no-sign ds h in rw (n.0, n.1) refl
 unsigned-value : (ds : List ℕ) → IsNumeral 10 ds → signed_digits_value 10 ds ≡ pos (digits_value 10 ds)
 unsigned-value ds h = let n = no-sign ds h in rw (n.0, n.1) refl
 
--- the decimal text of a number is a numeral, behind its sign, and has its value
+-- the decimal text of a number is a numeral, after its sign, and has its value
 pub spelt : (z : ℤ) → mag z + 1 < 10 ^ 64 → IsNumeral 10 (without_leading_sign (signed_decimal z))
     × (signed_digits_value 10 (signed_decimal z) ≡ z)
 spelt (pos n) h =

@@ -24,9 +24,11 @@ use Rattle.olap_records.proofs.StandingLemmas.{pieces-join}
 abbrev pub between : ℕ → ℕ → List ℕ → List ℕ
 between a b xs = take (b - a) (drop a xs)
 
+-- between a place and itself there is nothing
 pub between-none : (a : ℕ) (xs : List ℕ) → between a a xs ≡ []
 between-none a xs = let e : a - a ≡ 0 = omega arith in ap (λ n. take n (drop a xs)) e
 
+-- up to the next place there is one more byte
 pub between-more : (a i : ℕ) (xs : List ℕ) → a ≤ i → i < length xs
     → between a (i + 1) xs ≡ between a i xs ++ get_or xs i 0 ∷ []
 between-more a i xs low high =
@@ -36,6 +38,7 @@ between-more a i xs low high =
     ap (λ n. take n (drop a xs)) one ∙ take_more (drop a xs) (i - a) 0 lt
     ∙ ap (λ v. take (i - a) (drop a xs) ++ v ∷ []) (get_or-drop a xs (i - a) 0 ∙ ap (λ k. get_or xs k 0) at)
 
+-- two runs, one after the other, are one run
 pub between-join : (a b c : ℕ) (xs : List ℕ) → a ≤ b → b ≤ c → between a b xs ++ between b c xs ≡ between a c xs
 between-join a b c xs low high =
     let both : (b - a) + (c - b) ≡ c - a = omega arith in

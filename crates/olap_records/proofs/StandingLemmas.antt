@@ -18,15 +18,17 @@ use Rattle.olap_records.proofs.Fuel.{none-at-end}
 use Rattle.olap_records.specs.Standing.{Standing, after_action, after_byte, at_end, at_start, standing}
 use Rattle.olap_records.specs.Pieces.{PiecesJoin, RecordsAtEnd, RecordsBegin}
 
+-- the state after two pieces is that after both joined
 pub pieces-join : PiecesJoin
 pieces-join t [] ys = refl
 pieces-join t (c ∷ xs) ys = pieces-join (after_byte t c) xs ys
 
--- the records from here on, with so many turns at least
+-- the records from here on, with this many turns at least
 abbrev from_here : ℕ → Standing → List ℕ → List (List (List ℕ))
 from_here n t xs =
     t.done ++ records_next (records_from default_config n) (next_record default_config t.state t.fields t.field xs)
 
+-- the records at the end of the text are those that reading from this state finds
 pub records-end : (t : Standing) (xs : List ℕ) (n : ℕ) → length xs ≤ n → at_end (standing t xs) ≡ from_here n t xs
 unfolding next_record records_from
 records-end t [] n l = elim (cases_Bool (ends_at_end t.state)) [
@@ -53,6 +55,7 @@ records-end t (c ∷ xs) (suc m) l =
         ∙ append_assoc t.done ((t.fields ++ t.field ∷ []) ∷ [])
         (records_next (records_from default_config m) (next_record default_config s [] [] xs))
 
+-- so from the start they are the records of the text
 pub records-at-end : RecordsAtEnd
 unfolding records_from
 records-at-end text =
@@ -60,6 +63,7 @@ records-at-end text =
     records-end at_start xs (length xs) (omega arith)
     ∙ sym (ap (λ n. records_from default_config n st.StartRecord xs) (add-one (length xs)))
 
+-- the records so far stand at the front of those of the whole text
 pub records-begin : RecordsBegin
 records-begin t more = (
   records_next (records_from default_config (length more)) (next_record default_config t.state t.fields t.field more),

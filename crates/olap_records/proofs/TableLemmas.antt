@@ -2,12 +2,20 @@
 --     or_value              a fault, or else a value
 --     all_read-or_value     where a record stands for a value of its own, all that is read is the first fault, or else
 --                           the values
+--     check-named, given-named
+--                           one check of a record by the name of its fault
+--     all_read-named, at_record-named, table_meant-named
+--                           the same by the names of faults
 --     all_read-fault        the fault of all that is read is the first one
-use Rattle.std.proofs.Common.{◌≡◌, ◌++◌, ◌∷◌, ◌∙◌, ◌↔◌, ℕ, zero, suc, List, [], length, map, take, slice_get, Option, Some, None, Result, Ok, Err, refl, sym, ap, subst, arith, append_assoc}
+use Rattle.std.proofs.Common.{◌≡◌, ◌++◌, ◌∷◌, ◌∙◌, ◌↔◌, ℕ, zero, suc, Bool, true, false, cond, List, [], codes, drop, length, map, take, slice_get, Option, Some, None, Result, Ok, Err, refl, sym, ap, subst, arith, append_assoc}
 use Rattle.std.proofs.lemmas.List.{append-nil}
+use Rattle.std.specs.Option.{option_map}
+use Rattle.std.specs.Prelude.{is_none, unwrap_or}
 use Rattle.std.specs.Result.{result_err}
+use Rattle.olap_base.specs.Following.{given}
+use Rattle.olap_base.specs.declared.refusals.Fault.{Fault}
 use Rattle.olap_records.specs.Faults.{first_fault, or_after}
-use Rattle.olap_records.specs.Tables.{AllReadIsFirst, AllReadIsRead, all_read, and_others, fault_of}
+use Rattle.olap_records.specs.Tables.{AllReadIsFirst, AllReadIsRead, all_read, and_others, at_record, begins_with, fault_of, named, or_read, table_meant, table_read}
 use Rattle.olap_records.proofs.FaultLemmas.{first-iff}
 
 -- a fault, or else a value
@@ -33,6 +41,76 @@ all_read-or_value read fault value is before (r ∷ rs) =
     (all_read-or_value read fault value is (before ++ r ∷ []) rs)
     ∙ and_others-or_value (length before) (fault before r) (value r) (first_fault fault (before ++ r ∷ []) rs)
     (map value rs)
+
+-- ---- a record by the name of its fault
+
+-- a check that may fail, and what comes after it
+pub check-named : {T K : Type 0} (name : K → List ℕ) (b : Bool) (k : K) (next : Result T (List ℕ)) (fault : Option K)
+    (value : T) → next ≡ or_value (option_map name fault) value
+    → cond b (Err (name k)) next ≡ or_value (option_map name (cond b (Some k) fault)) value
+check-named name true k next fault value e = refl
+check-named name false k next fault value e = e
+
+-- a look-up that may fail, and what comes after it
+pub given-named : {A T K : Type 0} (name : K → List ℕ) (o : Option A) (other : A) (k : K) (next : A → Result T (List ℕ))
+    (fault : A → Option K) (value : A → T)
+    → ((x : A) → next x ≡ or_value (option_map name (fault x)) (value x))
+    → given o (name k) next ≡ or_value (option_map name (cond (is_none o) (Some k) (fault (unwrap_or o other))))
+    (value (unwrap_or o other))
+given-named name None other k next fault value e = refl
+given-named name (Some x) other k next fault value e = e x
+
+-- ---- a table by the names of its faults
+
+-- the fault of one record, or of what comes after it
+or_after-named : {K L : Type 0} (name : K → L) (n : ℕ) (o : Option K) (p : Option (ℕ × K))
+    → or_after n (option_map name o) (option_map (λ q. (q.0, name q.1)) p)
+    ≡ option_map (λ q. (q.0, name q.1)) (or_after n o p)
+or_after-named name n (Some k) p = refl
+or_after-named name n None p = refl
+
+-- the first fault of all
+first_fault-named : {R K L : Type 0} (name : K → L) (fault : List R → R → Option K) (before rows : List R)
+    → first_fault (λ earlier r. option_map name (fault earlier r)) before rows
+    ≡ option_map (λ q. (q.0, name q.1)) (first_fault fault before rows)
+first_fault-named name fault before [] = refl
+first_fault-named name fault before (r ∷ rs) =
+    ap (or_after (length before) (option_map name (fault before r)))
+    (first_fault-named name fault (before ++ r ∷ []) rs)
+    ∙ or_after-named name (length before) (fault before r) (first_fault fault (before ++ r ∷ []) rs)
+
+-- where each record means its value, or its first fault by its name, so do all
+pub all_read-named : {R T K : Type 0} (meant : List R → R → Result T (List ℕ)) (name : K → List ℕ)
+    (fault : List R → R → Option K) (value : R → T)
+    → ((before : List R) (r : R) → meant before r ≡ or_value (option_map name (fault before r)) (value r))
+    → (rows : List R) → all_read meant [] rows
+    ≡ or_value (option_map (λ q. (q.0, name q.1)) (first_fault fault [] rows)) (map value rows)
+all_read-named meant name fault value is rows =
+    all_read-or_value meant (λ before r. option_map name (fault before r)) value is [] rows
+    ∙ ap (λ o. or_value o (map value rows)) (first_fault-named name fault [] rows)
+
+-- a fault at its record
+pub at_record-named : {T K : Type 0} (name : K → List ℕ) (o : Option (ℕ × K)) (x : T)
+    → at_record (or_value (option_map (λ q. (q.0, name q.1)) o) x) ≡ named name (or_read o (Ok x))
+at_record-named name None x = refl
+at_record-named name (Some p) x = refl
+
+-- the whole table
+pub table_meant-named : {T K : Type 0} (header : List (List ℕ)) (meant : List (List (List ℕ)) → Result T (ℕ × List ℕ))
+    (name : K → List ℕ) (no_header : K) (read : List (List (List ℕ)) → Result T (Fault K))
+    → name no_header ≡ codes "BadHeader"
+    → ((rows : List (List (List ℕ))) → at_record (meant rows) ≡ named name (read rows))
+    → (records : List (List (List ℕ)))
+    → table_meant header meant records ≡ named name (table_read header no_header read records)
+table_meant-named {T} {K} header meant name no_header read e is records = go (begins_with header records)
+  where
+    go : (b : Bool)
+        → cond b (at_record (meant (drop 1 records))) (Err (record { at = 1; kind = codes "BadHeader" }))
+        ≡ named name (cond b (read (drop 1 records)) (Err (record { at = 1; kind = no_header })))
+    go true = is (drop 1 records)
+    go false = ap (λ n. Err (record { at = 1; kind = n })) (sym e)
+
+-- ---- the fault of all that is read
 
 -- the fault of one record and the others
 err-and_others : {T K : Type 0} (n : ℕ) (o : Result T K) (p : Result (List T) (ℕ × K))

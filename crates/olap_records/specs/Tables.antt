@@ -1,21 +1,17 @@
 -- What the records of a table stand for, or the table's first fault.
---     goes_on       what follows from a thing that was read, else its fault
 --     all_read      what each record stands for, or the first fault, by its record's place
 --     begins_with   the first record is a header
 --     or_read       a fault at its record, or what the records stand for
 --     table_read    what the records after a header stand for, or the first fault
+--     table_meant   the same by the name of the fault
+--     named         what is read, by the name of the fault
 --     AllReadIsRead, AllReadIsFirst    what `all_read` is, record by record
-use Rattle.std.specs.Prelude.{◌≡◌, ◌+◌, ◌++◌, ◌∷◌, ◌↔◌, Bool, false, ℕ, List, [], length, drop, take, slice_get, Option, Some, None, Result, Ok, Err, if◌then◌else◌}
+use Rattle.std.specs.Prelude.{◌≡◌, ◌+◌, ◌++◌, ◌∷◌, ◌↔◌, Bool, false, ℕ, List, [], codes, length, drop, take, slice_get, Option, Some, None, Result, Ok, Err, if◌then◌else◌}
 use Rattle.std.specs.Cmp.Lexicographic.{pointwise}
 use Rattle.std.specs.Result.{result_err}
 use Rattle.std.specs.Str.{bytes_eq}
 use Rattle.olap_base.specs.declared.refusals.Fault.{Fault}
 use Rattle.olap_records.specs.FaultLaws.{IsFirstFault}
-
--- what follows from it, if it has no fault
-abbrev pub goes_on : {T U K : Type 0} → Result T K → (T → Result U K) → Result U K
-goes_on (Err k) next = Err k
-goes_on (Ok x) next = next x
 
 -- the record at a place, and then the others; but for the first fault, with its record's place
 abbrev pub and_others : {T K : Type 0} → ℕ → Result T K → Result (List T) (ℕ × K) → Result (List T) (ℕ × K)
@@ -44,6 +40,23 @@ abbrev pub table_read : {T K : Type 0} → List (List ℕ) → K → (List (List
     → List (List (List ℕ)) → Result T (Fault K)
 table_read header no_header read records =
     if begins_with header records then read (drop 1 records) else Err (record { at = 1; kind = no_header })
+
+-- what is read, or the first fault, at its record's number, where the header is number 1
+abbrev pub at_record : {T K : Type 0} → Result T (ℕ × K) → Result T (Fault K)
+at_record (Ok x) = Ok x
+at_record (Err p) = Err (record { at = p.0 + 2; kind = p.1 })
+
+-- what the records after the header mean, or the first fault by its name
+abbrev pub table_meant : {T : Type 0} → List (List ℕ) → (List (List (List ℕ)) → Result T (ℕ × List ℕ))
+    → List (List (List ℕ)) → Result T (Fault (List ℕ))
+table_meant header meant records =
+    if begins_with header records then at_record (meant (drop 1 records))
+    else Err (record { at = 1; kind = codes "BadHeader" })
+
+-- the same, with a fault's name in place of its kind
+abbrev pub named : {T K : Type 0} → (K → List ℕ) → Result T (Fault K) → Result T (Fault (List ℕ))
+named name (Ok x) = Ok x
+named name (Err f) = Err (record { at = f.at; kind = name f.kind })
 
 -- ---- laws
 

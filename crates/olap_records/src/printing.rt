@@ -31,7 +31,7 @@ impl Model for Printer {
 }
 
 impl Printer {
-    /// No text, for records of so many fields.
+    /// No text, for records of this many fields.
     pub fn new(alloc: Global, width: usize) -> Printer
         ensures text { result.text ≡ [] }
         ensures width { result.width ≡ width }
@@ -40,7 +40,7 @@ impl Printer {
         Printer::behind(Vec::new(alloc), width)
     }
 
-    /// A text that is there, for records of so many fields behind it.
+    /// A text that is there, for records of this many fields after it.
     pub fn behind(text: Vec<u8>, width: usize) -> Printer
         ensures text { result.text ≡ text.items }
         ensures width { result.width ≡ width }

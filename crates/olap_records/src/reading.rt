@@ -10,7 +10,7 @@ use olap_base::Memory;
 use std::alloc::Global;
 use std::marker::Model;
 
-/// The records of a text, of which none is a header and any two may differ in length.
+/// The records of a text, none of which is a header, and any two of which may differ in length.
 #[derive(Drop)]
 pub struct Rows<'a> {
     rdr: Reader<&'a [u8]>,

@@ -7,7 +7,7 @@ use olap_base::Memory;
 use std::alloc::Global;
 use std::marker::Model;
 
-/// A text that comes in pieces of any length, cut into records, of which any two may differ in length. A byte order
+/// A text that comes in pieces of any length, cut into records, any two of which may differ in length. A byte order
 /// mark is a part of the text here: `without_mark` takes it off.
 #[derive(Drop)]
 pub struct Splitter {

@@ -13,7 +13,7 @@ pub(crate) enum Content<'a> {
 }
 
 impl<'a> Content<'a> {
-    /// Fills the buffer with what comes after so many bytes, and says how many these are.
+    /// Fills the buffer with what comes after this many bytes, and says how many these are.
     fn fill(self, taken: usize, buf: &mut [u8]) -> usize
         ensures within { result ≤ length buf.new }
     {

@@ -145,17 +145,17 @@ different_or_refused twice g at earlier (name ∷ names) =
     (λ c. different_or_refused twice g (suc at) (earlier ++ c ∷ []) names)
 
 -- what a text means, or a refusal
-meant_or_refused : {T K : Type 0} (label part : List ℕ) (name : K → List ℕ) (r : Result T (Fault K))
-    → TellsNoYes (meaning_or_fault label part name r)
-meant_or_refused label part name (Ok x) = tt
-meant_or_refused label part name (Err fault) = refusal_is_none
+meant_or_refused : {T : Type 0} (label part : List ℕ) (r : Result T (Fault (List ℕ)))
+    → TellsNoYes (meaning_or_fault label part r)
+meant_or_refused label part (Ok x) = tt
+meant_or_refused label part (Err fault) = refusal_is_none
 
 -- a schema, or a refusal
 schema_or_refused : (label file : List ℕ) → TellsNoYes (schema_file label file)
 schema_or_refused label file = none_of_both (text_file label most_schema_bytes file)
-    (λ text. meaning_or_fault label (codes "line") (λ name. name) (schema_read text))
+    (λ text. meaning_or_fault label (codes "line") (schema_read text))
     (λ text. tested_is_none (nat_lt most_schema_bytes (length text)) (label ++ codes " TooLong") text)
-    (λ text. meant_or_refused label (codes "line") (λ name. name) (schema_read text))
+    (λ text. meant_or_refused label (codes "line") (schema_read text))
 
 -- a category is named whichever word it is
 same_named : (files : Files) (o : Option ℕ) (c : ℕ) (why other : List ℕ) → ComesOut files (ok_or o why) c
@@ -211,7 +211,7 @@ few_words files b order status bytes e g =
     subst (λ b. Gives IsAnswer files (cond b usage order) status bytes) (sym e) g
 
 module _ (form : Form) (schema target : List ℕ) (sources : List (List ℕ)) where
-  -- behind the schema, the order of `prove`: the target, and the sources
+  -- after the schema, the order of `prove`: the target, and the sources
   abbrev sources_of : Schema → Order reasoning.Question
   sources_of s =
       and_then (category_word s.graph 3 target) (λ c.
@@ -232,7 +232,7 @@ module _ (form : Form) (schema target : List ℕ) (sources : List (List ℕ)) wh
 
   module _ (certificate : List ℕ) (files : Files) (text : List ℕ) (held : files certificate ≡ Some text)
       (short : length text ≤ most_certificate_bytes) where
-    -- behind it, the order of `verify`: the target, the sources, and the certificate
+    -- after it, the order of `verify`: the target, the sources, and the certificate
     abbrev certificate_of : Schema → Order verdicts.Question
     certificate_of s =
         and_then (category_word s.graph 4 target) (λ c.
@@ -277,8 +277,7 @@ module _ (form : Form) (schema target : List ℕ) (sources : List (List ℕ)) wh
       where
         go : IsAnswer (OfReasoning (ByProof form s c cs)) Yes text
             → IsAnswer (OfVerdicts (ByCertificate form s c cs text)) Yes (line (codes "accepted"))
-        go (inl given) = inl (refl, given.2, refl)
-        go (inr other) = absurd (cc)
+        go given = inl (refl, given.1, refl)
 
     -- what the order of `prove` writes, that of `verify` accepts
     accepted : Gives IsAnswer files
@@ -304,7 +303,7 @@ module _ (form : Form) (schema target : List ℕ) (sources : List (List ℕ)) wh
 
 -- ---- from the words to the orders
 
--- the orders of the families behind the first
+-- the orders of the families after the first
 abbrev behind : List ℕ → List (List ℕ) → Option (Order Question)
 behind name words =
     option_or (asking OfTotals (totals.order_named name words))

@@ -1,6 +1,6 @@
 -- What the definitions leave no choice in, and that there is an outcome.
 --     AreCertificates    two texts that answer words which ask for a certificate
---     OutcomeIsOne       words and files have one status at most, and one list of bytes but for certificates
+--     OutcomeIsOne       words and files have one status at most, and one list of bytes but for certificates of a yes
 --     OutcomeExists      and they have them, where each file that the order comes to is held
 --     ProvedIsAccepted   what `prove` writes `verify` accepts
 use Rattle.std.specs.Prelude.{◌≡◌, ◌⊎◌, ◌≤◌, ◌∷◌, ℕ, List, MatchOption, Some, codes, length}
@@ -25,10 +25,10 @@ AreCertificates files (Told status text) b c = ⊥
 AreCertificates files (Read name next) b c =
     MatchOption (files name) ⊥ (λ text. AreCertificates files (next text) b c)
 
--- for words and files there is one status at most, and one list of bytes, but that there may be many certificates
+-- for words and files there is one status at most, and one list of bytes, but that a yes may have many certificates
 abbrev pub OutcomeIsOne : Type 0
 OutcomeIsOne = (words : List (List ℕ)) (files : Files) (s t : Status) (b c : List ℕ) → Outcome words files s b
-    → Outcome words files t c → (s ≡ t) × ((b ≡ c) ⊎ AreCertificates files (order_of words) b c)
+    → Outcome words files t c → (s ≡ t) × ((b ≡ c) ⊎ ((s ≡ Yes) × AreCertificates files (order_of words) b c))
 
 -- for words and files of which each that the order comes to is held, there are a status and bytes that are the outcome
 abbrev pub OutcomeExists : Type 0

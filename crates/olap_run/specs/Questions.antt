@@ -22,7 +22,7 @@ pub data Question : Type 0 where
   -- over several dimensions
   OfCubes : cubes.Question → Question
 
--- these are the status and the bytes
+-- this status and these bytes answer the question
 abbrev pub IsAnswer : Question → Status → List ℕ → Type 0
 IsAnswer (OfReasoning q) status bytes = reasoning.IsAnswer q status bytes
 IsAnswer (OfTotals q) status bytes = ⊥

@@ -52,7 +52,8 @@ fn version(alloc: Global) -> Result<Reply, Stop>
 /// The reply to a word that asks about the program itself, with no word after it.
 fn told(alloc: Global, name: &str, words: &[String]) -> Option<Result<Reply, Stop>>
     ensures none { IsNone result → version_told name.now (texts words.now) ≡ None }
-    ensures some { MatchOption result ⊤ (λ r. (version_told name.now (texts words.now) ≡ Some (Told Status.Yes (line version)))
+    ensures some { MatchOption result ⊤
+        (λ r. (version_told name.now (texts words.now) ≡ Some (Told Status.Yes (line version)))
         × Replies IsAnswer (Told Status.Yes (line version)) r) }
 {
     match name {

@@ -3,8 +3,8 @@ ghost use Rattle.olap_run.specs.Laws.{OutcomeExists, OutcomeIsOne, ProvedIsAccep
 
 use olap_schema_text::{read_questions_are_valid, read_schemas_are_readable};
 
-/// The words and the files have one status at most, and one list of bytes, but that there may be many certificates. So
-/// "exactly if" of each answer is a theorem.
+/// The words and the files have at most one status, and at most one list of bytes, except that there may be many
+/// certificates. So "exactly if" of each answer is a theorem.
 pub fn outcome_is_one()
     ensures { OutcomeIsOne }
 {
@@ -31,9 +31,9 @@ pub fn outcome_exists()
     read_questions_are_valid();
 }
 
-/// What `prove` and `prove-short` write with status 0, `verify` and `verify-short` accept, from a file that holds it,
-/// for the same schema, target and sources, if it fits a certificate's file (which what `prove` hands out does, by its
-/// clause `short`), and the command line, which has a word more then, has no more than it may.
+/// `verify` and `verify-short` accept what `prove` and `prove-short` write with status 0, from a file that holds it,
+/// for the same schema, target and sources, on two conditions: it fits a certificate's file (by the clause `short` of
+/// `prove` it does), and the command line, which has one more word, isn't too long.
 pub fn proved_is_accepted()
     ensures { ProvedIsAccepted }
 {}

@@ -1,9 +1,9 @@
 //! The program's top call: `olap` judges the words and the files, and writes the answer.
 //!
-//! A command is first an *order*: files that are read in order, each before what is asked next is known, and in the end
-//! a question, or what is told in its place. Families of commands have their orders and questions, each in a crate of
-//! its own. `specs/Outcome.antt` says which status and bytes the words and the files have. The code goes along the
-//! order with everything in memory, and then writes. It knows no real file, and no command by name.
+//! A command is first an *order*: it reads files one after another, where what a file holds may decide what comes next,
+//! and ends in a question, or in the answer itself. Families of commands have their orders and questions, each in a
+//! crate of its own. `specs/Outcome.antt` says which status and bytes the words and the files have. The code follows
+//! the order with everything in memory, and then writes. It knows no real file, and no command by name.
 #![tactic(auto)]
 
 mod judging;

@@ -11,8 +11,8 @@ use olap_order::Status;
 use olap_outside::{SureLibrary, SureSink};
 use std::alloc::Global;
 
-/// Does what the words say, over files in memory of which none is missing, and a sink that takes all: neither fault
-/// comes. For the rest it is `olap`; the sink tells nothing, so nothing is said of what is written.
+/// Does what the words say, over files in memory, none of which is missing, and a sink that takes all, so that neither
+/// fault can come. Otherwise it is `olap`. The sink tells nothing, so nothing is said about what is written.
 pub fn olap_surely(
     alloc: Global,
     words: &[String],

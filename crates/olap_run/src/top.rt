@@ -53,12 +53,13 @@ pub fn olap<L: Library, K: Sink>(
         result ≡ Status.ReadFault → ⊥ }
     ensures sure_write { TakesOutcome (texts words.now) (L.contents lib.old) (K.takes out.old) →
         result ≡ Status.WriteFault → ⊥ }
-    // Nothing, or a part, is written where there is no answer.
+    // Nothing, or a part, is written if there is no answer.
     ensures silent { (result ≡ Status.ReadFault) ⊎ RanOutOfMemory result →
         K.contents out.new ≡ K.contents out.old }
     ensures part { result ≡ Status.WriteFault → WritesPart (texts words.now) (L.contents lib.old)
         (K.contents out.old) (K.contents out.new) }
-    // Where all files are held, there is an answer, out of memory, or a fault that is counted.
+    // Where all files are held, there is an answer, out of memory, or a fault that is counted. The clauses above say so
+    // already, each a part; this one says it in one place.
     ensures complete { TellsAll (texts words.now) (L.contents lib.old) →
         (IsAnswered result × WritesOutcome (texts words.now) (L.contents lib.old) result
         (K.contents out.old) (K.contents out.new))

@@ -18,15 +18,12 @@ use Rattle.std.proofs.lemmas.Map.Views.{Contains-from_any, list_any-from_Contain
 use Rattle.std.proofs.lemmas.Slice.Eq.{bytes_eq-Decides}
 use Rattle.std.specs.Str.{bytes_eq}
 use Rattle.olap_base.proofs.ListLemmas.{first_true, second_true}
-use Rattle.olap_ast.specs.Formula.{Comparison, Equality}
-use Rattle.olap_ast.specs.Valid.{distinct_numbers, distinct_pairs, is_same_number, is_same_pair, with_new}
+use Rattle.olap_ast.specs.Valid.{with_new}
+use Rattle.olap_base.proofs.GeneralLemmas.{or_false}
+use Rattle.olap_ast.specs.Atoms.{Comparison, Equality}
+use Rattle.olap_ast.specs.Pairs.{distinct_numbers, distinct_pairs, is_same_number, is_same_pair}
 
 -- ---- lists to which each new element is added once
-
--- what isn't so adds nothing
-or_false : (b : Bool) → (b || false) ≡ b
-or_false true = refl
-or_false false = refl
 
 -- three of which one is so, grouped either way
 or_assoc : (a b c : Bool) → ((a || b) || c) ≡ (a || (b || c))

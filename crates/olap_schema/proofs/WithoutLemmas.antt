@@ -12,10 +12,14 @@ use Rattle.std.proofs.lemmas.List.Edits.{length-remove}
 use Rattle.std.proofs.lemmas.List.Elements.{Contains-append_cases, Contains-append_left, Contains-append_right}
 use Rattle.std.proofs.lemmas.List.Sums.{sum_by-append, sum_by-drop_more, sum_by-take-drop}
 use Rattle.olap_base.specs.Graph.{Graph}
+use Rattle.olap_ast.specs.Atoms.{Comparison, Equality, comparisons, equalities}
+use Rattle.olap_ast.specs.Pairs.{pair_count}
+use Rattle.olap_base.specs.Limits.{most_constants}
 use Rattle.olap_ast.specs.Findings.{without}
-use Rattle.olap_ast.specs.Formula.{Comparison, Equality, Formula.Truth, comparisons, equalities}
+use Rattle.olap_ast.specs.Formula.{Formula.Truth}
 use Rattle.olap_ast.specs.Schema.{Constraint, Schema}
 use Rattle.olap_ast.specs.Valid.{node_count}
+use Rattle.olap_ast.proofs.ComparedLemmas.{constraints_counted}
 use Rattle.olap_schema.specs.Readable.{IsReadable}
 use Rattle.olap_schema.proofs.PairCounting.{few_numbers, few_pairs}
 
@@ -97,8 +101,10 @@ without_is_readable s k l r =
             let few_too = few_numbers
             (flat_map (λ c. comparisons c.formula) (remove s.constraints k))
             (flat_map (λ c. comparisons c.formula) s.constraints) (number_atoms_left s.constraints k) in
-            let fit = r.valid.constants_fit in
-            omega arith;
+            let fit = subst (λ n. n ≤ most_constants) (constraints_counted s.constraints) r.valid.constants_fit in
+            let fits : pair_count (flat_map (λ c. equalities c.formula) (remove s.constraints k))
+            (flat_map (λ c. comparisons c.formula) (remove s.constraints k)) ≤ most_constants = omega arith in
+            subst (λ n. n ≤ most_constants) (sym (constraints_counted (remove s.constraints k))) fits;
       };
       texts = λ a h. r.texts a (atoms_left s.constraints k a h);
     }
@@ -112,7 +118,7 @@ same_readable g h cs ds k r e q l =
     (subst (λ x. IsReadable (record { graph = g; constraints = x })) (sym q)
     (without_is_readable (record { graph = g; constraints = cs }) k l r))
 
--- the constraints before and behind the one are those that are left
+-- the constraints before and after the one are those that are left
 pub left_over : {A B : Type 0} (f : A → B) (xs : List A) (k n : ℕ) → n ≡ k + 1
     → map f (take k xs) ++ map f (drop n xs) ≡ remove (map f xs) k
 left_over f xs k n e =

@@ -7,7 +7,7 @@ use Rattle.std.specs.Prelude.{◌≡◌, ◌==◌, ◌||◌, ◌&&◌, ℕ, Bool
 use Rattle.std.specs.List.{list_any}
 use Rattle.std.specs.Str.{is_utf8}
 use Rattle.olap_base.specs.Bytes.{delete, space, tab}
-use Rattle.olap_ast.specs.Formula.{Equality, equalities}
+use Rattle.olap_ast.specs.Atoms.{Equality, equalities}
 use Rattle.olap_ast.specs.Schema.{Schema}
 use Rattle.olap_ast.specs.Valid.{IsValidSchema}
 

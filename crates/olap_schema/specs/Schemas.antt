@@ -1,4 +1,4 @@
--- The definitions' schema behind the program's.
+-- The definitions' schema that the program's stands for.
 use Rattle.std.specs.Prelude.{map}
 use Rattle.olap_ast.specs.Schema as schemas
 use Rattle.olap_ast.specs.Trees.{constraint_of}

@@ -3,8 +3,8 @@ ghost use Rattle.olap_base.specs.Limits.{most_constraints};
 ghost use Rattle.olap_schema.specs.Readable.{AreTexts, IsReadable};
 ghost use Rattle.olap_schema.specs.Schemas.{schema_of};
 ghost use Rattle.std.specs.Prelude.{◌≡◌, ◌<◌, ◌≤◌, IfOk, flat_map, length, map};
+ghost use Rattle.olap_ast.specs.Atoms.{equalities};
 ghost use Rattle.olap_ast.specs.Findings.{without};
-ghost use Rattle.olap_ast.specs.Formula.{equalities};
 ghost use Rattle.olap_ast.specs.Trees.{constraint_of};
 ghost use Rattle.olap_ast.specs.Valid.{IsValidSchema};
 

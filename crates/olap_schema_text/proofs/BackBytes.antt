@@ -1,14 +1,14 @@
 -- The bytes of printed lines: UTF-8 without control characters.
 --     IsPlain          a text of such bytes
 --     formula_is_plain  and so on: what is printed is one
-use Rattle.std.proofs.Common.{◌≡◌, ◌==◌, ◌||◌, ◌&&◌, not, ◌<◌, ◌≤◌, ◌+◌, ◌/◌, ◌%◌, ℕ, zero, suc, Bool, true, false, cond, List, [], ◌∷◌, ◌++◌, All, refl, append_assoc, append-nil, arith, ap, sym, ◌∙◌, nat_lt, lit<}
+use Rattle.std.proofs.Common.{◌≡◌, ◌==◌, ◌||◌, ◌&&◌, not, ◌<◌, ◌≤◌, ◌+◌, ◌/◌, ◌%◌, ℕ, zero, suc, Bool, true, false, cond, List, [], ◌∷◌, ◌++◌, All, refl, append_assoc, append-nil, arith, ap, sym, ◌∙◌, nat_lt, lit<, flat_map}
 use Rattle.std.specs.List.{list_any}
 use Rattle.std.specs.Str.{IsAscii, IsUtf8, is_utf8}
 use Rattle.std.proofs.lemmas.List.Elements.{All-from_recursion, All-head, All-tail}
 use Rattle.std.proofs.lemmas.Str.{IsUtf8-append, IsUtf8-from_ascii, IsUtf8-from_is_utf8, IsUtf8-nil, is_utf8-from_IsUtf8}
 use Rattle.std.proofs.lemmas.Str.{encode_ascii}
 use lib.Utf8.{encode, encodes, scalar, scalars}
-use Rattle.olap_grammar.specs.Quoting.{escaped, escaped_byte}
+use Rattle.olap_grammar.specs.Quoting.{escaped_byte}
 use Rattle.olap_schema.specs.Readable.{is_bad, is_control}
 
 -- UTF-8 without control characters
@@ -66,15 +66,15 @@ plain-cons b bs l m p =
 -- ---- strings
 
 -- a string is escaped part by part
-escaped-append : (xs ys : List ℕ) → escaped (xs ++ ys) ≡ escaped xs ++ escaped ys
-unfolding escaped
+escaped-append : (xs ys : List ℕ) → flat_map escaped_byte (xs ++ ys)
+    ≡ flat_map escaped_byte xs ++ flat_map escaped_byte ys
 escaped-append [] ys = refl
 escaped-append (x ∷ xs) ys =
-    ap (λ t. escaped_byte x ++ t) (escaped-append xs ys) ∙ sym (append_assoc (escaped_byte x) (escaped xs) (escaped ys))
+    ap (λ t. escaped_byte x ++ t) (escaped-append xs ys)
+    ∙ sym (append_assoc (escaped_byte x) (flat_map escaped_byte xs) (flat_map escaped_byte ys))
 
 -- bytes that aren't ASCII stay
-high_stay : (bs : List ℕ) → All (λ b. 128 ≤ b) bs → escaped bs ≡ bs
-unfolding escaped
+high_stay : (bs : List ℕ) → All (λ b. 128 ≤ b) bs → flat_map escaped_byte bs ≡ bs
 high_stay [] a = refl
 high_stay (b ∷ bs) a =
     let l = All-head (λ b. 128 ≤ b) b bs a in
@@ -108,50 +108,48 @@ ascii_two a b l m (suc zero) = m
 ascii_two a b l m (suc (suc k)) = omega arith
 
 -- one character, escaped, is UTF-8
-one_utf8 : (c : ℕ) → scalar c ≡ true → IsUtf8 (escaped (encode c))
-unfolding escaped
+one_utf8 : (c : ℕ) → scalar c ≡ true → IsUtf8 (flat_map escaped_byte (encode c))
 one_utf8 c s = go (nat_lt c 128) refl
   where
     byte : (p : Bool) → c < 128 → IsUtf8 (cond p (92 ∷ c ∷ []) (c ∷ []) ++ [])
     byte true l = IsUtf8-from_ascii (92 ∷ c ∷ []) (ascii_two 92 c (lit< tt) l)
     byte false l = IsUtf8-from_ascii (c ∷ []) (ascii_one c l)
 
-    go : (b : Bool) → nat_lt c 128 ≡ b → IsUtf8 (escaped (encode c))
+    go : (b : Bool) → nat_lt c 128 ≡ b → IsUtf8 (flat_map escaped_byte (encode c))
     go true e = let l : c < 128 = grind (arith) in rw (encode_ascii c l) (byte ((c == 34) || (c == 92)) l)
     go false e =
         let same = high_stay (encode c) (high_encode c e) in rw same (c ∷ [], (rw s refl, append-nil (encode c)))
 
 -- and so are several
-all_utf8 : (cs : List ℕ) → scalars cs ≡ true → IsUtf8 (escaped (encodes cs))
-unfolding escaped
+all_utf8 : (cs : List ℕ) → scalars cs ≡ true → IsUtf8 (flat_map escaped_byte (encodes cs))
 all_utf8 [] e = IsUtf8-nil
 all_utf8 (c ∷ cs) e = go (scalar c) (scalars cs) refl refl e (λ r. all_utf8 cs r)
   where
     go : (p q : Bool) → scalar c ≡ p → scalars cs ≡ q → p && q ≡ true
-        → (scalars cs ≡ true → IsUtf8 (escaped (encodes cs))) → IsUtf8 (escaped (encode c ++ encodes cs))
+        → (scalars cs ≡ true → IsUtf8 (flat_map escaped_byte (encodes cs)))
+        → IsUtf8 (flat_map escaped_byte (encode c ++ encodes cs))
     go true true a b r rest =
         rw (escaped-append (encode c) (encodes cs))
-        (IsUtf8-append (escaped (encode c)) (escaped (encodes cs)) (one_utf8 c a) (rest b))
+        (IsUtf8-append (flat_map escaped_byte (encode c)) (flat_map escaped_byte (encodes cs)) (one_utf8 c a) (rest b))
     go true false a b r rest = absurd (cc)
     go false q a b r rest = absurd (cc)
 
 -- so a text of UTF-8 is so when it is escaped
-escaped_utf8 : (k : List ℕ) → IsUtf8 k → IsUtf8 (escaped k)
+escaped_utf8 : (k : List ℕ) → IsUtf8 k → IsUtf8 (flat_map escaped_byte k)
 escaped_utf8 k u = rw u.1.1 at (all_utf8 u.0 u.1.0)
 
 -- and one without control characters has none
-escaped_controls : (k : List ℕ) → list_any is_control k ≡ false → list_any is_control (escaped k) ≡ false
-unfolding escaped
+escaped_controls : (k : List ℕ) → list_any is_control k ≡ false → list_any is_control (flat_map escaped_byte k) ≡ false
 escaped_controls [] e = refl
 escaped_controls (b ∷ k) e = go ((b == 34) || (b == 92)) (is_control b) refl e (λ r. escaped_controls k r)
   where
     go : (p c : Bool) → is_control b ≡ c → c || list_any is_control k ≡ false
-        → (list_any is_control k ≡ false → list_any is_control (escaped k) ≡ false)
-        → list_any is_control (cond p (92 ∷ b ∷ []) (b ∷ []) ++ escaped k) ≡ false
+        → (list_any is_control k ≡ false → list_any is_control (flat_map escaped_byte k) ≡ false)
+        → list_any is_control (cond p (92 ∷ b ∷ []) (b ∷ []) ++ flat_map escaped_byte k) ≡ false
     go p true q r rest = absurd (cc)
     go true false q r rest = rw q (rest r)
     go false false q r rest = rw q (rest r)
 
 -- a plain text is plain when it is escaped
-pub escaped_plain : (k : List ℕ) → IsPlain k → IsPlain (escaped k)
+pub escaped_plain : (k : List ℕ) → IsPlain k → IsPlain (flat_map escaped_byte k)
 escaped_plain k p = record { utf8 = escaped_utf8 k p.utf8; plain = escaped_controls k p.plain }

@@ -1,7 +1,7 @@
 -- A printed constraint's line is read as the constraint.
 --     ruled             what is known on the way
 --     add_constraint    a constraint's line adds it
-use Rattle.std.proofs.Common.{◌≡◌, ◌==◌, ◌≤◌, ◌+◌, ℕ, suc, Bool, true, false, cond, List, [], ◌∷◌, ◌++◌, Some, length, refl, arith, ap, sym, ◌∙◌, nat_lt, nat_le}
+use Rattle.std.proofs.Common.{◌≡◌, ◌==◌, ◌≤◌, ◌+◌, ℕ, suc, Bool, true, false, cond, List, [], ◌∷◌, ◌++◌, Some, length, refl, arith, ap, sym, ◌∙◌, nat_lt, nat_le, append_assoc}
 use Rattle.std.specs.Prelude.{Contains, Ok, flat_map, fold, sum_by}
 use Rattle.std.specs.List.{list_any}
 use Rattle.std.proofs.lemmas.Bool.{eqb-true, false_from_ne_true}
@@ -9,16 +9,18 @@ use Rattle.std.proofs.lemmas.List.Sums.{fold-append, sum_by-append}
 use Rattle.olap_base.specs.Graph.{Graph, IsCategory, IsHierarchy}
 use Rattle.olap_base.specs.Limits.{most_constants, most_constraints, most_depth, most_nodes, most_schema_nodes, most_text_bytes}
 use Rattle.olap_graph.specs.Lookups.{category_named, name_of_category}
-use Rattle.olap_ast.specs.Formula.{Comparison, Equality, Formula, comparisons, equalities}
+use Rattle.olap_ast.specs.Formula.{Formula, Compared, compared}
 use Rattle.olap_ast.specs.Schema.{Constraint, Schema}
-use Rattle.olap_ast.specs.Valid.{IsFormulaAt, IsValidSchema, depth_of, is_same_number, is_same_pair, node_count, with_new, with_number, with_pair}
+use Rattle.olap_ast.specs.Valid.{IsFormulaAt, IsValidSchema, depth_of, node_count, with_new, constant_count, is_same_atom}
+use Rattle.olap_ast.specs.Constants.{all_compared}
+use Rattle.std.proofs.lemmas.List.Concat.{flat_map-append}
 use Rattle.olap_grammar.specs.Brackets.{opens_over}
 use Rattle.olap_grammar.specs.Forms.{depth_of as levels_of}
 use Rattle.olap_grammar.specs.Machine.{the_formula}
 use Rattle.olap_grammar.specs.Words.{atoms_of}
 use Rattle.olap_grammar.proofs.ReaderLemmas.{formula_is_found}
 use Rattle.olap_grammar.proofs.Sound.{tighter}
-use Rattle.olap_schema_text.specs.Judging.{Above, constraint_read, form_read}
+use Rattle.olap_schema_text.specs.Judging.{Above, constraint_read, form_read, has_too_many_constants}
 use Rattle.olap_schema_text.specs.Parts.{has_too_many_nodes}
 use Rattle.olap_grammar.specs.declared.tokens.Version.TheVariants as version
 use Rattle.olap_grammar.specs.Nodes.{nodes_of}
@@ -36,28 +38,18 @@ use Rattle.olap_schema_text.proofs.PrintTokens.{spelt}
 use Rattle.std.proofs.Common.{lit≤}
 
 -- the graph and these constraints stand above
-abbrev pub ruled : Graph → List Constraint → ℕ → List Equality → List Comparison → List ℕ → Above
-ruled g done nodes pairs numbers lines = record {
+abbrev pub ruled : Graph → List Constraint → ℕ → List ℕ → Above
+ruled g done nodes lines = record {
   version = Some version.Two;
   graph = g;
   category_lines = lines;
   constraints = done;
   nodes = nodes;
-  pairs = pairs;
-  numbers = numbers;
 }
 
--- the nodes of the constraints, and their pairs
+-- the nodes of the constraints
 abbrev pub nodes_in : List Constraint → ℕ
 nodes_in cs = sum_by (λ c. node_count c.formula) cs
-
--- the pairs so far, with those of some constraints
-abbrev pub pairs_with : List Equality → List Constraint → List Equality
-pairs_with pairs cs = fold with_pair pairs (flat_map (λ c. equalities c.formula) cs)
-
--- the same of numbers
-abbrev pub numbers_with : List Comparison → List Constraint → List Comparison
-numbers_with numbers cs = fold with_number numbers (flat_map (λ c. comparisons c.formula) cs)
 
 -- pairs are only added
 one_grows : {A : Type 0} (same : A → A → Bool) (pairs : List A) (x : A) → length pairs ≤ length (with_new same pairs x)
@@ -74,7 +66,7 @@ grows same pairs [] = omega arith
 grows same pairs (x ∷ xs) =
     let a = one_grows same pairs x in let b = grows same (with_new same pairs x) xs in omega (arith, a, b)
 
--- the first constraint's nodes and pairs come before those of the others
+-- the first constraint's nodes come before those of the others
 pub first_nodes : (c : Constraint) (cs : List Constraint) → nodes_in (c ∷ cs) ≡ node_count c.formula + nodes_in cs
 first_nodes c cs =
     let e = sum_by-append (λ x. node_count x.formula) (c ∷ []) cs in
@@ -82,17 +74,6 @@ first_nodes c cs =
   where
     go : (a b s : ℕ) → s ≡ (0 + a) + b → s ≡ a + b
     go a b s e = omega arith
-
--- the first constraint's come first
-pub first_pairs : (pairs : List Equality) (c : Constraint) (cs : List Constraint)
-    → pairs_with pairs (c ∷ cs) ≡ pairs_with (fold with_pair pairs (equalities c.formula)) cs
-first_pairs pairs c cs = fold-append with_pair pairs (equalities c.formula) (flat_map (λ x. equalities x.formula) cs)
-
--- the same of numbers
-pub first_numbers : (numbers : List Comparison) (c : Constraint) (cs : List Constraint)
-    → numbers_with numbers (c ∷ cs) ≡ numbers_with (fold with_number numbers (comparisons c.formula)) cs
-first_numbers numbers c cs =
-    fold-append with_number numbers (comparisons c.formula) (flat_map (λ x. comparisons x.formula) cs)
 
 -- the tokens of a printed formula pass all checks of its form
 form_is : (g : Graph) (h : IsHierarchy g) (r : ℕ) (l : IsCategory g r) (f : Formula) → IsFormulaAt g r f
@@ -113,15 +94,12 @@ form_is g h r l f v before few all deep =
 
 -- a constraint's line adds it
 pub add_constraint : (s : Schema) → IsValidSchema s → AreShort s.graph
-    → (done : List Constraint) (c : Constraint) (rest : List Constraint) (nodes : ℕ) (pairs : List Equality)
-    (numbers : List Comparison) (lines : List ℕ) →
-    done ++ c ∷ rest ≡ s.constraints → nodes + nodes_in (c ∷ rest) ≤ most_schema_nodes
-    → length (pairs_with pairs (c ∷ rest)) + length (numbers_with numbers (c ∷ rest)) ≤ most_constants →
-    constraint_read (ruled s.graph done nodes pairs numbers lines) version.Two (name_of_category s.graph c.root)
+    → (done : List Constraint) (c : Constraint) (rest : List Constraint) (nodes : ℕ) (lines : List ℕ) →
+    done ++ c ∷ rest ≡ s.constraints → nodes + nodes_in (c ∷ rest) ≤ most_schema_nodes →
+    constraint_read (ruled s.graph done nodes lines) version.Two (name_of_category s.graph c.root)
     (spelt s.graph c.root c.formula)
-    ≡ Ok (ruled s.graph (done ++ c ∷ []) (nodes + nodes_of version.Two (spelt s.graph c.root c.formula))
-    (fold with_pair pairs (equalities c.formula)) (fold with_number numbers (comparisons c.formula)) lines)
-add_constraint s v short done c rest nodes pairs numbers lines e few_nodes few_pairs =
+    ≡ Ok (ruled s.graph (done ++ c ∷ []) (nodes + nodes_of version.Two (spelt s.graph c.root c.formula)) lines)
+add_constraint s v short done c rest nodes lines e few_nodes =
     let there : Contains s.constraints c = rw e at (stands done c rest) in
     let declared = v.roots c there in
     let at_root = v.formulas c there in
@@ -145,24 +123,27 @@ add_constraint s v short done c rest nodes pairs numbers lines e few_nodes few_p
     let few : nat_le most_constraints (length done) ≡ false =
     room (length done) (length rest) (length s.constraints) v.constraints_fit (sym size ∙ sizes) in
     let back = written_is_resolved s.graph v.hierarchy c.root declared.1 c.formula at_root in
-    let p = fits c rest pairs numbers few_pairs in
+    let p = fits done c rest s.constraints e v.constants_fit in
     rw (form, sn, sl, good, n, z, few, back, p) refl
   where
     room : (a b n : ℕ) → n ≤ most_constraints → n ≡ a + suc b → nat_le most_constraints a ≡ false
     room a b n l q = grind arith
 
-    below : (a b m n p q : ℕ) → a ≤ m → b ≤ n → p ≡ m → q ≡ n → p + q ≤ most_constants
-        → nat_lt most_constants (a + b) ≡ false
-    below a b m n p q l k d e f = grind arith
+    below : (a b m : ℕ) → a ≤ b → m ≡ b → m ≤ most_constants → nat_lt most_constants a ≡ false
+    below a b m l e f = grind arith
 
     -- the constants so far are no more than those of the whole schema
-    fits : (c : Constraint) (rest : List Constraint) (pairs : List Equality) (numbers : List Comparison)
-        → length (pairs_with pairs (c ∷ rest)) + length (numbers_with numbers (c ∷ rest)) ≤ most_constants
-        → nat_lt most_constants (length (fold with_pair pairs (equalities c.formula))
-        + length (fold with_number numbers (comparisons c.formula))) ≡ false
-    fits c rest pairs numbers few =
-        below _ _ _ _ _ _
-        (grows is_same_pair (fold with_pair pairs (equalities c.formula)) (flat_map (λ x. equalities x.formula) rest))
-        (grows is_same_number (fold with_number numbers (comparisons c.formula))
-        (flat_map (λ x. comparisons x.formula) rest))
-        (ap length (first_pairs pairs c rest)) (ap length (first_numbers numbers c rest)) few
+    fits : (done : List Constraint) (c : Constraint) (rest all : List Constraint) → done ++ c ∷ rest ≡ all
+        → constant_count (flat_map (λ x. compared x.formula) all) ≤ most_constants
+        → has_too_many_constants done c.formula ≡ false
+    fits done c rest all e few =
+        let atoms : Constraint → List Compared = λ x. compared x.formula in
+        let so_far = fold (with_new is_same_atom) [] (all_compared done c.formula) in
+        let behind : flat_map atoms all ≡ all_compared done c.formula ++ flat_map atoms rest =
+        ap (flat_map atoms) (sym e) ∙ flat_map-append atoms done (c ∷ rest)
+        ∙ sym (append_assoc (flat_map atoms done) (compared c.formula) (flat_map atoms rest)) in
+        below _ _ _
+        (grows is_same_atom so_far (flat_map atoms rest))
+        (ap constant_count behind
+        ∙ ap length (fold-append (with_new is_same_atom) [] (all_compared done c.formula) (flat_map atoms rest)))
+        few

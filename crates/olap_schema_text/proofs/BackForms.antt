@@ -17,12 +17,9 @@ use Rattle.olap_schema_text.specs.Resolving.{all_resolved, categories_of, is_rep
 use Rattle.olap_schema_text.proofs.PrintCut.{AreCategories, steps_are}
 use Rattle.olap_schema_text.proofs.PrintNames.{named}
 use Rattle.olap_schema_text.proofs.Written.{all_written, written}
+use Rattle.olap_base.proofs.GeneralLemmas.{eqb_same}
 
 -- ---- categories
-
--- a category is equal to itself
-same_itself : (n : ℕ) → (n == n) ≡ true
-same_itself n = grind arith
 
 -- one that differs from each of these isn't among them
 not_among : (c : ℕ) (cs : List ℕ) → All (λ d. c ≢ d) cs → list_any (λ d. d == c) cs ≡ false
@@ -77,17 +74,17 @@ module _ (g : Graph) (h : IsHierarchy g) where
           rw (
             named g h r l,
             categories_are cs (steps_are g h r cs v.1),
-            same_itself r,
+            eqb_same r,
             none_repeated (r ∷ cs) v.2,
             no_edge_lacks r cs v.1,
           ) refl
-      written_is_resolved (Meaning.Formula.Reach d) v = rw (named g h r l, named g h d v, same_itself r) refl
+      written_is_resolved (Meaning.Formula.Reach d) v = rw (named g h r l, named g h d v, eqb_same r) refl
       written_is_resolved (Meaning.Formula.Via d e) v =
-          rw (named g h r l, named g h d v.0, named g h e v.1, same_itself r) refl
+          rw (named g h r l, named g h d v.0, named g h e v.1, eqb_same r) refl
       written_is_resolved (Meaning.Formula.Equals d k) v =
-          rw (named g h r l, named g h d v.0, same_itself r, v.1) refl
+          rw (named g h r l, named g h d v.0, eqb_same r, v.1) refl
       written_is_resolved (Meaning.Formula.Compare d op n) v =
-          rw (named g h r l, named g h d v.0, same_itself r, v.1, numbers_read_back n v.2) refl
+          rw (named g h r l, named g h d v.0, eqb_same r, v.1, numbers_read_back n v.2) refl
       written_is_resolved (Meaning.Formula.Not f) v = rw (written_is_resolved f v) refl
       written_is_resolved (Meaning.Formula.And f k) v =
           rw (written_is_resolved f v.0, written_is_resolved k v.1) refl

@@ -22,6 +22,7 @@ use Rattle.olap_grammar.specs.Cutting.{has_numbers}
 use Rattle.olap_grammar.specs.declared.tokens.Version.TheVariants as version
 use Rattle.olap_schema_text.proofs.BackLengths.{AreShort}
 use Rattle.olap_schema_text.proofs.PrintNames.{named}
+use Rattle.olap_base.proofs.ListLemmas.{get_or_inside}
 
 -- these categories and edges stand above
 abbrev pub growing : List (List ℕ) → List Bool → List Edge → List ℕ → Above
@@ -31,13 +32,11 @@ growing names numbers edges lines = record {
   category_lines = lines;
   constraints = [];
   nodes = 0;
-  pairs = [];
-  numbers = [];
 }
 
 -- ---- lists
 
--- the item behind some
+-- the item after some
 at_end : {A : Type 0} (xs : List A) (y : A) (ys : List A) (d : A) → get_or (xs ++ y ∷ ys) (length xs) d ≡ y
 at_end [] y ys d = refl
 at_end (x ∷ xs) y ys d = at_end xs y ys d
@@ -63,12 +62,6 @@ not_before xs y ys a c =
 pub stands : {A : Type 0} (xs : List A) (y : A) (ys : List A) → Contains (xs ++ y ∷ ys) y
 stands xs y ys = Contains-append_right xs (y ∷ ys) y (0, omega arith, refl)
 
--- an item doesn't depend on what would stand where there is none
-same_read : {A : Type 0} (zs : List A) (k : ℕ) (d e : A) → k < length zs → get_or zs k d ≡ get_or zs k e
-same_read [] k d e l = absurd (omega arith)
-same_read (z ∷ zs) zero d e l = refl
-same_read (z ∷ zs) (suc k) d e l = same_read zs k d e (omega arith)
-
 -- what passes nowhere in the list is not placed
 not_placed : {X : Type 0} (t : X → Bool) (P : X → Type 0) (tells : (x : X) → Decides (t x) (P x)) (xs : List X)
     → ((x : X) → Contains xs x → P x → ⊥) → position_from t 0 xs ≡ None
@@ -79,7 +72,8 @@ not_placed t P tells (y ∷ ys) none = go (position_from t 0 (y ∷ ys)) refl
     go None e = refl
     go (Some i) e =
         let r = found t P tells (y ∷ ys) 0 i e in
-        absurd (none (get_or (y ∷ ys) r.0 y) (r.0, r.2, same_read (y ∷ ys) r.0 (get_or (y ∷ ys) r.0 y) y r.2) (r.3 y))
+        absurd (none (get_or (y ∷ ys) r.0 y) (r.0, r.2, get_or_inside (y ∷ ys) r.0 (get_or (y ∷ ys) r.0 y) y r.2)
+        (r.3 y))
 
 -- ---- categories
 

@@ -3,7 +3,7 @@ use Rattle.std.proofs.Common.{◌≡◌, ◌&&◌, ℕ, Bool, true, false, List,
 use Rattle.std.specs.List.{list_all}
 use Rattle.olap_base.specs.Graph.{Edge, Graph, IsCategory, IsCategoryName, IsHierarchy}
 use Rattle.olap_graph.specs.Lookups.{name_of_category}
-use Rattle.olap_ast.specs.Formula.{equalities}
+use Rattle.olap_ast.specs.Atoms.{equalities}
 use Rattle.olap_ast.specs.Schema.{Constraint}
 use Rattle.olap_ast.specs.Valid.{IsFormulaAt}
 use Rattle.olap_grammar.specs.Cutting.{AreWordBytes, is_word_byte, IsCut, blank, end, word}
@@ -35,7 +35,7 @@ word_bytes (b ∷ w) e = go (is_word_byte b) refl e (λ r. word_bytes w r)
     go true q r rest = (q, rest r)
     go false q r rest = absurd (cc)
 
--- a keyword with a space behind it
+-- a keyword with a space after it
 keyword : (v : Version) (b : ℕ) (w bs : List ℕ) (ts : List Token) → list_all is_word_byte (b ∷ w) ≡ true → IsCut v bs ts
     → IsCut v ((b ∷ w) ++ 32 ∷ bs) (token.Word (b ∷ w) ∷ ts)
 keyword v b w bs ts e d = word b w (word_bytes (b ∷ w) e) refl (blank d)
@@ -71,7 +71,7 @@ version_tokens =
 
 -- the tokens of a category's line
 pub category_tokens : (name : List ℕ) (number : Bool) → IsCategoryName name
-    → tokens_of version.Two (category_text name number)
+    → tokens_of version.Two (category_text (name, number))
     ≡ Some (token.Word (codes "category") ∷ token.Word name ∷ kind_tokens number)
 category_tokens name number n =
     cut_is_found version.Two _ _
@@ -115,13 +115,13 @@ module _ (g : Graph) (h : IsHierarchy g) where
 pub version_plain : IsPlain version_text
 version_plain = ascii_plain (codes "schema 2") refl
 
--- so is what stands behind a name
+-- so is what stands after a name
 kind_plain : (number : Bool) → IsPlain (kind_text number)
 kind_plain true = ascii_plain (codes " number") refl
 kind_plain false = ascii_plain [] refl
 
 -- a category's line
-pub category_plain : (name : List ℕ) (number : Bool) → IsCategoryName name → IsPlain (category_text name number)
+pub category_plain : (name : List ℕ) (number : Bool) → IsCategoryName name → IsPlain (category_text (name, number))
 category_plain name number n =
     plain-append (codes "category ") (name ++ kind_text number) (ascii_plain (codes "category ") refl)
     (plain-append name (kind_text number) (name_plain name n) (kind_plain number))
@@ -155,7 +155,7 @@ unfolding is_quiet
 version_speaks = refl
 
 -- nor is a category's
-pub category_speaks : (name : List ℕ) (number : Bool) → is_quiet (category_text name number) ≡ false
+pub category_speaks : (name : List ℕ) (number : Bool) → is_quiet (category_text (name, number)) ≡ false
 unfolding is_quiet
 category_speaks name number = refl
 

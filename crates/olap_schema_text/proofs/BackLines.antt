@@ -31,7 +31,7 @@ no_lf b e = grind arith
 no_cr : (b : ℕ) → is_control b ≡ false → (b == 13) ≡ false
 no_cr b e = grind arith
 
--- so it is a line if an LF stands behind it
+-- so it is a line if an LF stands after it
 one_line : (line rest : List ℕ) → list_any is_control line ≡ false → lines_of (line ++ 10 ∷ rest) ≡ line ∷ lines_of rest
 unfolding lines_of
 one_line [] rest e = refl

@@ -1,11 +1,12 @@
 -- Printed formulas and lines are plain: UTF-8 without control characters.
-use Rattle.std.proofs.Common.{◌≡◌, ◌==◌, ◌&&◌, ℕ, ℤ, pos, negsuc, suc, decimal, Bool, true, false, cond, List, [], ◌∷◌, ◌++◌, All, refl, arith, codes, nat_lt, nat_le, lit<}
+use Rattle.std.proofs.Common.{◌≡◌, ◌==◌, ◌&&◌, ℕ, ℤ, pos, negsuc, suc, decimal, Bool, true, false, cond, List, [], ◌∷◌, ◌++◌, All, refl, arith, codes, nat_lt, nat_le, lit<, flat_map}
 use Rattle.std.specs.List.{list_all}
 use Rattle.std.proofs.lemmas.List.Elements.{All-head, All-tail, Contains-append_left, Contains-append_right}
 use Rattle.olap_base.specs.Graph.{Graph, IsCategory, IsCategoryName, IsHierarchy, IsLetterOrDigit}
 use Rattle.olap_graph.specs.Lookups.{name_of_category}
+use Rattle.olap_ast.specs.Atoms.{equalities, equalities_of_terms, Equality}
 use Rattle.olap_ast.specs.Formula as Meaning
-use Rattle.olap_ast.specs.Formula.{Formula, Terms, equalities, equalities_of_terms}
+use Rattle.olap_ast.specs.Formula.{Formula, Terms}
 use Rattle.olap_ast.specs.Valid.{AreFormulasAt, IsFormulaAt}
 use Rattle.std.specs.Char.{is_ascii_digit}
 use Rattle.std.specs.Str.{all_ascii_digits}
@@ -13,7 +14,7 @@ use Rattle.olap_numerals.specs.Comparing.{Op}
 use Rattle.olap_numerals.specs.Numerals.{IsSmall, canonical}
 use Rattle.olap_grammar.specs.Cutting.{joint_bytes, mark_bytes}
 use Rattle.olap_grammar.specs.Grammar.{comparing}
-use Rattle.olap_grammar.specs.Quoting.{escaped, quoted}
+use Rattle.olap_grammar.specs.Quoting.{escaped_byte, quoted}
 use Rattle.olap_grammar.specs.declared.tokens.Joint.{Joint}
 use Rattle.olap_grammar.specs.declared.tokens.Joint.TheVariants as joint
 use Rattle.olap_schema_text.specs.Printing.{atom_word, compared_word, formula_text, joined_text, list_text, names_after, rest_text}
@@ -21,7 +22,8 @@ use Rattle.olap_schema.specs.Readable.{AreTexts}
 use Rattle.olap_schema_text.proofs.BackBytes.{IsPlain, escaped_plain, from_not_bad, plain-append, plain-cons, plain-nil}
 use Rattle.olap_schema_text.proofs.PrintCut.{AreCategories, steps_are}
 use Rattle.olap_schema_text.proofs.PrintNames.{letters, name_is}
-use Rattle.olap_schema_text.proofs.PrintNumerals.{both_true, digits_behind_dash, digits_in_decimal}
+use Rattle.olap_schema_text.proofs.PrintNumerals.{digits_behind_dash, digits_in_decimal}
+use Rattle.std.proofs.lemmas.Bool.{and_parts}
 
 -- a printable ASCII character
 abbrev pub is_printable : ℕ → Bool
@@ -76,7 +78,7 @@ op_plain Op.AtMost = ascii_plain (codes "<=") refl
 digits_plain : (ds : List ℕ) → all_ascii_digits ds ≡ true → IsPlain ds
 digits_plain [] e = plain-nil
 digits_plain (b ∷ ds) e =
-    let d = both_true (is_ascii_digit b) (all_ascii_digits ds) e in
+    let d = and_parts (is_ascii_digit b) (all_ascii_digits ds) e in
     let t = d.0 in
     plain-cons b ds (grind arith) (grind arith) (digits_plain ds d.1)
 
@@ -89,8 +91,8 @@ numeral_plain (negsuc n) small =
 -- a plain text as a string
 quoted_plain : (k : List ℕ) → IsPlain k → IsPlain (quoted k)
 quoted_plain k p =
-    byte 34 (escaped k ++ 34 ∷ []) refl
-    (plain-append (escaped k) (34 ∷ []) (escaped_plain k p) (ascii_plain (34 ∷ []) refl))
+    byte 34 (flat_map escaped_byte k ++ 34 ∷ []) refl
+    (plain-append (flat_map escaped_byte k) (34 ∷ []) (escaped_plain k p) (ascii_plain (34 ∷ []) refl))
 
 -- two plain texts joined by a connective
 joined_plain : (j : Joint) (x y : List ℕ) → IsPlain x → IsPlain y → IsPlain (joined_text j x y)
@@ -123,11 +125,11 @@ module _ (g : Graph) (h : IsHierarchy g) where
       go false = atom_plain r 46 (d ∷ []) refl l (k, tt)
 
 -- texts of two lists are those of the first
-pub left_texts : (xs ys : List Meaning.Equality) → AreTexts (xs ++ ys) → AreTexts xs
+pub left_texts : (xs ys : List Equality) → AreTexts (xs ++ ys) → AreTexts xs
 left_texts xs ys t a c = t a (Contains-append_left xs ys a c)
 
 -- and of the second
-pub right_texts : (xs ys : List Meaning.Equality) → AreTexts (xs ++ ys) → AreTexts ys
+pub right_texts : (xs ys : List Equality) → AreTexts (xs ++ ys) → AreTexts ys
 right_texts xs ys t a c = t a (Contains-append_right xs ys a c)
 
 -- a word and a string

@@ -1,25 +1,25 @@
 -- A printed schema is read back.
-use Rattle.std.proofs.Common.{◌≡◌, ◌≤◌, ◌+◌, ℕ, zero, suc, Bool, false, List, [], ◌∷◌, ◌++◌, None, Some, length, map, get_or, refl, append_assoc, append-nil, arith, ap, sym, ◌∙◌, codes, lit≤}
-use Rattle.std.specs.Prelude.{Contains, Ok, flat_map, fold}
+use Rattle.std.proofs.Common.{◌≡◌, ◌≤◌, ◌+◌, ℕ, zero, suc, Bool, List, [], ◌∷◌, ◌++◌, None, Some, length, map, get_or, refl, append_assoc, append-nil, arith, ap, sym, ◌∙◌, codes, lit≤}
+use Rattle.std.specs.Prelude.{Contains, Ok, flat_map, zip}
 use Rattle.std.proofs.lemmas.List.Elements.{Contains-get_or}
 use Rattle.olap_base.specs.Deciding.{contains_cons}
 use Rattle.olap_base.specs.Graph.{Edge, IsCategory, IsCategoryName}
-use Rattle.olap_base.specs.Limits.{most_constants, most_schema_nodes}
+use Rattle.olap_base.specs.Limits.{most_schema_nodes}
 use Rattle.olap_graph.specs.Lookups.{name_of_category}
-use Rattle.olap_ast.specs.Formula.{Comparison, Equality, comparisons, equalities}
+use Rattle.olap_ast.specs.Atoms.{Equality, equalities}
 use Rattle.olap_ast.specs.Schema.{Constraint, Schema}
-use Rattle.olap_ast.specs.Valid.{IsValidSchema, with_number, with_pair}
+use Rattle.olap_ast.specs.Valid.{IsValidSchema}
 use Rattle.olap_grammar.specs.declared.tokens.Token.TheVariants as token
 use Rattle.olap_grammar.specs.declared.tokens.Mark.TheVariants as mark
 use Rattle.olap_schema_text.specs.Judging.{Above, lines_on, nothing_above, schema_read, statement_read}
 use Rattle.olap_schema_text.specs.Parts.{tokens_read}
 use Rattle.olap_schema_text.specs.Judging.{text_ended}
-use Rattle.olap_schema_text.specs.Printing.{category_text, category_texts, constraint_text, edge_text, schema_lines, schema_text, version_text}
+use Rattle.olap_schema_text.specs.Printing.{category_text, constraint_text, edge_text, schema_lines, schema_text, version_text}
 use Rattle.olap_schema.specs.Readable.{AreTexts, IsReadable}
 use Rattle.olap_schema_text.specs.PrintingLaws.{PrintedIsRead}
 use Rattle.olap_grammar.specs.Nodes.{nodes_of}
 use Rattle.olap_grammar.specs.declared.tokens.Version.TheVariants as version
-use Rattle.olap_schema_text.proofs.BackConstraints.{add_constraint, first_nodes, first_numbers, first_pairs, nodes_in, numbers_with, pairs_with, ruled}
+use Rattle.olap_schema_text.proofs.BackConstraints.{add_constraint, first_nodes, nodes_in, ruled}
 use Rattle.olap_schema_text.proofs.BackGraph.{add_category, add_edge, growing, stands}
 use Rattle.olap_schema_text.proofs.BackLengths.{AreShort}
 use Rattle.olap_schema_text.proofs.BackLines.{ArePlain, goes_on, lines_are}
@@ -47,41 +47,35 @@ module _ (s : Schema) (v : IsValidSchema s) where
 
   -- ---- from the last lines to the first
 
-  constraints_back : (todo done : List Constraint) (n nodes : ℕ) (pairs : List Equality) (numbers : List Comparison)
-      (lines : List ℕ) → done ++ todo ≡ s.constraints → nodes + nodes_in todo ≤ most_schema_nodes
-      → length (pairs_with pairs todo) + length (numbers_with numbers todo) ≤ most_constants
-      → AreTexts (atoms_in todo) →
-      Ends (ruled s.graph done nodes pairs numbers lines) n (map (constraint_text s.graph) todo) s
-  constraints_back [] done n nodes pairs numbers lines e few_nodes few_pairs t =
+  constraints_back : (todo done : List Constraint) (n nodes : ℕ) (lines : List ℕ) → done ++ todo ≡ s.constraints
+      → nodes + nodes_in todo ≤ most_schema_nodes → AreTexts (atoms_in todo) →
+      Ends (ruled s.graph done nodes lines) n (map (constraint_text s.graph) todo) s
+  constraints_back [] done n nodes lines e few_nodes t =
       let none = none_stuck s.graph v.hierarchy.reaches_all in
       let built : List Constraint → Schema = λ cs. record { graph = s.graph; constraints = cs } in
       rw none (ap (λ cs. Ok (built cs)) (sym (append-nil done) ∙ e))
-  constraints_back (c ∷ todo) done n nodes pairs numbers lines e few_nodes few_pairs t =
+  constraints_back (c ∷ todo) done n nodes lines e few_nodes t =
       let there : Contains s.constraints c = rw e at (stands done c todo) in
       let l = (v.roots c there).1 in
       let at_root = v.formulas c there in
       let name = name_of_category s.graph c.root in
       let ts = spelt s.graph c.root c.formula in
-      let more_pairs = fold with_pair pairs (equalities c.formula) in
-      let more_numbers = fold with_number numbers (comparisons c.formula) in
-      let above = ruled s.graph done nodes pairs numbers lines in
-      let below = ruled s.graph (done ++ c ∷ []) (nodes + nodes_of version.Two ts) more_pairs more_numbers lines in
+      let above = ruled s.graph done nodes lines in
+      let below = ruled s.graph (done ++ c ∷ []) (nodes + nodes_of version.Two ts) lines in
       let read : tokens_read above (n + 1)
       (Some (token.Word (codes "constraint") ∷ token.Word name ∷ token.Mark mark.Colon ∷ ts)) ≡ Ok below =
       ap (statement_read above (n + 1) (Some version.Two))
       (constraint_says name ts (is_name s.graph v.hierarchy c.root l))
-      ∙ add_constraint s v short done c todo nodes pairs numbers lines e few_nodes few_pairs in
+      ∙ add_constraint s v short done c todo nodes lines e few_nodes in
       let plain = constraint_plain s.graph v.hierarchy c l at_root
       (left_texts (equalities c.formula) (atoms_in todo) t) in
       let counted = nodes_are s.graph c.root c.formula in
       let sum = first_nodes c todo in
-      let same_pairs = ap length (first_pairs pairs c todo) in
-      let same_numbers = ap length (first_numbers numbers c todo) in
       ap text_ended (goes_on above below n (constraint_text s.graph c) _ (map (constraint_text s.graph) todo) plain
       (constraint_speaks s.graph c) (constraint_tokens s.graph v.hierarchy c l at_root) read)
-      ∙ constraints_back todo (done ++ c ∷ []) (n + 1) (nodes + nodes_of version.Two ts) more_pairs more_numbers lines
+      ∙ constraints_back todo (done ++ c ∷ []) (n + 1) (nodes + nodes_of version.Two ts) lines
       (append_assoc done (c ∷ []) todo ∙ e) (omega (arith, counted, sum, few_nodes))
-      (omega (arith, same_pairs, same_numbers, few_pairs)) (right_texts (equalities c.formula) (atoms_in todo) t)
+      (right_texts (equalities c.formula) (atoms_in todo) t)
 
   edges_back : AreTexts (atoms_in s.constraints) → (todo done : List Edge) (n : ℕ) (lines : List ℕ)
       → done ++ todo ≡ s.graph.edges →
@@ -90,8 +84,7 @@ module _ (s : Schema) (v : IsValidSchema s) where
   edges_back t [] done n lines e =
       ap (λ es. text_ended (lines_on (Ok (growing s.graph.names s.graph.numbers es lines)) n
       (map (constraint_text s.graph) s.constraints))) (sym (append-nil done) ∙ e)
-      ∙ constraints_back s.constraints [] n 0 [] [] lines refl (let f = v.all_nodes_fit in omega (arith, f))
-      v.constants_fit t
+      ∙ constraints_back s.constraints [] n 0 lines refl (let f = v.all_nodes_fit in omega (arith, f)) t
   edges_back t (x ∷ todo) done n lines e =
       let there : Contains s.graph.edges x = rw e at (stands done x todo) in
       let ends = v.hierarchy.categories x.child x.parent there in
@@ -118,8 +111,7 @@ module _ (s : Schema) (v : IsValidSchema s) where
   categories_back : AreTexts (atoms_in s.constraints) → (todo : List (List ℕ)) (kinds : List Bool)
       (done : List (List ℕ)) (known : List Bool) (n : ℕ) (lines : List ℕ)
       → done ++ todo ≡ s.graph.names → known ++ kinds ≡ s.graph.numbers → length kinds ≡ length todo →
-      Ends (growing done known [] lines) n (category_texts todo kinds ++ other_lines) s
-  unfolding category_texts
+      Ends (growing done known [] lines) n (map category_text (zip todo kinds) ++ other_lines) s
   categories_back t [] [] done known n lines e k l =
       ap (λ names. text_ended (lines_on (Ok (growing names known [] lines)) n other_lines)) (sym (append-nil done) ∙ e)
       ∙ ap (λ numbers. text_ended (lines_on (Ok (growing s.graph.names numbers [] lines)) n other_lines))
@@ -137,7 +129,8 @@ module _ (s : Schema) (v : IsValidSchema s) where
       ap (statement_read above (n + 1) (Some version.Two))
       (category_says name number ((is_category_name_is name).1 is))
       ∙ add_category s v (n + 1) done name todo known number lines e in
-      ap text_ended (goes_on above below n (category_text name number) _ (category_texts todo kinds ++ other_lines)
+      ap text_ended (goes_on above below n (category_text (name, number)) _
+      (map category_text (zip todo kinds) ++ other_lines)
       (category_plain name number is) (category_speaks name number) (category_tokens name number is) read)
       ∙ categories_back t todo kinds (done ++ name ∷ []) (known ++ number ∷ []) (n + 1) (lines ++ (n + 1) ∷ [])
       (append_assoc done (name ∷ []) todo ∙ e) (append_assoc known (number ∷ []) kinds ∙ k) (omega arith)
@@ -149,13 +142,9 @@ module _ (s : Schema) (v : IsValidSchema s) where
   plain_after (x ∷ xs) ys p q = (p.0, plain_after xs ys p.1 q)
 
   plain_names : (names : List (List ℕ)) (kinds : List Bool)
-      → ((name : List ℕ) → Contains names name → IsCategoryName name) → ArePlain (category_texts names kinds)
-  unfolding category_texts
+      → ((name : List ℕ) → Contains names name → IsCategoryName name) → ArePlain (map category_text (zip names kinds))
   plain_names [] kinds f = tt
-  plain_names (name ∷ names) [] f = (
-    category_plain name false (f name (0, omega arith, refl)),
-    plain_names names [] (λ x c. f x (contains_cons x names name c)),
-  )
+  plain_names (name ∷ names) [] f = tt
   plain_names (name ∷ names) (number ∷ kinds) f = (
     category_plain name number (f name (0, omega arith, refl)),
     plain_names names kinds (λ x c. f x (contains_cons x names name c)),
@@ -182,7 +171,7 @@ module _ (s : Schema) (v : IsValidSchema s) where
   plain_lines : AreTexts (atoms_in s.constraints) → ArePlain (schema_lines s)
   plain_lines t = (
     version_plain,
-    plain_after (category_texts s.graph.names s.graph.numbers) other_lines
+    plain_after (map category_text (zip s.graph.names s.graph.numbers)) other_lines
         (plain_names s.graph.names s.graph.numbers (λ name c. (v.hierarchy.names name c).0))
         (plain_after (map (edge_text s.graph) s.graph.edges) (map (constraint_text s.graph) s.constraints)
         (plain_edges s.graph.edges (λ e c. v.hierarchy.categories e.child e.parent c))
@@ -194,7 +183,8 @@ module _ (s : Schema) (v : IsValidSchema s) where
       let first : tokens_read nothing_above 1 (Some (token.Word (codes "schema") ∷ token.Word (codes "2") ∷ [])) ≡ Ok
       (growing [] [] [] []) = ap (statement_read nothing_above 1 None) version_says in
       ap text_ended (goes_on nothing_above (growing [] [] [] []) 0 version_text _
-      (category_texts s.graph.names s.graph.numbers ++ other_lines) version_plain version_speaks version_tokens first)
+      (map category_text (zip s.graph.names s.graph.numbers) ++ other_lines)
+      version_plain version_speaks version_tokens first)
       ∙ categories_back t s.graph.names s.graph.numbers [] [] 1 [] refl refl v.hierarchy.kinds_known
 
 -- the canonical text of a schema stands for it

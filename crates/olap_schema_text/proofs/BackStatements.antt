@@ -1,5 +1,5 @@
 -- What the tokens of printed lines say.
---     kind_tokens    the tokens behind the name of a category
+--     kind_tokens    the tokens after the name of a category
 use Rattle.std.proofs.Common.{◌≡◌, ℕ, Bool, true, false, List, [], ◌∷◌, refl, codes}
 use Rattle.olap_base.specs.Reaching.{is_category_name}
 use Rattle.olap_grammar.specs.declared.tokens.Token.{Token}
@@ -13,7 +13,7 @@ pub version_says : statement_of (token.Word (codes "schema") ∷ token.Word (cod
 unfolding statement_of
 version_says = refl
 
--- what stands behind the name of a category
+-- what stands after the name of a category
 abbrev pub kind_tokens : Bool → List Token
 kind_tokens true = token.Word (codes "number") ∷ []
 kind_tokens false = []

@@ -22,7 +22,7 @@ use Rattle.olap_schema_text.proofs.PrintTokens.{joined_tokens, number_token, spe
 
 -- ---- nodes
 
--- these tokens have so many nodes, whatever stands behind them
+-- these tokens have this many nodes, whatever stands after them
 abbrev HasNodes : ℕ → List Token → Type 0
 HasNodes n ts = (us : List Token) → nodes_of version.Two (ts ++ us) ≡ n + nodes_of version.Two us
 
@@ -193,7 +193,7 @@ shifted o c (token.Mark mark.AtMost ∷ ts) = shifted o c ts
 shifted o c (token.Mark mark.Not ∷ ts) = shifted o c ts
 shifted o c (token.Mark (mark.Joint j) ∷ ts) = shifted o c ts
 
--- where so many more may be open, these tokens open and close brackets in pairs
+-- where this many more may be open, these tokens open and close brackets in pairs
 abbrev pub Balances : ℕ → List Token → Type 0
 Balances d ts = (o c : ℕ) (us : List Token) → o + d ≤ c + most_depth → opens_over o c (ts ++ us) ≡ opens_over o c us
 

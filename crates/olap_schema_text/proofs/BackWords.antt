@@ -21,10 +21,7 @@ use Rattle.olap_schema_text.specs.Printing.{atom_word, compared_word, names_afte
 use Rattle.olap_schema_text.proofs.PrintCut.{AreCategories}
 use Rattle.olap_schema_text.proofs.PrintNumerals.{numeral_is_number}
 use Rattle.olap_schema_text.proofs.PrintNames.{is_name, letters, name_is, no_mark, no_underscore}
-
--- a byte is equal to itself
-same_byte : (c : ℕ) → (c == c) ≡ true
-same_byte c = grind arith
+use Rattle.olap_base.proofs.GeneralLemmas.{eqb_same}
 
 -- a word in two pieces isn't a word in one
 pub other_word : (m : ℕ) (w v x y : List ℕ) (rest : List (List ℕ)) → pieces_of m w ≡ x ∷ y ∷ rest
@@ -78,7 +75,7 @@ module _ (g : Graph) (h : IsHierarchy g) where
   unfolding pieces_of
   pieces_after m k x [] a v = rw (append-nil x) (slice_split_none (λ b. b == m) x a)
   pieces_after m k x (c ∷ cs) a v =
-      slice_split_at (λ b. b == m) x m (name_of_category g c ++ names_after g m cs) a (same_byte m)
+      slice_split_at (λ b. b == m) x m (name_of_category g c ++ names_after g m cs) a (eqb_same m)
       ∙ ap (λ ps. x ∷ ps) (pieces_after m k (name_of_category g c) cs (k c v.0) v.1)
 
   -- the pieces at `_` and at `.` of the words of atoms

@@ -16,7 +16,7 @@ use Rattle.olap_grammar.specs.Brackets.{is_close, is_open, opens_over}
 one_more : (p : Token → Bool) (t : Token) (ts : List Token) → count_by p (t ∷ ts) ≡ cond (p t) 1 0 + count_by p ts
 one_more p t ts = sum_by-cons (λ u. cond (p u) 1 0) t ts
 
--- after so many `(` and so many `)`, some beginning opens too many
+-- after this many `(` and this many `)`, some beginning opens too many
 abbrev OpensFrom : ℕ → ℕ → List Token → Type 0
 OpensFrom o c ts =
     (k : ℕ) × (c + count_by is_close (take k ts) + most_depth < o + count_by is_open (take k ts))
@@ -74,7 +74,7 @@ found o c (token.Mark mark.AtMost ∷ ts) h = passed o c (token.Mark mark.AtMost
 found o c (token.Mark mark.Not ∷ ts) h = passed o c (token.Mark mark.Not) ts refl refl (found o c ts h)
 found o c (token.Mark (mark.Joint j) ∷ ts) h = passed o c (token.Mark (mark.Joint j)) ts refl refl (found o c ts h)
 
--- the beginning with so many tokens opens too many
+-- the beginning with this many tokens opens too many
 abbrev OpensAt : ℕ → ℕ → ℕ → List Token → Type 0
 OpensAt k o c ts = c + count_by is_close (take k ts) + most_depth < o + count_by is_open (take k ts)
 

@@ -35,7 +35,7 @@ category_off : (g : Graph) (done : List ℕ) (n : List ℕ) (ns : List (List ℕ
 unfolding categories_of
 category_off g done n ns e = rw e refl
 
--- one that is behind those, whatever follows
+-- one that is after those, whatever follows
 category_behind : (g : Graph) (done : List ℕ) (n : List ℕ) (ns : List (List ℕ)) (c : ℕ) → category_named g n ≡ Some c
     → option_map (λ cs. done ++ cs) (categories_of g (n ∷ ns)) ≡ option_map (λ cs. done ++ c ∷ cs) (categories_of g ns)
 unfolding categories_of
@@ -121,7 +121,7 @@ module _ (g : Graph) (word : List ℕ) (found : List CatId) (left : Option (Bor 
         ∙ ap (λ ds. option_map (λ cs. ds ++ cs) (categories_of g ns))
         (sym (map-append (λ d. d.0) found (c ∷ [])) ∙ ap numbers (sym new))
 
-    -- one that is behind those, whatever follows
+    -- one that is after those, whatever follows
     pub one_behind : (n : List ℕ) (ns : List (List ℕ)) (c : ℕ) → pieces_behind 95 left ≡ n ∷ ns
         → category_named g n ≡ Some c
         → option_map (λ cs. numbers found ++ c ∷ cs) (categories_of g ns) ≡ categories_of g (pieces_of 95 word)

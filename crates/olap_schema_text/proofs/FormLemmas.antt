@@ -8,7 +8,7 @@ use Rattle.olap_grammar.specs.Answering.{formula_answer}
 use Rattle.olap_grammar.specs.Forms.{Form, depth_of}
 use Rattle.olap_schema_text.specs.Parts.{has_too_many_nodes}
 use Rattle.olap_schema_text.specs.Reading.{form_answer}
-use Rattle.olap_schema_text.specs.Resolving.{given}
+use Rattle.olap_base.specs.Following.{given}
 
 -- whatever the formula is
 pub same_answer : (o : Option Form)

@@ -6,7 +6,7 @@ use Rattle.std.specs.Prelude.{◌&&◌, option_and_then}
 use Rattle.std.specs.List.{list_all, list_any}
 use Rattle.std.specs.Option.{option_map}
 use Rattle.std.specs.Str.{bytes_eq}
-use Rattle.std.proofs.lemmas.Bool.{ltb-false}
+use Rattle.std.proofs.lemmas.Bool.{ltb-false, or_parts}
 use Rattle.olap_base.specs.Limits.{most_text_bytes}
 use Rattle.olap_base.specs.Reaching.{is_category_name}
 use Rattle.olap_numerals.specs.Comparing.{Op}
@@ -21,7 +21,6 @@ use Rattle.olap_grammar.specs.declared.tokens.Mark.TheVariants as mark
 use Rattle.olap_grammar.specs.declared.tokens.Version.{Version}
 use Rattle.olap_schema_text.specs.Tokens.{is_long}
 use Rattle.olap_schema_text.proofs.BackBytes.{IsPlain}
-use Rattle.olap_schema_text.proofs.ValidNames.{none_holds}
 use Rattle.olap_schema_text.proofs.ValidTexts.{AreFine, parts_fine}
 
 -- ---- atoms
@@ -123,14 +122,14 @@ record AreGood (ts : List Token) : Type 0 where
 
 -- without the first
 behind : (t : Token) (ts : List Token) → AreGood (t ∷ ts) → AreGood ts
-behind t ts h = record { fine = h.fine.1; short = (none_holds _ _ h.short).1 }
+behind t ts h = record { fine = h.fine.1; short = (or_parts _ _ h.short).1 }
 
 -- none of both together is long, none of either
 none_long : (ts us : List Token) → list_any is_long (ts ++ us) ≡ false
     → (list_any is_long ts ≡ false) × (list_any is_long us ≡ false)
 none_long [] us h = (refl, h)
 none_long (t ∷ ts) us h =
-    let first = none_holds (is_long t) (list_any is_long (ts ++ us)) h in
+    let first = or_parts (is_long t) (list_any is_long (ts ++ us)) h in
     let rest = none_long ts us first.1 in
     (rw first.0 rest.0, rest.1)
 
@@ -145,7 +144,7 @@ parts_good ts us h =
 string_good : (k : List ℕ) (us : List Token) → AreGood (token.Quoted k ∷ us)
     → IsPlain k × (length k ≤ most_text_bytes)
 unfolding is_long
-string_good k us h = (h.fine.0 k refl, ltb-false most_text_bytes (length k) (none_holds _ _ h.short).0)
+string_good k us h = (h.fine.0 k refl, ltb-false most_text_bytes (length k) (or_parts _ _ h.short).0)
 
 module _ (v : Version) where
   mutual

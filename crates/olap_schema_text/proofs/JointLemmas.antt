@@ -4,8 +4,8 @@
 --     joint_nodes, joint_text, joint_equalities, joint_comparisons    what is counted, printed and asked of it
 use Rattle.std.proofs.Common.{◌≡◌, ◌+◌, ◌++◌, ◌⊎◌, ◌∙◌, ℕ, refl, ap, inl, inr}
 use Rattle.olap_base.specs.Graph.{Graph}
+use Rattle.olap_ast.specs.Atoms.{comparisons, equalities}
 use Rattle.olap_ast.specs.Formula as Meaning
-use Rattle.olap_ast.specs.Formula.{comparisons, equalities}
 use Rattle.olap_ast.specs.Trees.{formula_of}
 use Rattle.olap_ast.specs.Valid.{node_count}
 use Rattle.olap_ast.specs.declared.formulas.Formula.{Formula}

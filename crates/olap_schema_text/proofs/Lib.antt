@@ -1,4 +1,5 @@
 -- Lemmas.
+mod CountedLemmas
 mod BracketLemmas
 mod LineLemmas
 mod StatementLemmas
@@ -6,7 +7,7 @@ mod LongLines
 mod RepeatLemmas
 mod JointLemmas
 mod PairLemmas
-mod PrintLemmas
+pub mod PrintLemmas
 mod StuckLemmas
 mod StepLemmas
 mod ValidNames

@@ -1,25 +1,18 @@
 -- One part more of a list of parts.
---     parts_before-push    in front of the others
---     part_on              behind those that are resolved
+--     part_on              after those that are resolved
 use Rattle.std.proofs.Common.{◌≡◌, ℕ, List, [], ◌∷◌, ◌++◌, Result, Ok, Err, map, refl, ap, sym}
 use Rattle.olap_ast.specs.Formula as Meaning
 use Rattle.olap_ast.specs.Listing.{parts_before}
 use Rattle.olap_ast.specs.Trees.{formula_of}
 use Rattle.olap_ast.specs.declared.formulas.Formula.{Formula}
-use Rattle.olap_schema_text.specs.Resolving.{goes_on}
-
--- the last of the parts comes first
-pub parts_before-push : (fs : List Formula) (f : Formula) (terms : Meaning.Terms)
-    → parts_before (map formula_of (fs ++ f ∷ [])) terms
-    ≡ parts_before (map formula_of fs) (Meaning.Terms.More (formula_of f) terms)
-parts_before-push [] f terms = refl
-parts_before-push (g ∷ fs) f terms = ap (Meaning.Terms.More (formula_of g)) (parts_before-push fs f terms)
+use Rattle.olap_ast.proofs.ListingLemmas.{parts_before-push}
+use Rattle.olap_base.specs.Following.{goes_on}
 
 -- a list with these parts in front, or its fault
 abbrev with_parts : List Formula → Result Meaning.Terms (List ℕ) → Result Meaning.Terms (List ℕ)
 with_parts fs read = goes_on read (λ terms. Ok (parts_before (map formula_of fs) terms))
 
--- a part that is resolved comes behind those that are
+-- a part that is resolved comes after those that are
 pub part_on : (whole left next rest : Result Meaning.Terms (List ℕ)) (first : Result Meaning.Formula (List ℕ))
     (parts more : List Formula) (f : Formula) → whole ≡ with_parts parts left
     → left ≡ goes_on first (λ x. goes_on rest (λ xs. Ok (Meaning.Terms.More x xs))) → first ≡ Ok (formula_of f)

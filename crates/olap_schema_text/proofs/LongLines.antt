@@ -47,7 +47,7 @@ unfolding nodes_behind
 nodes_fronted version.One w root us = refl
 nodes_fronted version.Two w root us = refl
 
--- what was counted of a constraint's line was counted of its formula, behind two nodes
+-- what was counted of a constraint's line was counted of its formula, after two nodes
 tally_behind : (v : Version) (y : Tally) (ts : List Token) (root : List ℕ) (us : List Token) → Fronts ts root us
     → IsTallyOf v y ts → IsTallyBehind v 2 y us
 unfolding opens_over
@@ -197,7 +197,7 @@ module _ (a : Above) (n : ℕ) (k : Kept) (o : Option (List Token)) (found : Beg
 
 -- ---- a question
 
--- what was counted of tokens was counted of them behind nothing
+-- what was counted of tokens was counted of them after nothing
 nothing_in_front : (v : Version) (y : Tally) (ts : List Token) → IsTallyOf v y ts → IsTallyBehind v 0 y ts
 nothing_in_front v y ts h =
     let few = h.few in

@@ -6,11 +6,13 @@ use Rattle.std.proofs.Common.{◌≡◌, ℕ, ℤ, ◌||◌, Bool, true, false, 
 use Rattle.std.specs.Prelude.{Result, Ok, Err, OnOk}
 use Rattle.std.specs.List.{fold, list_any}
 use Rattle.std.proofs.lemmas.List.{map-append}
-use Rattle.olap_ast.specs.Formula.{Comparison, Equality}
-use Rattle.olap_ast.specs.Valid.{is_same_number, is_same_pair, with_new, with_number, with_pair}
+use Rattle.olap_ast.specs.Atoms.{Comparison, Equality}
+use Rattle.olap_ast.specs.Pairs.{is_same_number, is_same_pair, with_number, with_pair}
+use Rattle.olap_ast.specs.Valid.{with_new}
 use Rattle.olap_schema_text.specs.Reading.{number_pair_of, pair_of}
 use Rattle.olap_schema_text.specs.declared.pairing.NumberPair.{NumberPair}
 use Rattle.olap_schema_text.specs.declared.pairing.Pair.{Pair}
+use Rattle.std.proofs.lemmas.List.Sums.{fold-append}
 
 module _ (P A : Type 0) (view : P → A) (same : A → A → Bool) where
   list_any-map : (t : A → Bool) (ps : List P) → list_any t (map view ps) ≡ list_any (λ p. t (view p)) ps
@@ -40,7 +42,7 @@ pub found_pair : (ps qs : List Pair) (d : ℕ) (t u : List ℕ) (r : Bool) → q
     map pair_of ps ≡ with_pair (map pair_of ps) (atom d t)
 found_pair ps qs d t u r e f h k = has_it Pair Equality pair_of is_same_pair ps (atom d t) (sym (rw (e, f) at h) ∙ k)
 
--- one that wasn't is put behind the others
+-- one that wasn't is put after the others
 pub new_pair : (ps qs vs : List Pair) (d : ℕ) (t u : List ℕ) (r : Bool) (p : Pair) → qs ≡ ps → u ≡ t →
     r ≡ list_any (λ p. is_same_pair (atom d u) (pair_of p)) qs → r ≡ false → pair_of p ≡ atom d t → vs ≡ ps ++ p ∷ [] →
     map pair_of vs ≡ with_pair (map pair_of ps) (atom d t)
@@ -69,11 +71,6 @@ new_number ps qs vs d m n r p e f h k l t =
 
 -- ---- the atoms of a formula
 
--- those of one list and of another, one after the other
-fold_behind : {A B : Type 0} (f : B → A → B) (b : B) (us vs : List A) → fold f b (us ++ vs) ≡ fold f (fold f b us) vs
-fold_behind f b [] vs = refl
-fold_behind f b (u ∷ us) vs = fold_behind f (f b u) us vs
-
 -- what is added of some atoms is added of the same atoms
 pub same_atoms : {X A E : Type 0} (r : Result (Unit {0}) E) (f : List A → X → List A) (old new : List A)
     {us vs : List X} → us ≡ vs → OnOk r (new ≡ fold f old us) → OnOk r (new ≡ fold f old vs)
@@ -85,9 +82,9 @@ pub both_added : {X A E : Type 0} (r : Result (Unit {0}) E) (f : List A → X �
     → OnOk r (new ≡ fold f old all)
 both_added (Err e) f old mid new us vs all p q s = tt
 both_added (Ok u) f old mid new us vs all p q s =
-    s ∙ ap (λ m. fold f m vs) q ∙ sym (fold_behind f old us vs) ∙ ap (fold f old) p
+    s ∙ ap (λ m. fold f m vs) q ∙ sym (fold-append f old us vs) ∙ ap (fold f old) p
 
 -- where some atoms of a list are added, the others are still to be
 pub rest_added : {X A : Type 0} (f : List A → X → List A) (old new all : List A) (us vs : List X)
     → fold f old (us ++ vs) ≡ all → new ≡ fold f old us → fold f new vs ≡ all
-rest_added f old new all us vs e n = ap (λ m. fold f m vs) n ∙ sym (fold_behind f old us vs) ∙ e
+rest_added f old new all us vs e n = ap (λ m. fold f m vs) n ∙ sym (fold-append f old us vs) ∙ e

@@ -1,6 +1,6 @@
 -- What is printed is cut into its tokens.
 --     text_is_cut    a formula's text is cut into the formula's tokens
-use Rattle.std.proofs.Common.{◌≡◌, ◌==◌, ◌||◌, ℕ, ℤ, pos, negsuc, suc, Bool, true, false, cond, List, [], ◌∷◌, ◌++◌, All, refl, append_assoc, append-nil, arith, decimal}
+use Rattle.std.proofs.Common.{◌≡◌, ◌==◌, ◌||◌, ℕ, ℤ, pos, negsuc, suc, Bool, true, false, cond, List, [], ◌∷◌, ◌++◌, All, refl, append_assoc, append-nil, arith, decimal, flat_map}
 use Rattle.std.proofs.lemmas.List.Elements.{All-head, All-tail}
 use Rattle.olap_base.specs.Chains.{IsChain}
 use Rattle.olap_base.specs.Graph.{Graph, HasEdge, IsCategory, IsCategoryName, IsHierarchy, IsLetterOrDigit}
@@ -14,7 +14,7 @@ use Rattle.olap_grammar.specs.Cutting.{AreWordBytes, EndsWord, IsMarkIn, is_word
 use Rattle.olap_grammar.specs.Longest.{EndsMark}
 use Rattle.olap_grammar.proofs.LongestLemmas.{cut_mark}
 use Rattle.olap_grammar.specs.Grammar.{comparing}
-use Rattle.olap_grammar.specs.Quoting.{escaped}
+use Rattle.olap_grammar.specs.Quoting.{escaped_byte}
 use Rattle.olap_grammar.specs.declared.tokens.Token.{Token}
 use Rattle.olap_grammar.specs.declared.tokens.Token.TheVariants as token
 use Rattle.olap_grammar.specs.declared.tokens.Mark.TheVariants as mark
@@ -42,7 +42,7 @@ pub data IsWord : List ℕ → Type 0 where
 letter_is_word : (b : ℕ) → IsLetterOrDigit b → is_word_byte b ≡ true
 letter_is_word b h = grind arith
 
--- so many of them are
+-- this many of them are
 letters_are_word : (w : List ℕ) → All IsLetterOrDigit w → AreWordBytes w
 letters_are_word [] h = tt
 letters_are_word (b ∷ w) h =
@@ -99,20 +99,20 @@ module _ (g : Graph) (h : IsHierarchy g) where
 -- ---- strings
 
 -- an escaped text spells the text
-pub escaped_spells : (k : List ℕ) → Spells (escaped k) k
-unfolding escaped
+pub escaped_spells : (k : List ℕ) → Spells (flat_map escaped_byte k) k
 escaped_spells [] = nothing
 escaped_spells (b ∷ k) = go (b == 34) (b == 92) refl refl (escaped_spells k)
   where
-    go : (p q : Bool) → b == 34 ≡ p → b == 92 ≡ q → Spells (escaped k) k
-        → Spells (cond (p || q) (92 ∷ b ∷ []) (b ∷ []) ++ escaped k) (b ∷ k)
+    go : (p q : Bool) → b == 34 ≡ p → b == 92 ≡ q → Spells (flat_map escaped_byte k) k
+        → Spells (cond (p || q) (92 ∷ b ∷ []) (b ∷ []) ++ flat_map escaped_byte k) (b ∷ k)
     go true q e f d = let same : b ≡ 34 = grind (arith) in rw same (quote d)
     go false true e f d = let same : b ≡ 92 = grind (arith) in rw same (slash d)
     go false false e f d = other e f d
 
 -- `=` and a string
 cut_quoted : (k bs : List ℕ) (ts : List Token) → IsCut version.Two bs ts
-    → IsCut version.Two (32 ∷ 61 ∷ 32 ∷ 34 ∷ (escaped k ++ 34 ∷ bs)) (token.Mark mark.Equal ∷ token.Quoted k ∷ ts)
+    → IsCut version.Two (32 ∷ 61 ∷ 32 ∷ 34 ∷ (flat_map escaped_byte k ++ 34 ∷ bs))
+    (token.Mark mark.Equal ∷ token.Quoted k ∷ ts)
 cut_quoted k bs ts d = blank (cut_mark mark.Equal tt tt (blank (quoted (escaped_spells k) d)))
 
 -- ---- numbers
@@ -141,7 +141,7 @@ compares_in_two Op.Equal = tt
 compares_in_two Op.Less = refl
 compares_in_two Op.AtMost = refl
 
--- no longer mark goes on at a space
+-- at a space no mark goes on
 ends_at_space : (op : Op) (bs : List ℕ) → EndsMark (comparing op) (32 ∷ bs)
 ends_at_space Op.Equal bs = tt
 ends_at_space Op.Less bs = (refl, λ e. absurd (cc))
@@ -172,7 +172,7 @@ joined_cut j x y l r c d bs us n e =
     (blank (d (41 ∷ bs) (token.Mark mark.Close ∷ us) refl (cut_mark mark.Close tt tt e))))) in
     simp append_assoc (cut_mark mark.Open tt tt inner)
 
--- what stands behind a part ends a word
+-- what stands after a part ends a word
 rest_ends : (g : Graph) (r : ℕ) (fs : Terms) (bs : List ℕ) → EndsWord bs → EndsWord (rest_text g r fs ++ bs)
 rest_ends g r Meaning.Terms.End bs n = n
 rest_ends g r (Meaning.Terms.More f fs) bs n = refl

@@ -39,7 +39,7 @@ data IsRest (a : Atoms Form) : List Token → Forms → Type 0 where
   over : IsRest a [] words.Forms.End
   goes : {us : List Token} {fs : Forms} → IsItems a us fs → IsRest a (token.Mark mark.Comma ∷ us) fs
 
--- a part and those behind it
+-- a part and those after it
 spelt_items : (a : Atoms Form) (us vs : List Token) (f : Form) (fs : Forms) → IsFormula a 6 us f
     → IsRest a vs fs → IsItems a (us ++ vs) (words.Forms.More f fs)
 spelt_items a us vs f fs d e = go vs fs e

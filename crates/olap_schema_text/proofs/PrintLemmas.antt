@@ -1,12 +1,12 @@
 -- Lines one after the other.
-use Rattle.std.proofs.Common.{◌≡◌, ◌<◌, ◌+◌, ◌++◌, ℕ, zero, suc, Bool, false, List, [], ◌∷◌, length, arith, ap, sym, subst, ◌∙◌, ◌≤◌, refl, append_assoc, append-nil, drop, map, slice_index_or, codes}
-use Rattle.std.specs.Prelude.{Result, Ok, Err, OnOk, is_ok, if◌then◌else◌}
+use Rattle.std.proofs.Common.{◌≡◌, ◌<◌, ◌+◌, ◌++◌, ℕ, zero, suc, false, List, [], ◌∷◌, length, arith, ap, sym, subst, ◌∙◌, ◌≤◌, refl, append_assoc, append-nil, drop, map, slice_index_or, codes}
+use Rattle.std.specs.Prelude.{Result, Ok, Err, OnOk, is_ok, if◌then◌else◌, zip}
 use Rattle.olap_base.specs.Graph.{Graph, category_count, is_number}
 use Rattle.olap_graph.specs.Lookups.{name_of_category}
 use Rattle.olap_ast.specs.Schema.{Constraint, Schema}
 use Rattle.olap_grammar.specs.Cutting.{joint_bytes}
 use Rattle.olap_grammar.specs.declared.tokens.Joint.{Joint}
-use Rattle.olap_schema_text.specs.Printing.{category_text, category_texts, constraint_text, edge_text, ended_line, formula_text, joined_text, schema_text, text_of_lines}
+use Rattle.olap_schema_text.specs.Printing.{category_text, constraint_text, edge_text, ended_line, formula_text, joined_text, schema_text, text_of_lines}
 
 -- past the end there is no line
 past_end : (xs : List (List ℕ)) (k : ℕ) → (k < length xs → ⊥) → slice_index_or xs k [] ≡ []
@@ -19,7 +19,7 @@ pub no_name : (g : Graph) (c : ℕ) → (c < category_count g → ⊥) → [] �
 no_name g zero n = absurd (n (omega arith))
 no_name g (suc c) n = sym (past_end g.names c (λ l. n (omega arith)))
 
--- the text of some lines and others is that of the one behind that of the other
+-- the text of some lines and others is the text of the first, and that of the others after it
 pub text_of_lines-append : (xs ys : List (List ℕ)) → text_of_lines (xs ++ ys) ≡ text_of_lines xs ++ text_of_lines ys
 unfolding text_of_lines
 text_of_lines-append [] ys = refl
@@ -54,7 +54,7 @@ next_text line lines out new all e n =
 -- the lines of a schema are written one kind after the other
 pub all_lines : {E : Type 0} (s : Schema) (old first second third last : List ℕ) (r : Result (Unit {0}) E) →
     first ≡ old ++ codes "schema 2\n" →
-    second ≡ first ++ text_of_lines (category_texts s.graph.names s.graph.numbers) →
+    second ≡ first ++ text_of_lines (map category_text (zip s.graph.names s.graph.numbers)) →
     third ≡ second ++ text_of_lines (map (edge_text s.graph) s.graph.edges) →
     OnOk r (last ≡ third ++ text_of_lines (map (constraint_text s.graph) s.constraints)) →
     OnOk r (last ≡ old ++ schema_text s)
@@ -66,7 +66,7 @@ all_lines s old first second third last (Ok u) a b c d =
       c,
       b,
       a,
-      text_of_lines-append (category_texts s.graph.names s.graph.numbers) _,
+      text_of_lines-append (map category_text (zip s.graph.names s.graph.numbers)) _,
       text_of_lines-append (map (edge_text s.graph) s.graph.edges) _,
     ) (simp append_assoc)
 
@@ -85,38 +85,6 @@ no_more f xs k out all l e =
     let d : drop k xs ≡ [] = all_dropped xs k l in
     sym (append-nil out) ∙ (rw d at e)
 
--- the lines from a category on
-category_dropped : (names : List (List ℕ)) (numbers : List Bool) (k : ℕ) → k < length names →
-    text_of_lines (category_texts (drop k names) (drop k numbers))
-    ≡ ended_line (category_text (slice_index_or names k []) (slice_index_or numbers k false))
-    ++ text_of_lines (category_texts (drop (k + 1) names) (drop (k + 1) numbers))
-unfolding text_of_lines category_texts
-category_dropped [] numbers k l = absurd (omega arith)
-category_dropped (name ∷ names) [] zero l = simp append_assoc
-category_dropped (name ∷ names) (number ∷ numbers) zero l = simp append_assoc
-category_dropped (name ∷ names) [] (suc k) l =
-    let e : suc k + 1 ≡ suc (k + 1) = omega arith in
-    let none : (j : ℕ) → drop {A = Bool} j [] ≡ [] = λ j. all_dropped [] j (omega arith) in
-    rw e (rw (none k, none (k + 1)) at (category_dropped names [] k (omega arith)))
-category_dropped (name ∷ names) (number ∷ numbers) (suc k) l =
-    let e : suc k + 1 ≡ suc (k + 1) = omega arith in rw e (category_dropped names numbers k (omega arith))
-
--- one more category's line is written
-pub next_category : (names : List (List ℕ)) (numbers : List Bool) (k : ℕ) (out new all : List ℕ) → k < length names →
-    out ++ text_of_lines (category_texts (drop k names) (drop k numbers)) ≡ all →
-    new ≡ out ++ ended_line (category_text (slice_index_or names k []) (slice_index_or numbers k false)) →
-    new ++ text_of_lines (category_texts (drop (k + 1) names) (drop (k + 1) numbers)) ≡ all
-next_category names numbers k out new all l e n =
-    rw (n, append_assoc) (ap (λ t. out ++ t) (sym (category_dropped names numbers k l)) ∙ e)
-
--- the lines of all categories are written
-pub no_more_categories : (names : List (List ℕ)) (numbers : List Bool) (k : ℕ) (out all : List ℕ) → length names ≤ k →
-    out ++ text_of_lines (category_texts (drop k names) (drop k numbers)) ≡ all → out ≡ all
-unfolding text_of_lines category_texts
-no_more_categories names numbers k out all l e =
-    let d : drop k names ≡ [] = all_dropped names k l in
-    sym (append-nil out) ∙ (rw d at e)
-
 -- a declared category's name
 pub declared_name : (g : Graph) (k : ℕ) → name_of_category g (k + 1) ≡ slice_index_or g.names k []
 declared_name g k = let e : k + 1 ≡ suc k = omega arith in rw e refl
@@ -124,6 +92,21 @@ declared_name g k = let e : k + 1 ≡ suc k = omega arith in rw e refl
 -- and its kind
 pub declared_kind : (g : Graph) (k : ℕ) → is_number g (k + 1) ≡ slice_index_or g.numbers k false
 declared_kind g k = let e : k + 1 ≡ suc k = omega arith in rw e refl
+
+-- as many pairs as names, if there are as many kinds
+pub zip_length : {A B : Type 0} (xs : List A) (ys : List B) → length ys ≡ length xs → length (zip xs ys) ≡ length xs
+zip_length [] ys l = refl
+zip_length (x ∷ xs) [] l = absurd (omega arith)
+zip_length (x ∷ xs) (y ∷ ys) l = ap (λ n. suc n) (zip_length xs ys (omega arith))
+
+-- a pair at a place
+pub zip_at : {A B : Type 0} (xs : List A) (ys : List B) (k : ℕ) (d : A) (e : B) → length ys ≡ length xs
+    → slice_index_or (zip xs ys) k (d, e) ≡ (slice_index_or xs k d, slice_index_or ys k e)
+zip_at [] [] k d e l = refl
+zip_at [] (y ∷ ys) k d e l = absurd (omega arith)
+zip_at (x ∷ xs) [] k d e l = absurd (omega arith)
+zip_at (x ∷ xs) (y ∷ ys) zero d e l = refl
+zip_at (x ∷ xs) (y ∷ ys) (suc k) d e l = zip_at xs ys k d e (omega arith)
 
 -- three texts are written one after the other
 pub three_texts : {E : Type 0} (x y z given old first second last : List ℕ) (r : Result (Unit {0}) E) →
@@ -148,7 +131,7 @@ pub joined_line : {E : Type 0} (j : Joint) (x y old first second third fourth la
 joined_line j x y old first second third fourth last (Err e) a b c d f = tt
 joined_line j x y old first second third fourth last (Ok u) a b c d f = rw (f, d, c, b, a) (simp append_assoc)
 
--- a text is written behind another one
+-- a text is written after another one
 pub text_behind : {A E : Type 0} (r : Result A E) (x y all old mid new : List ℕ) → x ++ y ≡ all → mid ≡ old ++ x →
     OnOk r (new ≡ mid ++ y) → OnOk r (new ≡ old ++ all)
 text_behind (Err e) x y all old mid new p q s = tt

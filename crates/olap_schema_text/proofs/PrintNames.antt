@@ -1,7 +1,7 @@
 -- What the names of a hierarchy's categories are.
 --     name_is          a category's name is a category name
 --     named            it is the name of that category alone
-use Rattle.std.proofs.Common.{◌≡◌, ◌==◌, ◌<◌, ◌≤◌, inl, inr, ℕ, zero, suc, true, false, List, [], ◌∷◌, Some, get_or, arith, ap, sym, ◌∙◌, refl, codes, lit≤, zero-add}
+use Rattle.std.proofs.Common.{◌≡◌, ◌==◌, ◌≤◌, inl, inr, ℕ, zero, suc, true, false, List, [], ◌∷◌, Some, get_or, arith, ap, sym, ◌∙◌, refl, codes, lit≤, zero-add}
 use Rattle.std.specs.Prelude.{All, Contains}
 use Rattle.std.specs.Str.{bytes_eq}
 use Rattle.std.proofs.lemmas.List.Elements.{All-from_recursion, All-cons, Contains-get_or}
@@ -10,6 +10,7 @@ use Rattle.olap_base.specs.Graph.{Graph, IsCategory, IsCategoryName, IsHierarchy
 use Rattle.olap_base.specs.Reaching.{is_category_name, is_category_name_is}
 use Rattle.olap_graph.specs.Lookups.{category_named, name_of_category, names_of}
 use Rattle.olap_graph.proofs.PlaceLemmas.{first_at}
+use Rattle.olap_graph.proofs.NamesApart.{names_apart}
 
 -- the first byte of a name, or 0
 first_byte : List ℕ → ℕ
@@ -57,24 +58,9 @@ no_mark mark l b h = grind arith
 pub no_underscore : (b : ℕ) → IsLetterOrDigit b → (b == 95) ≡ false
 no_underscore b h = grind arith
 
--- two categories have different names
-names_apart : (g : Graph) → IsHierarchy g → (c d : ℕ) → c < d → IsCategory g d
-    → name_of_category g c ≡ name_of_category g d → ⊥
-names_apart g h zero zero b l e = absurd (omega arith)
-names_apart g h zero (suc d) b l e =
-    (h.names (get_or g.names d []) (Contains-get_or g.names d [] (omega arith))).1 (sym e)
-names_apart g h (suc c) zero b l e = absurd (omega arith)
-names_apart g h (suc c) (suc d) b l e = h.names_differ c d [] (omega arith) (omega arith) e
-
 -- the category of its name is the category
 pub named : (g : Graph) → IsHierarchy g → (c : ℕ) → IsCategory g c → category_named g (name_of_category g c) ≡ Some c
 named g h c l =
     let name = name_of_category g c in
     first_at (bytes_eq name) (λ x. name ≡ x) (bytes_eq-Decides name) (names_of g) 0 c [] (omega arith) refl
     (λ j b e. names_apart g h j c b l (sym e)) ∙ ap (λ (i : ℕ). Some i) (zero-add c)
-
--- categories of one name are one
-pub names_differ : (g : Graph) → IsHierarchy g → (c d : ℕ) → IsCategory g c → IsCategory g d
-    → name_of_category g c ≡ name_of_category g d → c ≡ d
-names_differ g h c d l m e =
-    let q : Some c ≡ Some d = sym (named g h c l) ∙ ap (category_named g) e ∙ named g h d m in cc

@@ -2,23 +2,20 @@
 --     digits_in_decimal     those of a number are decimal digits
 --     numeral_is_number     a canonical numeral is a number token
 --     no_number             a word that begins with a category's name is none
-use Rattle.std.proofs.Common.{◌≡◌, ◌<◌, ◌≤◌, ◌==◌, ◌&&◌, ◌++◌, Bool, true, false, ℕ, ℤ, pos, negsuc, suc, List, [], ◌∷◌, length, Some, refl, arith, rules, nat_lt, decimal}
+use Rattle.std.proofs.Common.{◌≡◌, ◌<◌, ◌≤◌, ◌==◌, ◌&&◌, ◌++◌, true, false, ℕ, ℤ, pos, negsuc, suc, List, [], ◌∷◌, length, Some, refl, arith, nat_lt, decimal}
 use Rattle.std.specs.Char.{is_ascii_digit}
 use Rattle.std.specs.Str.{all_ascii_digits}
-use Rattle.std.specs.Str.Parse.{digits_value}
 use Rattle.std.proofs.lemmas.Fmt.{decimal_is_IsNumeral_wide}
 use Rattle.std.proofs.lemmas.Int.{ints}
-use Rattle.std.proofs.lemmas.Str.Parse.{IsNumeralModel, numerals_by_value}
 use Rattle.olap_base.specs.Graph.{IsCategoryName, IsLetter}
 use Rattle.olap_numerals.specs.Numerals.{IsSmall, canonical, digits_in, most_number}
 use Rattle.olap_grammar.specs.Cutting.{AreWordBytes, is_word_byte}
 use Rattle.olap_grammar.specs.Grammar.{digits_of}
 use Rattle.olap_grammar.specs.Words.{is_number_token}
 use Rattle.olap_schema_text.proofs.PrintTokens.{number_token}
-
--- the digits of a numeral, by the words of `olap_numerals`
-own : IsNumeralModel (λ ds. all_ascii_digits ds ≡ true) (digits_value 10)
-own = numerals_by_value _ (search rules)
+use Rattle.std.proofs.lemmas.Bool.{and_parts}
+use Rattle.olap_base.proofs.GeneralLemmas.{and_without_second}
+use Rattle.olap_numerals.proofs.Spelling.{own}
 
 -- decimal digits, one at least
 pub record AreDigits (ds : List ℕ) : Type 0 where
@@ -40,16 +37,10 @@ digits_behind_dash n h = decimal_digits (suc n) (omega (arith, ints, h.0))
 
 -- ---- digits
 
--- two tests that are true
-pub both_true : (p q : Bool) → p && q ≡ true → (p ≡ true) × (q ≡ true)
-both_true true true e = (refl, refl)
-both_true true false e = absurd (cc)
-both_true false q e = absurd (cc)
-
 -- the first digit, and the others
 pub first_digit : (b : ℕ) (ds : List ℕ) → AreDigits (b ∷ ds)
     → (is_ascii_digit b ≡ true) × (all_ascii_digits ds ≡ true)
-first_digit b ds h = both_true (is_ascii_digit b) (all_ascii_digits ds) h.digits
+first_digit b ds h = and_parts (is_ascii_digit b) (all_ascii_digits ds) h.digits
 
 -- a digit is a byte of words
 digit_is_word : (b : ℕ) → is_ascii_digit b ≡ true → is_word_byte b ≡ true
@@ -63,7 +54,7 @@ digit_no_dash b h = grind arith
 pub digits_are_word : (ds : List ℕ) → all_ascii_digits ds ≡ true → AreWordBytes ds
 digits_are_word [] e = tt
 digits_are_word (b ∷ ds) e =
-    let h = both_true (is_ascii_digit b) (all_ascii_digits ds) e in
+    let h = and_parts (is_ascii_digit b) (all_ascii_digits ds) e in
     (digit_is_word b h.0, digits_are_word ds h.1)
 
 -- ---- number tokens
@@ -99,16 +90,12 @@ letter_no_dash b h = grind arith
 letter_no_digit : (b : ℕ) → IsLetter b → is_ascii_digit b ≡ false
 letter_no_digit b h = grind arith
 
--- of three tests the second is false
-not_second : (p q r : Bool) → q ≡ false → p && (q && r) ≡ false
-not_second true q r e = rw e refl
-not_second false q r e = refl
-
 -- a word that begins with a category's name is no number token
 pub no_number : (name others : List ℕ) → IsCategoryName name → is_number_token (name ++ others) ≡ false
 unfolding is_number_token
 no_number [] others n = absurd n
 no_number (b ∷ name) others n =
     rw (letter_no_dash b n.0)
-    (not_second (nat_lt 0 (length (b ∷ (name ++ others)))) (is_ascii_digit b) (all_ascii_digits (name ++ others))
+    (and_without_second (nat_lt 0 (length (b ∷ (name ++ others)))) (is_ascii_digit b)
+    (all_ascii_digits (name ++ others))
     (letter_no_digit b n.0))

@@ -7,32 +7,15 @@ use Rattle.std.proofs.Common.{◌≡◌, ◌||◌, ◌++◌, ◌∷◌, ◌∙�
 use Rattle.std.specs.List.{list_any}
 use Rattle.std.specs.Option.{option_map}
 use Rattle.std.specs.Prelude.{◌==◌}
-use Rattle.std.proofs.lemmas.Bool.{eqb-true}
+use Rattle.std.proofs.lemmas.Bool.{eqb-true, or_parts, or_from}
 use Rattle.std.proofs.lemmas.List.{map-append}
 use Rattle.olap_base.specs.declared.ids.CatId.{CatId}
 use Rattle.olap_schema_text.specs.Resolving.{is_repeated}
+use Rattle.olap_base.proofs.GeneralLemmas.{or_true, eqb_same}
 
 -- the category is one of these
 abbrev pub stands_in : List ℕ → ℕ → Bool
 stands_in cs c = list_any (λ d. d == c) cs
-
--- what is so is so, whatever else
-or_true : (b : Bool) → (b || true) ≡ true
-or_true true = refl
-or_true false = refl
-
--- of two neither is so
-or_false : (b c : Bool) → b ≡ false → c ≡ false → (b || c) ≡ false
-or_false b c p q = rw (p, q) refl
-
--- where not one of two is so, neither is
-neither : (b c : Bool) → (b || c) ≡ false → (b ≡ false) × (c ≡ false)
-neither true c e = absurd (cc)
-neither false c e = (refl, e)
-
--- a category is equal to itself
-same_itself : (n : ℕ) → (n == n) ≡ true
-same_itself n = grind arith
 
 -- two categories differ either way
 unlike_back : (m n : ℕ) → (m == n) ≡ false → (n == m) ≡ false
@@ -40,16 +23,16 @@ unlike_back m n e = grind arith
 
 -- a category among others stands there
 stands_at : (n : ℕ) (xs ys : List ℕ) → stands_in (xs ++ n ∷ ys) n ≡ true
-stands_at n [] ys = rw (same_itself n) refl
+stands_at n [] ys = rw (eqb_same n) refl
 stands_at n (x ∷ xs) ys = ap (λ b. (x == n) || b) (stands_at n xs ys) ∙ or_true (x == n)
 
 -- one that doesn't still doesn't with another
 stands_push : (m n : ℕ) (xs : List ℕ) → stands_in xs m ≡ false → (n == m) ≡ false
     → stands_in (xs ++ n ∷ []) m ≡ false
-stands_push m n [] h e = or_false (n == m) false e refl
+stands_push m n [] h e = or_from (n == m) false e refl
 stands_push m n (x ∷ xs) h e =
-    let parts = neither (x == m) (stands_in xs m) h in
-    or_false (x == m) (stands_in (xs ++ n ∷ []) m) parts.0 (stands_push m n xs parts.1 e)
+    let parts = or_parts (x == m) (stands_in xs m) h in
+    or_from (x == m) (stands_in (xs ++ n ∷ []) m) parts.0 (stands_push m n xs parts.1 e)
 
 -- one more before it
 again_step : (m n : ℕ) (ms ns : List ℕ) (b : Bool) → (m == n) ≡ b → (b || stands_in ms n) ≡ true
@@ -74,8 +57,8 @@ once : (n : ℕ) (before : List ℕ) → is_repeated before ≡ false → stands
 unfolding is_repeated
 once n [] h e = refl
 once n (m ∷ ms) h e =
-    let parts = neither (stands_in ms m) (is_repeated ms) h in
-    let apart = neither (m == n) (stands_in ms n) e in
+    let parts = or_parts (stands_in ms m) (is_repeated ms) h in
+    let apart = or_parts (m == n) (stands_in ms n) e in
     let first : stands_in (ms ++ n ∷ []) m ≡ false
     = stands_push m n ms parts.0 (unlike_back m n apart.0) in
     let others : is_repeated (ms ++ n ∷ []) ≡ false = once n ms parts.1 apart.1 in

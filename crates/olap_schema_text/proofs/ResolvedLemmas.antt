@@ -4,8 +4,9 @@
 use Rattle.std.proofs.Common.{◌≡◌, ◌≢◌, ◌+◌, ◌∙◌, ℕ, Bool, true, false, cond, List, [], ◌∷◌, Option, Some, None, length, refl, sym, ap, subst, arith}
 use Rattle.std.specs.Prelude.{◌==◌, Result, Ok, Err, option_and_then, codes}
 use Rattle.std.specs.Option.{option_map}
+use Rattle.olap_ast.specs.Atoms.{equalities, equalities_of_terms}
 use Rattle.olap_ast.specs.Formula as Meaning
-use Rattle.olap_ast.specs.Formula.{Formula, Terms, equalities, equalities_of_terms}
+use Rattle.olap_ast.specs.Formula.{Formula, Terms}
 use Rattle.olap_ast.specs.Valid.{AreFormulasAt, IsFormulaAt, depth_of, depth_of_terms, node_count, node_count_of_terms}
 use Rattle.olap_base.specs.Graph.{Graph, IsCategory, is_number}
 use Rattle.olap_graph.specs.Lookups.{category_named}
@@ -16,7 +17,8 @@ use Rattle.olap_grammar.specs.Forms.{Atom, Form, Forms, depth_of as levels_of, d
 use Rattle.olap_grammar.specs.declared.tokens.Joint.{Joint}
 use Rattle.olap_grammar.specs.declared.tokens.Joint.TheVariants as joint
 use Rattle.olap_schema.specs.Readable.{AreTexts}
-use Rattle.olap_schema_text.specs.Resolving.{all_resolved, atom_read, categories_of, ends_read, given, is_repeated, join, lacks_edge, path_read, resolved}
+use Rattle.olap_base.specs.Following.{given}
+use Rattle.olap_schema_text.specs.Resolving.{all_resolved, atom_read, categories_of, ends_read, is_repeated, join, lacks_edge, path_read, resolved}
 use Rattle.olap_schema_text.proofs.FoundWords.{AllAreSpelt, AreSpelt, IsSpelt}
 use Rattle.olap_schema_text.proofs.StepLemmas.{given_ok, goes_on_ok, ok_is, passed_on}
 use Rattle.olap_schema_text.proofs.ValidNames.{differ, follows, name_at}

@@ -2,13 +2,12 @@
 --     Step        the ways in which a line goes on
 --     stepped     a line without a fault goes on in one of them
 --     all_steps   what each line keeps, all lines keep
-use Rattle.std.proofs.Common.{◌≡◌, ◌+◌, ℕ, Bool, true, false, cond, List, [], ◌∷◌, ◌++◌, Option, Some, None, length, fold, refl, sym, subst}
+use Rattle.std.proofs.Common.{◌≡◌, ◌+◌, ℕ, Bool, true, false, cond, List, [], ◌∷◌, ◌++◌, Option, Some, None, length, refl, sym, subst}
 use Rattle.std.specs.Prelude.{◌==◌, ◌||◌, ◌&&◌, Result, Ok, Err, not, nat_lt, nat_le}
 use Rattle.std.specs.List.{list_any}
-use Rattle.olap_ast.specs.Formula.{Formula, comparisons, equalities}
-use Rattle.olap_ast.specs.Valid.{with_number, with_pair}
+use Rattle.olap_ast.specs.Formula.{Formula}
 use Rattle.olap_base.specs.Reaching.{is_category_name}
-use Rattle.olap_base.specs.Limits.{most_constants, most_constraints, most_text_bytes}
+use Rattle.olap_base.specs.Limits.{most_constraints, most_text_bytes}
 use Rattle.olap_graph.specs.Building.{category_refusal, edge_refusal, with_edge, with_kind}
 use Rattle.olap_graph.specs.Lookups.{category_named}
 use Rattle.olap_graph.specs.declared.refusals.CategoryFault.{CategoryFault}
@@ -20,8 +19,9 @@ use Rattle.olap_grammar.specs.declared.tokens.Token.{Token}
 use Rattle.olap_grammar.specs.declared.tokens.Token.TheVariants as token
 use Rattle.olap_grammar.specs.declared.tokens.Mark.TheVariants as mark
 use Rattle.olap_grammar.specs.Forms.{Form}
-use Rattle.olap_schema_text.specs.Resolving.{given, goes_on, resolved}
-use Rattle.olap_schema_text.specs.Judging.{Above, category_added, category_read, constraint_read, edge_added, edge_read, form_read, formula_read, line_read, lines_on, statement_read}
+use Rattle.olap_schema_text.specs.Resolving.{resolved}
+use Rattle.olap_schema_text.specs.Judging.{Above, category_added, category_read, constraint_read, edge_added, edge_read, form_read, formula_read, line_read, lines_on, statement_read, has_too_many_constants}
+use Rattle.olap_base.specs.Following.{given, goes_on}
 use Rattle.olap_schema_text.specs.Parts.{tokens_read, version_at}
 use Rattle.olap_schema.specs.Readable.{is_bad}
 use Rattle.olap_schema_text.specs.Lines.{chomped, is_quiet}
@@ -55,13 +55,10 @@ pub record AddsConstraint (a b : Above) (v : TextVersion) (name : List ℕ) (ts 
   pub few : nat_le most_constraints (length a.constraints) ≡ false
   pub at_root : resolved a.graph root form ≡ Ok f
   pub fine : AreFine ts
-  pub few_pairs : nat_lt most_constants (length (fold with_pair a.pairs (equalities f))
-      + length (fold with_number a.numbers (comparisons f))) ≡ false
+  pub few_constants : has_too_many_constants a.constraints f ≡ false
   pub new : b ≡ record a {
     constraints = a.constraints ++ record { root = root; formula = f } ∷ [];
     nodes = a.nodes + nodes_of v ts;
-    pairs = fold with_pair a.pairs (equalities f);
-    numbers = fold with_number a.numbers (comparisons f);
   }
 
 -- the ways in which a line goes on
@@ -74,7 +71,7 @@ pub data Step (a b : Above) : Type 0 where
   constraint : (v : TextVersion) (name : List ℕ) (ts : List Token) (f : Formula) (root : ℕ)
       → AddsConstraint a b v name ts f root → Step a b
 
--- a test behind which there is a fault was not passed
+-- a test after which there is a fault was not passed
 pub passed_on : {A K : Type 0} (c : Bool) (k : K) (r : Result A K) (b : A) → cond c (Err k) r ≡ Ok b
     → (c ≡ false) × (r ≡ Ok b)
 passed_on true k r b h = absurd (cc)
@@ -168,7 +165,7 @@ constraint_step a b v name ts fine h =
         few = n.0;
         at_root = u.1;
         fine = fine;
-        few_pairs = p.0;
+        few_constants = p.0;
         new = ok_is _ _ p.1;
       },
     )

@@ -116,7 +116,7 @@ bracket_nodes v ts us =
 
 module _ (v : Version) where
   mutual
-    -- a formula has as many nodes as its tokens, whatever stands behind them
+    -- a formula has as many nodes as its tokens, whatever stands after them
     nodes_on : {n : ℕ} {ts : List Token} {f : Form} → IsFormula (atoms_of v) n ts f → (us : List Token)
         → nodes_behind v false (ts ++ us) ≡ nodes_in f + nodes_behind v false us
     nodes_on (looser d) us = nodes_on d us

@@ -2,8 +2,8 @@
 --     name_at        the name of a category that was found
 --     follows        categories that lack no edge follow edges
 --     differ         categories of which none is repeated differ
-use Rattle.std.proofs.Common.{◌≡◌, ◌≢◌, ℕ, Bool, true, false, not, List, [], ◌∷◌, Option, Some, None, get_or, refl, arith, subst, inl, inr, is_some}
-use Rattle.std.specs.Prelude.{◌==◌, ◌||◌, ◌&&◌, AllPairs, Contains}
+use Rattle.std.proofs.Common.{◌≡◌, ◌≢◌, ℕ, Bool, true, false, List, [], ◌∷◌, Option, Some, None, get_or, refl, arith, subst, inl, inr, is_some}
+use Rattle.std.specs.Prelude.{◌==◌, AllPairs, Contains}
 use Rattle.std.specs.List.{list_any}
 use Rattle.std.specs.Str.{bytes_eq}
 use Rattle.std.proofs.lemmas.Slice.Eq.{bytes_eq-Decides}
@@ -14,23 +14,9 @@ use Rattle.olap_base.proofs.ListLemmas.{AllPairs-from_Distinct, Contains-nil, Di
 use Rattle.olap_graph.specs.Lookups.{category_named, edge_between, joins, names_of}
 use Rattle.olap_graph.proofs.PlaceLemmas.{found, joins-Decides}
 use Rattle.olap_schema_text.specs.Resolving.{is_repeated, lacks_edge}
+use Rattle.std.proofs.lemmas.Bool.{not-false, or_parts}
 
 -- ---- tests
-
--- two tests that are true
-pub first_holds : (b c : Bool) → b && c ≡ true → (b ≡ true) × (c ≡ true)
-first_holds true c h = (refl, h)
-first_holds false c h = absurd (cc)
-
--- two tests of which neither is
-pub none_holds : (b c : Bool) → b || c ≡ false → (b ≡ false) × (c ≡ false)
-none_holds true c h = absurd (cc)
-none_holds false c h = (refl, h)
-
--- what isn't false is true
-pub not_false : (b : Bool) → not b ≡ false → b ≡ true
-not_false true h = refl
-not_false false h = absurd (cc)
 
 -- texts that the test takes for one are equal
 pub same_bytes : (x y : List ℕ) → bytes_eq x y ≡ true → x ≡ y
@@ -63,13 +49,13 @@ pub follows : (g : Graph) (c : ℕ) (ds : List ℕ) → lacks_edge g c ds ≡ fa
 unfolding lacks_edge
 follows g c [] l = tt
 follows g c (d ∷ ds) l =
-    let t = none_holds _ _ l in (edge_is g c d (not_false _ t.0), follows g d ds t.1)
+    let t = or_parts _ _ l in (edge_is g c d (not-false _ t.0), follows g d ds t.1)
 
 -- where none passes, each fails
 none_passes : {X : Type 0} (p : X → Bool) (xs : List X) (x : X) → list_any p xs ≡ false → Contains xs x → p x ≡ false
 none_passes p [] x h c = absurd (Contains-nil x c)
 none_passes p (y ∷ ys) x h c =
-    let t = none_holds _ _ h in
+    let t = or_parts _ _ h in
     elim (contains_cases x y ys c) [ inl e ↦ subst (λ z. p z ≡ false) e t.0 | inr d ↦ none_passes p ys x t.1 d ]
 
 -- categories of which none is repeated are distinct
@@ -77,7 +63,7 @@ distinct : (cs : List ℕ) → is_repeated cs ≡ false → Distinct cs
 unfolding is_repeated
 distinct [] h = tt
 distinct (c ∷ cs) h =
-    let t = none_holds _ _ h in
+    let t = or_parts _ _ h in
     (λ k. (let no = none_passes (λ d. d == c) cs c t.0 k in let yes = same_itself c in absurd (cc)), distinct cs t.1)
   where
     same_itself : (n : ℕ) → (n == n) ≡ true

@@ -2,15 +2,16 @@
 --     question_is_valid       the law
 --     asked_is_question       in the words of the code: it is one of the schema, and keeps the limits
 --     asked_has_texts         its constants are UTF-8 without control characters
-use Rattle.std.proofs.Common.{◌≡◌, ℕ, false, List, Option, Some, None, Result, Ok, Err, nat_lt, refl, sym, subst, arith}
+use Rattle.std.proofs.Common.{◌≡◌, ℕ, false, List, Option, Some, None, Result, Ok, Err, refl, sym, subst, arith}
 use Rattle.std.specs.Prelude.{IfOk}
 use Rattle.std.proofs.lemmas.Bool.{ltb-false}
-use Rattle.olap_ast.specs.Constants.{all_comparisons, all_equalities}
-use Rattle.olap_ast.specs.Formula.{Formula, equalities}
+use Rattle.olap_ast.specs.Atoms.{equalities}
+use Rattle.olap_ast.specs.Formula.{Formula}
 use Rattle.olap_ast.specs.Schema.{Schema}
 use Rattle.olap_ast.specs.Trees.{formula_of}
-use Rattle.olap_ast.specs.Valid.{IsQuestion, pair_count}
+use Rattle.olap_ast.specs.Valid.{IsQuestion, constant_count}
 use Rattle.olap_ast.specs.declared.formulas.Formula as built
+use Rattle.olap_ast.specs.Constants.{all_compared}
 use Rattle.olap_base.specs.Graph.{IsDeclared}
 use Rattle.olap_base.specs.Limits.{most_constants}
 use Rattle.olap_graph.specs.Lookups.{name_of_category}
@@ -19,7 +20,7 @@ use Rattle.olap_grammar.specs.declared.tokens.Token.{Token}
 use Rattle.olap_grammar.specs.declared.tokens.Version.TheVariants as version
 use Rattle.olap_grammar.specs.Forms.{Form}
 use Rattle.olap_schema_text.specs.Resolving.{resolved}
-use Rattle.olap_schema_text.specs.Judging.{formula_read, question_read}
+use Rattle.olap_schema_text.specs.Judging.{formula_read, question_read, has_too_many_constants}
 use Rattle.olap_schema_text.specs.Parts.{question_cut}
 use Rattle.olap_schema_text.specs.Laws.{ReadQuestionsAreValid}
 use Rattle.olap_schema.specs.Readable.{is_bad}
@@ -44,7 +45,7 @@ module _ (s : Schema) (readable : IsReadable s) (root : ℕ) (declared : IsDecla
     -- the tokens of the line are a formula over words that is resolved to this one
     good : (ts : List Token) → tokens_of version.Two text ≡ Some ts → (form : Form)
         → IsRead version.Two 0 ts form → resolved s.graph root form ≡ Ok f
-        → nat_lt most_constants (pair_count (all_equalities s f) (all_comparisons s f)) ≡ false → IsGood
+        → has_too_many_constants s.constraints f ≡ false → IsGood
     good ts e form checked at_root few =
         let read = formed version.Two 0 ts form checked.formed in
         let fine = line_is_fine version.Two text ts clean e in
@@ -57,7 +58,7 @@ module _ (s : Schema) (readable : IsReadable s) (root : ℕ) (declared : IsDecla
             formula = sound.valid;
             nodes_fit = omega (arith, sound.nodes, count, read.few);
             depth_fits = rw sound.levels level;
-            constants_fit = ltb-false most_constants (pair_count (all_equalities s f) (all_comparisons s f)) few;
+            constants_fit = ltb-false most_constants (constant_count (all_compared s.constraints f)) few;
           },
           sound.texts,
         )
@@ -68,8 +69,7 @@ module _ (s : Schema) (readable : IsReadable s) (root : ℕ) (declared : IsDecla
         let name = name_of_category s.graph root in
         let t = goes_on_ok (formula_read version.Two 0 name ts) _ f h in
         let u = goes_on_ok (resolved s.graph root t.0) _ f t.2 in
-        let w = passed_on (nat_lt most_constants (pair_count (all_equalities s u.0) (all_comparisons s u.0))) _ _ f
-        u.2 in
+        let w = passed_on (has_too_many_constants s.constraints u.0) _ _ f u.2 in
         let same : f ≡ u.0 = ok_is _ _ w.1 in
         good ts e t.0 (form_is_read version.Two 0 name ts t.0 t.1)
         (subst (λ x. resolved s.graph root t.0 ≡ Ok x) (sym same) u.1) (rw same w.0)

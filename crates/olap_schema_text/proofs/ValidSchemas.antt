@@ -4,7 +4,7 @@
 use Rattle.std.proofs.Common.{◌≡◌, ℕ, zero, suc, Bool, true, false, not, cond, List, [], ◌∷◌, Option, Some, None, Ok, Err, length, refl, sym, arith, subst, inl, inr}
 use Rattle.std.specs.Prelude.{Contains, find, flat_map, is_some, codes}
 use Rattle.std.specs.List.{range_with_len}
-use Rattle.olap_ast.specs.Formula.{equalities}
+use Rattle.olap_ast.specs.Atoms.{equalities}
 use Rattle.olap_ast.specs.Valid.{IsValidSchema}
 use Rattle.olap_base.specs.Deciding.{contains_cases}
 use Rattle.olap_base.specs.Reaching.{category_reaches, category_reaches_is}
@@ -16,8 +16,9 @@ use Rattle.olap_schema.specs.Readable.{AreTexts, IsReadable}
 use Rattle.olap_schema_text.specs.Lines.{lines_of}
 use Rattle.olap_schema_text.proofs.StepLemmas.{Step, Step.quiet, Step.version, Step.category, Step.edge, Step.constraint, all_steps, ok_is}
 use Rattle.olap_schema_text.proofs.ValidTexts.{all_texts}
-use Rattle.olap_schema_text.proofs.ValidNames.{not_false}
-use Rattle.olap_schema_text.proofs.ValidSteps.{IsSoundSoFar, category_kept, constraint_kept, edge_kept, not_refused}
+use Rattle.olap_schema_text.proofs.ValidSteps.{IsSoundSoFar, category_kept, constraint_kept, edge_kept}
+use Rattle.std.proofs.lemmas.Bool.{not-false}
+use Rattle.olap_base.proofs.GeneralLemmas.{none_past}
 
 -- ---- all lines
 
@@ -48,9 +49,7 @@ nothing_sound = record {
     few = omega arith;
     nodes_are = refl;
     few_nodes = omega arith;
-    pairs_are = refl;
-    numbers_are = refl;
-    few_pairs = omega arith;
+    few_constants = omega arith;
   };
 }
 
@@ -60,7 +59,7 @@ nothing_sound = record {
 not_found : (p : ℕ → Bool) (xs : List ℕ) (x : ℕ) → find p xs ≡ None → Contains xs x → p x ≡ false
 not_found p [] x h c = absurd (Contains-nil x c)
 not_found p (y ∷ ys) x h c =
-    let t = not_refused (p y) y (find p ys) h in
+    let t = none_past (p y) y (find p ys) h in
     elim (contains_cases x y ys c) [ inl e ↦ subst (λ z. p z ≡ false) e t.0 | inr d ↦ not_found p ys x t.1 d ]
 
 -- where none is stuck, each category reaches `All`
@@ -69,7 +68,7 @@ all_reach g h zero l = inl refl
 all_reach g h (suc c) l =
     let listed = Contains-range_at 1 (length g.names) (suc c) (omega arith) (omega arith) in
     let reached = not_found (λ d. not (category_reaches g d 0)) (range_with_len 1 (length g.names)) (suc c) h listed in
-    (category_reaches_is g (suc c) 0).0 (not_false (category_reaches g (suc c) 0) reached)
+    (category_reaches_is g (suc c) 0).0 (not-false (category_reaches g (suc c) 0) reached)
 
 -- after the last, if each category reaches `All`, it is a readable schema
 whole_is_readable : (a : Above) → IsSoundSoFar a → GivesReadable (whole a (first_stuck a.graph))
@@ -96,7 +95,7 @@ whole_is_readable a p s h = go (first_stuck a.graph) refl h
       nodes_fit = λ c h. (p.constraints.each c h).nodes;
       all_nodes_fit = rw p.constraints.nodes_are p.constraints.few_nodes;
       depth_fits = λ c h. (p.constraints.each c h).depth;
-      constants_fit = rw (p.constraints.pairs_are, p.constraints.numbers_are) p.constraints.few_pairs;
+      constants_fit = p.constraints.few_constants;
     }
 
     texts : AreTexts (flat_map (λ c. equalities c.formula) a.constraints)

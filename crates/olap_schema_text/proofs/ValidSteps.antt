@@ -3,16 +3,18 @@
 --     category_kept      a category keeps it
 --     edge_kept          an edge does
 --     constraint_kept    a constraint does
-use Rattle.std.proofs.Common.{◌≡◌, ◌≢◌, ◌+◌, ◌<◌, ◌≤◌, ℕ, zero, suc, Bool, true, false, cond, List, [], ◌∷◌, ◌++◌, Option, Some, None, Ok, length, fold, is_some, append-nil, refl, sym, ap, ◌∙◌, arith, subst, inl, inr}
+use Rattle.std.proofs.Common.{◌≡◌, ◌≢◌, ◌+◌, ◌<◌, ◌≤◌, ℕ, zero, suc, Bool, true, false, List, [], ◌∷◌, ◌++◌, Option, Some, None, Ok, length, is_some, refl, sym, ◌∙◌, arith, subst, inl, inr}
 use Rattle.std.specs.Prelude.{Contains, flat_map, nat_lt, sum_by}
 use Rattle.std.proofs.lemmas.Bool.{eqb-false, leb-false, ltb-false}
 use Rattle.std.proofs.lemmas.List.{get_or_append_left, length_push}
-use Rattle.std.proofs.lemmas.List.Concat.{flat_map-append}
 use Rattle.std.proofs.lemmas.List.Elements.{Contains-append_left, Contains-push_cases}
-use Rattle.std.proofs.lemmas.List.Sums.{fold-append, sum_by-append, sum_by-cons}
-use Rattle.olap_ast.specs.Formula.{Comparison, Equality, Formula, comparisons, equalities}
+use Rattle.std.proofs.lemmas.List.Sums.{sum_by-append, sum_by-cons}
+use Rattle.olap_ast.specs.Atoms.{equalities}
+use Rattle.olap_ast.specs.Formula.{Formula, compared}
 use Rattle.olap_ast.specs.Schema.{Constraint}
-use Rattle.olap_ast.specs.Valid.{IsFormulaAt, depth_of, distinct_numbers, distinct_pairs, node_count, with_number, with_pair}
+use Rattle.olap_ast.specs.Valid.{IsFormulaAt, depth_of, node_count, constant_count}
+use Rattle.olap_ast.specs.Constants.{all_compared}
+use Rattle.olap_schema_text.proofs.CountedLemmas.{one_behind}
 use Rattle.olap_base.specs.Reaching.{is_category_name, is_category_name_is}
 use Rattle.olap_base.specs.Graph.{Graph, IsCategory, IsDeclared, category_count, is_number}
 use Rattle.olap_base.specs.Limits.{most_categories, most_constants, most_constraints, most_depth, most_edges, most_nodes, most_schema_nodes, most_text_bytes}
@@ -35,6 +37,7 @@ use Rattle.olap_schema_text.proofs.FoundWords.{found_are_spelt}
 use Rattle.olap_schema_text.proofs.ResolvedLemmas.{resolved_is_sound}
 use Rattle.olap_schema_text.proofs.ValidFormulas.{IsWithin, form_nodes, grown_is_valid}
 use Rattle.olap_schema_text.proofs.ValidNames.{name_at}
+use Rattle.olap_base.proofs.GeneralLemmas.{none_past}
 
 -- what holds of one constraint
 pub record IsSoundConstraint (g : Graph) (c : Constraint) : Type 0 where
@@ -48,30 +51,19 @@ pub record IsSoundConstraint (g : Graph) (c : Constraint) : Type 0 where
 abbrev nodes_in : List Constraint → ℕ
 nodes_in cs = sum_by (λ c. node_count c.formula) cs
 
--- their distinct pairs
-abbrev pairs_in : List Constraint → List Equality
-pairs_in cs = distinct_pairs (flat_map (λ c. equalities c.formula) cs)
-
--- their distinct pairs with numbers
-abbrev numbers_in : List Constraint → List Comparison
-numbers_in cs = distinct_numbers (flat_map (λ c. comparisons c.formula) cs)
-
 -- what holds of the constraints so far
-pub record AreSound (g : Graph) (cs : List Constraint) (nodes : ℕ) (pairs : List Equality) (numbers : List Comparison)
-    : Type 0 where
+pub record AreSound (g : Graph) (cs : List Constraint) (nodes : ℕ) : Type 0 where
   pub each : (c : Constraint) → Contains cs c → IsSoundConstraint g c
   pub few : length cs ≤ most_constraints
   pub nodes_are : nodes_in cs ≡ nodes
   pub few_nodes : nodes ≤ most_schema_nodes
-  pub pairs_are : pairs_in cs ≡ pairs
-  pub numbers_are : numbers_in cs ≡ numbers
-  pub few_pairs : length pairs + length numbers ≤ most_constants
+  pub few_constants : constant_count (flat_map (λ c. compared c.formula) cs) ≤ most_constants
 
 -- what holds of what the lines so far say
 pub record IsSoundSoFar (a : Above) : Type 0 where
   pub unfinished : IsUnfinished a.graph
   pub limits : IsWithinLimits a.graph
-  pub constraints : AreSound a.graph a.constraints a.nodes a.pairs a.numbers
+  pub constraints : AreSound a.graph a.constraints a.nodes
 
 -- ---- a larger graph
 
@@ -86,16 +78,14 @@ sound_within g h c w s = record {
 }
 
 -- and so are all
-all_within : (g h : Graph) (cs : List Constraint) (nodes : ℕ) (pairs : List Equality) (numbers : List Comparison)
-    → IsWithin g h → AreSound g cs nodes pairs numbers → AreSound h cs nodes pairs numbers
-all_within g h cs nodes pairs numbers w s = record {
+all_within : (g h : Graph) (cs : List Constraint) (nodes : ℕ) → IsWithin g h → AreSound g cs nodes
+    → AreSound h cs nodes
+all_within g h cs nodes w s = record {
   each = λ c k. sound_within g h c w (s.each c k);
   few = s.few;
   nodes_are = s.nodes_are;
   few_nodes = s.few_nodes;
-  pairs_are = s.pairs_are;
-  numbers_are = s.numbers_are;
-  few_pairs = s.few_pairs;
+  few_constants = s.few_constants;
 }
 
 -- the kinds of the categories so far stay
@@ -130,11 +120,6 @@ within_edge g c d = record {
 
 -- ---- a category
 
--- a test behind which there is a refusal was not passed
-pub not_refused : {E : Type 0} (c : Bool) (e : E) (o : Option E) → cond c (Some e) o ≡ None → (c ≡ false) × (o ≡ None)
-not_refused true e o h = absurd (cc)
-not_refused false e o h = (refl, h)
-
 -- what isn't some is none
 none_there : (o : Option ℕ) → is_some o ≡ false → o ≡ None
 none_there None h = refl
@@ -144,8 +129,8 @@ none_there (Some i) h = absurd (cc)
 free_name : (g : Graph) (name : List ℕ) → category_refusal g name ≡ None
     → (category_named g name ≡ None) × (category_count g < most_categories)
 free_name g name h =
-    let t = not_refused _ _ _ h in
-    (none_there (category_named g name) t.0, leb-false most_categories (category_count g) (not_refused _ _ _ t.1).0)
+    let t = none_past _ _ _ h in
+    (none_there (category_named g name) t.0, leb-false most_categories (category_count g) (none_past _ _ _ t.1).0)
 
 -- one category more
 pub category_kept : (a b : Above) (n : ℕ) (name : List ℕ) (number : Bool) → is_category_name name ≡ true
@@ -157,7 +142,7 @@ category_kept a b n name number h s p =
       limits =
           limits-with_category number a.graph name p.limits free.1 (ltb-false most_text_bytes (length name) s.short);
       constraints =
-          all_within a.graph (with_kind number a.graph name) a.constraints a.nodes a.pairs a.numbers
+          all_within a.graph (with_kind number a.graph name) a.constraints a.nodes
           (within_category number a.graph name p.unfinished.kinds_known) p.constraints;
     })
 
@@ -173,10 +158,10 @@ record IsFree (g : Graph) (c d : ℕ) : Type 0 where
 -- an edge that isn't refused is a new one, and there is room
 free_edge : (g : Graph) (c d : ℕ) → edge_refusal g c d ≡ None → IsFree g c d
 free_edge g c d h =
-    let loop = not_refused _ _ _ h in
-    let from_all = not_refused _ _ _ loop.1 in
-    let none = not_refused _ _ _ from_all.1 in
-    let few = not_refused _ _ _ none.1 in
+    let loop = none_past _ _ _ h in
+    let from_all = none_past _ _ _ loop.1 in
+    let none = none_past _ _ _ from_all.1 in
+    let few = none_past _ _ _ none.1 in
     record {
       loop = eqb-false c d loop.0;
       from_all = eqb-false c 0 from_all.0;
@@ -196,7 +181,7 @@ edge_kept a b child parent c d s p =
           free.loop free.from_all free.none;
       limits = limits-with_edge a.graph c d p.limits free.few;
       constraints =
-          all_within a.graph (with_edge a.graph c d) a.constraints a.nodes a.pairs a.numbers
+          all_within a.graph (with_edge a.graph c d) a.constraints a.nodes
           (within_edge a.graph c d) p.constraints;
     })
 
@@ -226,25 +211,12 @@ formed v before ts f h =
       depth = ltb-false most_depth (levels_of f) (rw same u.0);
     }
 
--- what is folded over the atoms of one constraint more
-folded_on : {A : Type 0} (add : List A → A → List A) (atoms : Formula → List A) (cs : List Constraint) (c : Constraint)
-    → fold add [] (flat_map (λ k. atoms k.formula) (cs ++ c ∷ []))
-    ≡ fold add (fold add [] (flat_map (λ k. atoms k.formula) cs)) (atoms c.formula)
-folded_on add atoms cs c =
-    ap (fold add []) (flat_map-append (λ k. atoms k.formula) cs (c ∷ []))
-    ∙ fold-append add [] (flat_map (λ k. atoms k.formula) cs) (flat_map (λ k. atoms k.formula) (c ∷ []))
-    ∙ ap (fold add (fold add [] (flat_map (λ k. atoms k.formula) cs))) (append-nil (atoms c.formula))
-
--- one constraint more, with its nodes, pairs and numbers
-one_more : (g : Graph) (cs : List Constraint) (nodes : ℕ) (pairs : List Equality) (numbers : List Comparison)
-    (c : Constraint) (more : ℕ) → AreSound g cs nodes pairs numbers
+-- one constraint more, with its nodes and constants
+one_more : (g : Graph) (cs : List Constraint) (nodes : ℕ) (c : Constraint) (more : ℕ) → AreSound g cs nodes
     → IsSoundConstraint g c → length cs < most_constraints → node_count c.formula ≡ more
-    → nodes + more ≤ most_schema_nodes
-    → length (fold with_pair pairs (equalities c.formula)) + length (fold with_number numbers (comparisons c.formula))
-    ≤ most_constants
-    → AreSound g (cs ++ c ∷ []) (nodes + more) (fold with_pair pairs (equalities c.formula))
-    (fold with_number numbers (comparisons c.formula))
-one_more g cs nodes pairs numbers c more s sound few count few_nodes few_pairs = record {
+    → nodes + more ≤ most_schema_nodes → constant_count (all_compared cs c.formula) ≤ most_constants
+    → AreSound g (cs ++ c ∷ []) (nodes + more)
+one_more g cs nodes c more s sound few count few_nodes few_constants = record {
   each =
       λ k h. elim (Contains-push_cases cs c k h) [ inl d ↦ s.each k d | inr e ↦ subst (IsSoundConstraint g) e sound ];
   few = omega (arith, length_push cs c);
@@ -256,13 +228,7 @@ one_more g cs nodes pairs numbers c more s sound few count few_nodes few_pairs =
         sum_by-cons (λ k. node_count k.formula) c [],
       );
   few_nodes = few_nodes;
-  pairs_are =
-      folded_on with_pair equalities cs c
-      ∙ ap (λ before. fold with_pair before (equalities c.formula)) s.pairs_are;
-  numbers_are =
-      folded_on with_number comparisons cs c
-      ∙ ap (λ before. fold with_number before (comparisons c.formula)) s.numbers_are;
-  few_pairs = few_pairs;
+  few_constants = subst (λ atoms. constant_count atoms ≤ most_constants) (sym (one_behind compared cs c)) few_constants;
 }
 
 -- so with it all is sound
@@ -285,11 +251,9 @@ constraint_kept a b v name ts f root s p =
       unfinished = p.unfinished;
       limits = p.limits;
       constraints =
-          one_more a.graph a.constraints a.nodes a.pairs a.numbers (record { root = root; formula = f })
+          one_more a.graph a.constraints a.nodes (record { root = root; formula = f })
           (nodes_of v ts) p.constraints sound
           (leb-false most_constraints (length a.constraints) s.few)
           (good.nodes ∙ counted) read.few_in_all
-          (ltb-false most_constants
-          (length (fold with_pair a.pairs (equalities f)) + length (fold with_number a.numbers (comparisons f)))
-          s.few_pairs);
+          (ltb-false most_constants (constant_count (all_compared a.constraints f)) s.few_constants);
     })

@@ -2,18 +2,18 @@
 --     AreFine            each string among the tokens is such a text
 --     line_is_fine       the tokens of such a line
 --     all_texts          the constants of all constraints
-use Rattle.std.proofs.Common.{◌≡◌, ◌<◌, ◌≤◌, ℕ, zero, suc, Bool, true, false, List, [], ◌∷◌, ◌++◌, Some, length, get_or, drop, append_assoc, refl, sym, arith, subst, inl, inr}
-use Rattle.std.specs.Prelude.{◌==◌, ◌||◌, ◌⊎◌, Contains, flat_map}
+use Rattle.std.proofs.Common.{◌≡◌, ◌<◌, ◌≤◌, ℕ, zero, suc, true, false, List, [], ◌∷◌, ◌++◌, Some, length, get_or, drop, append_assoc, refl, sym, arith, subst, inl, inr}
+use Rattle.std.specs.Prelude.{◌==◌, ◌||◌, Contains, flat_map}
 use Rattle.std.specs.Char.{is_ascii_alphanumeric, is_ascii_digit}
 use Rattle.std.specs.Int.{is_in_range}
 use Rattle.std.specs.List.{list_any}
 use Rattle.std.specs.Str.{IsUtf8}
-use Rattle.std.proofs.lemmas.Bool.{eqb-true, leb-true}
+use Rattle.std.proofs.lemmas.Bool.{eqb-true, leb-true, and_parts, or_parts, or_cases}
 use Rattle.std.proofs.lemmas.List.{drop_at, take_at}
 use Rattle.std.proofs.lemmas.List.Concat.{flat_map-cons}
 use Rattle.std.proofs.lemmas.List.Elements.{Contains-append_cases}
 use Rattle.std.proofs.lemmas.Str.{IsCharBoundary-after_ascii, IsCharBoundary-before_ascii, IsUtf8-append, IsUtf8-drop, IsUtf8-take}
-use Rattle.olap_ast.specs.Formula.{Equality, equalities}
+use Rattle.olap_ast.specs.Atoms.{Equality, equalities}
 use Rattle.olap_ast.specs.Schema.{Constraint}
 use Rattle.olap_base.specs.Deciding.{contains_cases, contains_cons}
 use Rattle.olap_base.proofs.ListLemmas.{Contains-nil, contains_head}
@@ -29,15 +29,14 @@ use Rattle.olap_grammar.specs.declared.tokens.Version.{Version}
 use Rattle.olap_grammar.proofs.CutSound.{found_is_cut}
 use Rattle.olap_schema.specs.Readable.{AreTexts, is_bad, is_control}
 use Rattle.olap_schema_text.proofs.BackBytes.{IsPlain, from_not_bad, not_bad}
-use Rattle.olap_schema_text.proofs.ValidNames.{first_holds, none_holds}
 
 -- ---- cutting a text at ASCII bytes
 
--- behind an ASCII byte a plain text is plain
+-- after an ASCII byte a plain text is plain
 past_ascii : (b : ℕ) (bs : List ℕ) → b < 128 → IsPlain (b ∷ bs) → IsPlain bs
 past_ascii b bs l p = record {
   utf8 = IsUtf8-drop (b ∷ bs) 1 p.utf8 (IsCharBoundary-after_ascii (b ∷ bs) 0 p.utf8 (omega arith) l);
-  plain = (none_holds _ _ p.plain).1;
+  plain = (or_parts _ _ p.plain).1;
 }
 
 -- the byte between two texts
@@ -55,12 +54,12 @@ cut_utf8 xs b ys l u =
       subst IsUtf8 (drop_at xs (b ∷ ys) (length xs) refl) (IsUtf8-drop (xs ++ b ∷ ys) (length xs) u here),
     )
 
--- no control characters in both, none in either
+-- no control characters in both, none in or_cases
 no_control : (xs ys : List ℕ) → list_any is_control (xs ++ ys) ≡ false
     → (list_any is_control xs ≡ false) × (list_any is_control ys ≡ false)
 no_control [] ys h = (refl, h)
 no_control (x ∷ xs) ys h =
-    let t = none_holds (is_control x) (list_any is_control (xs ++ ys)) h in
+    let t = or_parts (is_control x) (list_any is_control (xs ++ ys)) h in
     let u = no_control xs ys t.1 in
     (rw t.0 u.0, u.1)
 
@@ -100,7 +99,7 @@ spelt_controls nothing h = refl
 spelt_controls (quote {bs = bs} s) h = spelt_controls s h
 spelt_controls (slash {bs = bs} s) h = spelt_controls s h
 spelt_controls (other {b = b} {bs = bs} {k = k} p q s) h = let t =
-    none_holds (is_control b) (list_any is_control bs) h in rw t.0 (spelt_controls s t.1)
+    or_parts (is_control b) (list_any is_control bs) h in rw t.0 (spelt_controls s t.1)
 
 -- ---- tokens
 
@@ -129,19 +128,14 @@ abbrev AreAscii : List ℕ → Type 0
 AreAscii [] = Unit {0}
 AreAscii (b ∷ bs) = (b < 128) × AreAscii bs
 
--- behind ASCII bytes a plain text is plain
+-- after ASCII bytes a plain text is plain
 past_all : (xs bs : List ℕ) → AreAscii xs → IsPlain (xs ++ bs) → IsPlain bs
 past_all [] bs a p = p
 past_all (x ∷ xs) bs a p = past_all xs bs a.1 (past_ascii x (xs ++ bs) a.0 p)
 
--- one of two tests is true
-either : (b c : Bool) → b || c ≡ true → (b ≡ true) ⊎ (c ≡ true)
-either true c h = inl refl
-either false c h = inr h
-
 -- a byte of a range is at most its end
 in_range : (low high b : ℕ) → is_in_range low high b ≡ true → b ≤ high
-in_range low high b h = leb-true b high (first_holds _ _ h).1
+in_range low high b h = leb-true b high (and_parts _ _ h).1
 
 -- digits are ASCII
 digit_byte : (b : ℕ) → is_ascii_digit b ≡ true → b < 128
@@ -149,8 +143,8 @@ digit_byte b h = let l = in_range 48 57 b h in omega arith
 
 -- and letters
 letter_or_digit : (b : ℕ) → is_ascii_alphanumeric b ≡ true → b < 128
-letter_or_digit b h = elim (either (is_in_range 48 57 b || is_in_range 65 90 b) (is_in_range 97 122 b) h) [
-  | inl left ↦ elim (either (is_in_range 48 57 b) (is_in_range 65 90 b) left) [
+letter_or_digit b h = elim (or_cases (is_in_range 48 57 b || is_in_range 65 90 b) (is_in_range 97 122 b) h) [
+  | inl left ↦ elim (or_cases (is_in_range 48 57 b) (is_in_range 65 90 b) left) [
     | inl digit ↦ let l = in_range 48 57 b digit in omega arith
     | inr upper ↦ let l = in_range 65 90 b upper in omega arith
   ]
@@ -159,8 +153,8 @@ letter_or_digit b h = elim (either (is_in_range 48 57 b || is_in_range 65 90 b) 
 
 -- and so all bytes of words
 word_byte : (b : ℕ) → is_word_byte b ≡ true → b < 128
-word_byte b h = elim (either (is_ascii_alphanumeric b || (b == 95)) (b == 46) h) [
-  | inl left ↦ elim (either (is_ascii_alphanumeric b) (b == 95) left) [
+word_byte b h = elim (or_cases (is_ascii_alphanumeric b || (b == 95)) (b == 46) h) [
+  | inl left ↦ elim (or_cases (is_ascii_alphanumeric b) (b == 95) left) [
     | inl letter ↦ letter_or_digit b letter
     | inr low ↦ let e = eqb-true b 95 low in omega arith
   ]

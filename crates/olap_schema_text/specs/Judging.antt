@@ -5,7 +5,7 @@
 --     question_read    the text of a question's formula, given a schema and a root
 -- Two functions that are cited are machines: `tokens_of` and `the_formula`. The laws `FoundAsCut` and `FoundAsFormula`
 -- of `olap_grammar` say that they are the relations `IsCut` and `IsFormula`.
-use Rattle.std.specs.Prelude.{◌==◌, ◌||◌, ◌&&◌, ◌+◌, ◌-◌, ℕ, Bool, not, List, [], ◌∷◌, ◌++◌, Option, Some, None, Result, Ok, Err, length, find, fold, is_some, unwrap_or, nat_lt, nat_le, slice_index, if◌then◌else◌, codes}
+use Rattle.std.specs.Prelude.{◌==◌, ◌||◌, ◌&&◌, ◌+◌, ◌-◌, ℕ, Bool, not, List, [], ◌∷◌, ◌++◌, Option, Some, None, Result, Ok, Err, length, find, is_some, unwrap_or, nat_lt, nat_le, slice_index, if◌then◌else◌, codes}
 use Rattle.std.specs.List.{list_any, range_with_len}
 use Rattle.olap_base.specs.Reaching.{category_reaches}
 use Rattle.olap_base.specs.Graph.{Graph}
@@ -17,11 +17,11 @@ use Rattle.olap_graph.specs.declared.refusals.CategoryFault.{CategoryFault}
 use Rattle.olap_graph.specs.declared.refusals.CategoryFault.TheVariants as of_category
 use Rattle.olap_graph.specs.declared.refusals.EdgeFault.{EdgeFault}
 use Rattle.olap_graph.specs.declared.refusals.EdgeFault.TheVariants as of_edge
-use Rattle.olap_ast.specs.Constants.{all_comparisons, all_equalities}
-use Rattle.olap_ast.specs.Formula.{Comparison, Equality, Formula, comparisons, equalities}
+use Rattle.olap_ast.specs.Formula.{Formula}
 use Rattle.olap_grammar.specs.Forms.{Form, depth_of}
 use Rattle.olap_ast.specs.Schema.{Constraint, Schema}
-use Rattle.olap_ast.specs.Valid.{pair_count, with_number, with_pair}
+use Rattle.olap_ast.specs.Constants.{all_compared}
+use Rattle.olap_ast.specs.Valid.{constant_count}
 use Rattle.olap_grammar.specs.Brackets.{opens_over}
 use Rattle.olap_grammar.specs.Cutting.{has_numbers}
 use Rattle.olap_grammar.specs.CuttingMachine.{tokens_of}
@@ -29,7 +29,8 @@ use Rattle.olap_grammar.specs.Machine.{the_formula}
 use Rattle.olap_grammar.specs.Nodes.{nodes_of}
 use Rattle.olap_grammar.specs.Words.{atoms_of}
 use Rattle.olap_grammar.specs.declared.tokens.Token.{Token}
-use Rattle.olap_schema_text.specs.Resolving.{given, goes_on, known, resolved}
+use Rattle.olap_base.specs.Following.{given, goes_on}
+use Rattle.olap_schema_text.specs.Resolving.{known, resolved}
 use Rattle.olap_schema.specs.Readable.{is_bad}
 use Rattle.olap_schema_text.specs.Lines.{chomped, is_quiet, lines_of}
 use Rattle.olap_schema_text.specs.Statements as says
@@ -38,16 +39,14 @@ use Rattle.olap_schema_text.specs.Tokens.{is_bad_number, is_long, is_long_name}
 use Rattle.olap_grammar.specs.declared.tokens.Version.{Version}
 use Rattle.olap_grammar.specs.declared.tokens.Version.TheVariants as version
 
--- the version, once its line was read, the graph, the lines of its categories, the constraints, how many nodes they
--- have, and their distinct pairs of a category and a constant, a text or a number
+-- the version, once its line was read, the graph, the lines of its categories, the constraints, and how many nodes they
+-- have
 pub record Above : Type 0 where
   pub version : Option Version
   pub graph : Graph
   pub category_lines : List ℕ
   pub constraints : List Constraint
   pub nodes : ℕ
-  pub pairs : List Equality
-  pub numbers : List Comparison
 
 -- ---- categories and edges
 
@@ -89,7 +88,7 @@ edge_read a child parent =
 
 -- ---- formulas
 
--- the formula over words of the tokens by the version, by itself and with so many nodes on the lines above
+-- the formula over words of the tokens by the version, by itself and with this many nodes on the lines above
 unfoldable pub form_read : Version → ℕ → List Token → Result Form (List ℕ)
 form_read v before ts =
     if nat_lt most_nodes (nodes_of v ts) || nat_lt most_schema_nodes (before + nodes_of v ts)
@@ -108,20 +107,20 @@ formula_read v before name ts =
 
 -- ---- constraints
 
--- the constraint is added, if there are then not too many pairs
+-- the formula and those before it have too many distinct constants
+abbrev pub has_too_many_constants : List Constraint → Formula → Bool
+has_too_many_constants cs f = nat_lt most_constants (constant_count (all_compared cs f))
+
+-- the constraint is added, if there are then not too many constants
 abbrev pub constraint_added : Above → Version → ℕ → List Token → Formula → Result Above (List ℕ)
 constraint_added a v root ts f =
-    let pairs = fold with_pair a.pairs (equalities f) in
-    let numbers = fold with_number a.numbers (comparisons f) in
-    if nat_lt most_constants (length pairs + length numbers) then Err (codes "TooManyConstants")
+    if has_too_many_constants a.constraints f then Err (codes "TooManyConstants")
     else Ok (record a {
       constraints = a.constraints ++ record { root = root; formula = f } ∷ [];
       nodes = a.nodes + nodes_of v ts;
-      pairs = pairs;
-      numbers = numbers;
     })
 
--- what comes of the root of one constraint more
+-- goes on with the root of a further constraint, if it is a declared category and there is room for a constraint
 abbrev pub root_read : Above → List ℕ → (ℕ → Result Above (List ℕ)) → Result Above (List ℕ)
 root_read a name next =
     known a.graph name (λ root.
@@ -137,7 +136,7 @@ constraint_read a v name ts =
 
 -- ---- a line
 
--- a line that says this, by the version of the text: before it is known, a line must say which it is
+-- what is known after a line that says this: the first such line must be the version line, and no later one may be
 abbrev pub statement_read : Above → ℕ → Option Version → Statement → Result Above (List ℕ)
 statement_read a n None (says.Statement.Version v) = Ok (record a { version = Some v })
 statement_read a n (Some v) (says.Statement.Category name number) = category_read a n v name number
@@ -145,7 +144,7 @@ statement_read a n (Some v) (says.Statement.Edge child parent) = edge_read a chi
 statement_read a n (Some v) (says.Statement.Constraint root ts) = constraint_read a v root ts
 statement_read a n v s = Err (codes "BadForm")
 
--- the n-th line, without its CR: before the version is known, it is read by the first
+-- what is known after the n-th line, without its CR: before the version is known, it is read by the first version
 unfoldable pub line_read : Above → ℕ → List ℕ → Result Above (List ℕ)
 line_read a n line =
     if is_bad line then Err (codes "BadByte")
@@ -155,7 +154,7 @@ line_read a n line =
 
 -- ---- a text
 
--- the lines after the n-th, where those up to it give this: what all lines say, or the first that has a fault
+-- the lines after the n-th, if those up to it give this: what all lines say, or the first that has a fault
 abbrev pub lines_on : Result Above (List ℕ) → ℕ → List (List ℕ) → Result Above (Fault (List ℕ))
 lines_on (Err k) n lines = Err (record { at = n; kind = k })
 lines_on (Ok a) n [] = Ok a
@@ -163,21 +162,13 @@ lines_on (Ok a) n (line ∷ lines) = lines_on (line_read a (n + 1) (chomped line
 
 -- before the first line
 abbrev pub nothing_above : Above
-nothing_above = record {
-  version = None;
-  graph = all_alone;
-  category_lines = [];
-  constraints = [];
-  nodes = 0;
-  pairs = [];
-  numbers = [];
-}
+nothing_above = record { version = None; graph = all_alone; category_lines = []; constraints = []; nodes = 0 }
 
 -- the first declared category that doesn't reach `All`
 abbrev pub first_stuck : Graph → Option ℕ
 first_stuck g = find (λ c. not (category_reaches g c 0)) (range_with_len 1 (length g.names))
 
--- the schema of all lines, where each category reaches `All`
+-- the schema of all lines; `NoWayToAll` at the line of the first category that doesn't reach `All`
 abbrev pub whole : Above → Option ℕ → Result Schema (Fault (List ℕ))
 whole a (Some c) = Err (record { at = slice_index a.category_lines (c - 1); kind = codes "NoWayToAll" })
 whole a None = Ok (record { graph = a.graph; constraints = a.constraints })
@@ -196,8 +187,7 @@ question_read s root text =
     else given (tokens_of version.Two text) (codes "BadForm") (λ ts.
     goes_on (formula_read version.Two 0 (name_of_category s.graph root) ts) (λ form.
     goes_on (resolved s.graph root form) (λ f.
-    if nat_lt most_constants (pair_count (all_equalities s f) (all_comparisons s f)) then Err (codes "TooManyConstants")
-    else Ok f)))
+    if has_too_many_constants s.constraints f then Err (codes "TooManyConstants") else Ok f)))
 
 -- ---- as it is read
 

@@ -7,7 +7,8 @@ use Rattle.std.specs.Prelude.{◌≡◌, ◌↔◌, ◌<◌, ◌+◌, ℕ, true,
 use Rattle.olap_base.specs.Graph.{IsDeclared}
 use Rattle.olap_base.specs.Limits.{most_depth}
 use Rattle.olap_base.specs.declared.refusals.Fault.{Fault}
-use Rattle.olap_ast.specs.Formula.{Formula, equalities}
+use Rattle.olap_ast.specs.Atoms.{equalities}
+use Rattle.olap_ast.specs.Formula.{Formula}
 use Rattle.olap_ast.specs.Schema.{Schema}
 use Rattle.olap_ast.specs.Valid.{IsQuestion, IsValidSchema}
 use Rattle.olap_schema_text.specs.Judging.{question_read, schema_read}
@@ -34,7 +35,7 @@ ReadQuestionsAreValid =
     (s : Schema) (root : ℕ) (text : List ℕ) (f : Formula) → IsReadable s → IsDeclared s.graph root
     → question_read s root text ≡ Ok f → IsQuestion s root f × AreTexts (equalities f)
 
--- too many brackets are open exactly where some beginning of the tokens has too many more `(` than `)`
+-- too many brackets are open exactly if some beginning of the tokens has too many more `(` than `)`
 abbrev pub OpenBracketsAreCounted : Type 0
 OpenBracketsAreCounted = (ts : List Token) → (opens_over 0 0 ts ≡ true) ↔ (k : ℕ)
     × (count_by is_close (take k ts) + most_depth < count_by is_open (take k ts))

@@ -1,7 +1,7 @@
 -- The canonical text of a schema.
 --     formula_text     a formula at a root
 --     schema_text      a schema
-use Rattle.std.specs.Prelude.{◌==◌, ◌++◌, ℕ, Bool, false, List, [], ◌∷◌, codes, flat_map, map, if◌then◌else◌}
+use Rattle.std.specs.Prelude.{◌==◌, ◌++◌, ℕ, Bool, List, [], ◌∷◌, codes, flat_map, map, zip, if◌then◌else◌}
 use Rattle.olap_base.specs.Bytes.{colon, comma, equals_sign, exclamation_mark, full_stop, left_parenthesis, line_feed, right_parenthesis, space, underscore}
 use Rattle.olap_base.specs.Graph.{Edge, Graph}
 use Rattle.olap_graph.specs.Lookups.{name_of_category}
@@ -60,15 +60,9 @@ abbrev mutual
 
 -- ---- lines, without their LF
 
--- the line of a category
-abbrev pub category_text : List ℕ → Bool → List ℕ
-category_text name number = codes "category " ++ (name ++ (if number then codes " number" else []))
-
--- a line for each category
-unfoldable pub category_texts : List (List ℕ) → List Bool → List (List ℕ)
-category_texts [] numbers = []
-category_texts (name ∷ names) [] = category_text name false ∷ category_texts names []
-category_texts (name ∷ names) (number ∷ numbers) = category_text name number ∷ category_texts names numbers
+-- the line of a category: its name, and whether its members' names are numbers
+abbrev pub category_text : List ℕ × Bool → List ℕ
+category_text c = codes "category " ++ (c.0 ++ (if c.1 then codes " number" else []))
 
 -- the line of an edge
 abbrev pub edge_text : Graph → Edge → List ℕ
@@ -84,7 +78,7 @@ constraint_text g c =
 -- the lines of a schema
 abbrev pub schema_lines : Schema → List (List ℕ)
 schema_lines s =
-    codes "schema 2" ∷ (category_texts s.graph.names s.graph.numbers ++ (map (edge_text s.graph) s.graph.edges
+    codes "schema 2" ∷ (map category_text (zip s.graph.names s.graph.numbers) ++ (map (edge_text s.graph) s.graph.edges
     ++ map (constraint_text s.graph) s.constraints))
 
 -- the lines, each with its LF
@@ -106,7 +100,7 @@ names_after g mark cs = flat_map (λ c. mark ∷ name_of_category g c) cs
 abbrev pub version_text : List ℕ
 version_text = codes "schema 2"
 
--- what stands behind the name of a category
+-- what stands after the name of a category
 abbrev pub kind_text : Bool → List ℕ
 kind_text number = if number then codes " number" else []
 

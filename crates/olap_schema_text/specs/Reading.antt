@@ -2,18 +2,22 @@
 --     Finds                         no fault was found, or the first
 --     form_kind, form_answer        what a reader of tokens says, as a fault of a schema
 --     above_of                      what the reader knows, as the definition has it
+--     IsCounted                     the reader's distinct constants are those of its constraints
 --     Reads                         a line was read as the definition says
 --     ReadsLines                    so were all lines
 --     ReadsForm, ReadsFormula       a formula was read as the definition says, over words or at a root
 --     said                          what the tokens of a line say
 --     HasName                       a new category has a category name
 --     IsTallyBehind                 what was counted is so of the tokens
-use Rattle.std.specs.Prelude.{◌≡◌, ◌≤◌, ◌<◌, ◌+◌, ℕ, List, Result, Ok, Err, Option, Some, None, codes, map, IsTrue}
+use Rattle.std.specs.Prelude.{◌≡◌, ◌≤◌, ◌<◌, ◌+◌, ℕ, List, Result, Ok, Err, Option, Some, None, codes, flat_map, map, IsTrue}
 use Rattle.olap_base.specs.Reaching.{is_category_name}
 use Rattle.olap_base.specs.Refusing.{IsFor}
 use Rattle.olap_base.specs.declared.refusals.Fault.{Fault}
 use Rattle.olap_base.specs.declared.refusals.Refusal.{Refusal}
+use Rattle.olap_ast.specs.Atoms.{Comparison, Equality, comparisons, equalities}
 use Rattle.olap_ast.specs.Formula as Meaning
+use Rattle.olap_ast.specs.Pairs.{distinct_numbers, distinct_pairs}
+use Rattle.olap_ast.specs.Schema.{Constraint}
 use Rattle.olap_ast.specs.Trees.{constraint_of, formula_of}
 use Rattle.olap_ast.specs.declared.formulas.Formula.{Formula}
 use Rattle.olap_grammar.specs.Brackets.{opens_over}
@@ -43,11 +47,11 @@ Finds (Ok u) first = first ≡ None
 Finds (Err e) first = IsFor (λ k. first ≡ Some (name_of_kind k)) e
 
 -- a pair of a category and a text
-abbrev pub pair_of : Pair → Meaning.Equality
+abbrev pub pair_of : Pair → Equality
 pair_of p = record { category = p.category.0; text = p.text }
 
 -- a pair of a category and a number
-abbrev pub number_pair_of : NumberPair → Meaning.Comparison
+abbrev pub number_pair_of : NumberPair → Comparison
 number_pair_of p = record { category = p.category.0; number = p.number }
 
 -- what the reader knows
@@ -58,9 +62,17 @@ above_of r = record {
   category_lines = r.category_lines.items;
   constraints = map constraint_of r.constraints.items;
   nodes = r.nodes;
-  pairs = map pair_of r.pairs.items;
-  numbers = map number_pair_of r.numbers.items;
 }
+
+-- the pairs are the distinct ones of the constraints
+pub record AreCounted (cs : List Constraint) (pairs : List Equality) (numbers : List Comparison) : Type 0 where
+  pub texts_are : pairs ≡ distinct_pairs (flat_map (λ c. equalities c.formula) cs)
+  pub numbers_are : numbers ≡ distinct_numbers (flat_map (λ c. comparisons c.formula) cs)
+
+-- so are those that the reader has
+abbrev pub IsCounted : Reading → Type 0
+IsCounted r =
+    AreCounted (map constraint_of r.constraints.items) (map pair_of r.pairs.items) (map number_pair_of r.numbers.items)
 
 -- the reader goes on to what it knows now, or the line has that fault
 abbrev pub Reads : {A : Type 0} → Result A (Refusal SchemaKind) → Above → Result Above (List ℕ) → Type 0
@@ -105,7 +117,7 @@ abbrev pub HasName : Statement → Type 0
 HasName (statement.Category name number) = IsTrue (is_category_name name.now)
 HasName s = Unit {0}
 
--- what was counted of these tokens and of so many nodes in front of them
+-- what was counted of these tokens and of this many nodes in front of them
 pub record IsTallyBehind (v : Version) (front : ℕ) (y : Tally) (ts : List Token) : Type 0 where
   pub few : y.nodes ≤ front + nodes_of v ts
   pub nodes : y.nodes < counted_nodes → y.nodes ≡ front + nodes_of v ts

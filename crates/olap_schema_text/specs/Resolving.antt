@@ -1,6 +1,6 @@
 -- The names of a formula, looked up in a graph from the left: the formula at a root, or its first fault.
---     given, goes_on    what comes of what may be there, and of a result
---     known             what comes of the category of a name
+--     given, goes_on    go on with a value that may be there, and with a result
+--     known             goes on with the category of a name
 --     atom_read         an atom
 --     resolved          a formula
 use Rattle.std.specs.Prelude.{◌==◌, ◌||◌, ℕ, Bool, false, not, List, [], ◌∷◌, Option, Some, None, Result, Ok, Err, is_some, option_and_then, if◌then◌else◌, codes}
@@ -8,6 +8,7 @@ use Rattle.std.specs.List.{list_any}
 use Rattle.std.specs.Option.{option_map}
 use Rattle.olap_ast.specs.Formula as Meaning
 use Rattle.olap_ast.specs.Formula.{Formula, Terms}
+use Rattle.olap_base.specs.Following.{given, goes_on}
 use Rattle.olap_base.specs.Graph.{Graph, is_number}
 use Rattle.olap_graph.specs.Lookups.{category_named, edge_between}
 use Rattle.olap_numerals.specs.Numerals.{number_of}
@@ -16,27 +17,17 @@ use Rattle.olap_grammar.specs.Forms.{Atom, Form, Forms}
 use Rattle.olap_grammar.specs.declared.tokens.Joint.{Joint}
 use Rattle.olap_grammar.specs.declared.tokens.Joint.TheVariants as joint
 
--- what comes of it if it is there, and else that fault
-abbrev pub given : {A B K : Type 0} → Option A → K → (A → Result B K) → Result B K
-given None k next = Err k
-given (Some x) k next = next x
-
--- what comes of the value, if there was no fault
-abbrev pub goes_on : {A B K : Type 0} → Result A K → (A → Result B K) → Result B K
-goes_on (Ok x) next = next x
-goes_on (Err k) next = Err k
-
 -- ---- atoms
 
--- what comes of the category of the name
+-- goes on with the category of this name; else `UnknownCategory`
 abbrev pub known : {B : Type 0} → Graph → List ℕ → (ℕ → Result B (List ℕ)) → Result B (List ℕ)
 known g name next = given (category_named g name) (codes "UnknownCategory") next
 
--- what comes of this category as the first that an atom names: it must be the root
+-- goes on if the first category that an atom names is the root; else `MixedRoot`
 abbrev pub at_root : {B : Type 0} → ℕ → ℕ → Result B (List ℕ) → Result B (List ℕ)
 at_root root c read = if c == root then read else Err (codes "MixedRoot")
 
--- what comes of the last of an atom's two names
+-- goes on with the last of an atom's two categories, if the first is the root
 abbrev pub ends_read : Graph → ℕ → List ℕ → List ℕ → (ℕ → Result Formula (List ℕ)) → Result Formula (List ℕ)
 ends_read g root first last next = known g first (λ c. known g last (λ d. at_root root c (next d)))
 
@@ -46,12 +37,12 @@ categories_of g [] = Some []
 categories_of g (n ∷ ns) =
     option_and_then (λ c. option_map (λ cs. c ∷ cs) (categories_of g ns)) (category_named g n)
 
--- a category stands there twice
+-- some category stands in the list twice
 unfoldable pub is_repeated : List ℕ → Bool
 is_repeated [] = false
 is_repeated (c ∷ cs) = list_any (λ d. d == c) cs || is_repeated cs
 
--- after this category, two that follow each other are no edge
+-- on the way from c through these categories, some step isn't an edge
 unfoldable pub lacks_edge : Graph → ℕ → List ℕ → Bool
 lacks_edge g c [] = false
 lacks_edge g c (d ∷ ds) = not (is_some (edge_between g c d)) || lacks_edge g d ds

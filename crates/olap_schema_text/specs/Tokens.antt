@@ -4,11 +4,12 @@
 --     is_long_name    a name is too long
 --     is_long         a name or a string is too long
 --     is_bad_number   a number is beyond the bounds of numerals, or has too many digits
-use Rattle.std.specs.Prelude.{◌&&◌, ℕ, Bool, false, not, List, length, nat_lt, is_some, if◌then◌else◌}
+use Rattle.std.specs.Prelude.{◌&&◌, ℕ, Bool, false, not, List, length, nat_lt, is_some, option_map, unwrap_or, if◌then◌else◌}
 use Rattle.std.specs.List.{list_any}
 use Rattle.olap_base.specs.Bytes.{full_stop, underscore}
 use Rattle.olap_base.specs.Limits.{most_text_bytes}
 use Rattle.olap_numerals.specs.Numerals.{number_of}
+use Rattle.olap_grammar.specs.Grammar.{digits_of}
 use Rattle.olap_grammar.specs.Words.{is_number_token, pieces_of}
 use Rattle.olap_grammar.specs.declared.tokens.Token.{Token}
 use Rattle.olap_grammar.specs.declared.tokens.Token.TheVariants as token
@@ -33,6 +34,4 @@ is_no_numeral w = is_number_token w && not (is_some (number_of w))
 
 -- the token is a number, and no numeral
 unfoldable pub is_bad_number : Token → Bool
-is_bad_number (token.Word w) = is_no_numeral w
-is_bad_number (token.Signed w) = is_no_numeral w
-is_bad_number t = false
+is_bad_number t = unwrap_or (option_map is_no_numeral (digits_of t)) false

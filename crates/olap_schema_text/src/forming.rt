@@ -22,7 +22,7 @@ fn form_kind(fault: FormFault) -> SchemaKind
     }
 }
 
-/// The formula of the tokens by the version, with so many nodes on the lines above.
+/// The formula of the tokens by the version, with this many nodes on the lines above.
 #[tactic(auto, using(crate::proofs::FormLemmas::same_answer), unfolding(crate::specs::Judging::form_read))]
 fn read_form(
     alloc: Global,

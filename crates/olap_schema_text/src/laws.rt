@@ -18,7 +18,7 @@ pub fn read_questions_are_valid()
     ensures { ReadQuestionsAreValid }
 {}
 
-/// Too many brackets are open exactly where some beginning of the tokens has too many more `(` than `)`.
+/// Too many brackets are open exactly if some beginning of the tokens has too many more `(` than `)`.
 pub fn open_brackets_are_counted()
     ensures { OpenBracketsAreCounted }
 {}

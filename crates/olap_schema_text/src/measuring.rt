@@ -22,15 +22,15 @@ use olap_numerals::number;
 /// the three of a word with a string, and the three before it.
 pub(crate) const MOST_TOKENS: usize = (2 * MOST_DEPTH as usize + 3) * MOST_NODES + 3;
 
-/// Whether a formula of so many nodes has too many, by itself or with those on the lines above.
+/// Whether a formula of this many nodes has too many, by itself or with those on the lines above.
 pub(crate) fn has_too_many_nodes(before: u32, nodes: usize) -> bool
     ensures { result ≡ has_too_many_nodes_of before nodes }
 {
     nodes > MOST_NODES || before as usize + nodes > MOST_SCHEMA_NODES
 }
 
-/// Why tokens that are more than a formula may have are none, with so many nodes on the lines above, and so many that
-/// were counted in front of the formula.
+/// Why tokens that are more than a formula may have are refused, with `before` nodes on the lines above and `front`
+/// nodes before the formula.
 pub(crate) fn long_form_fault(before: u32, front: u16, tally: &Tally) -> SchemaKind
     requires { front ≤ 3 }
     ensures { (v : Versions) (ts : List Tokens) → IsTallyBehind v front tally.now ts

@@ -1,7 +1,7 @@
 // The distinct pairs of a category and a constant, a text or a number.
-ghost use Rattle.olap_ast.specs.Formula.{Comparison, Equality, comparisons, comparisons_of_terms, equalities, equalities_of_terms};
+ghost use Rattle.olap_ast.specs.Atoms.{Comparison, Equality, comparisons, comparisons_of_terms, equalities, equalities_of_terms};
+ghost use Rattle.olap_ast.specs.Pairs.{is_same_number as is_same_number_of, is_same_pair, with_number, with_pair};
 ghost use Rattle.olap_ast.specs.Trees.{formula_of, terms_of};
-ghost use Rattle.olap_ast.specs.Valid.{is_same_number as is_same_number_of, is_same_pair, with_number, with_pair};
 ghost use Rattle.olap_schema_text.specs.Reading.{Finds, number_pair_of, pair_of};
 ghost use Rattle.olap_base.specs.Limits.{most_constants};
 ghost use Rattle.std.specs.List.{list_any};

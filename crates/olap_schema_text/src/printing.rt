@@ -10,11 +10,11 @@ ghost use Rattle.olap_schema_text.specs.Resolving.{join};
 ghost use Rattle.olap_grammar.specs.declared.tokens.Joint.{Joint as Joints};
 ghost use Rattle.olap_grammar.specs.Quoting.{quoted};
 ghost use Rattle.olap_numerals.specs.Numerals.{canonical};
-ghost use Rattle.olap_schema_text.specs.Printing.{atom_word, category_text, category_texts, compared_word, constraint_text, edge_text, ended_line, formula_text, joined_text, kind_text, list_text, names_after, rest_text, schema_text, text_of_lines};
+ghost use Rattle.olap_schema_text.specs.Printing.{atom_word, category_text, compared_word, constraint_text, edge_text, ended_line, formula_text, joined_text, kind_text, list_text, names_after, rest_text, schema_text, text_of_lines};
 ghost use Rattle.olap_schema_text.specs.Judging.{schema_read};
 ghost use Rattle.olap_schema_text.specs.PrintingLaws.{PrintedIsRead};
 ghost use Rattle.olap_schema.specs.Schemas.{schema_of};
-ghost use Rattle.std.specs.Prelude.{◌≡◌, ◌++◌, [], ◌∷◌, IfOk, Ok, OnOk, codes, map};
+ghost use Rattle.std.specs.Prelude.{◌≡◌, ◌++◌, [], ◌∷◌, IfOk, Ok, OnOk, codes, map, zip};
 
 use itoa::Buffer;
 use olap_ast::{Constraint, Formula, Op, Terms};
@@ -24,7 +24,7 @@ use olap_graph::Graph;
 use olap_schema::Schema;
 use std::alloc::{AllocError, Global};
 
-/// The name of a category, or no bytes where it is none of the graph.
+/// The name of a category, or no bytes if the graph doesn't have it.
 #[tactic(auto, using(crate::proofs::PrintLemmas::no_name))]
 fn name(graph: &Graph, c: CatId) -> &[u8]
     ensures { result.now ≡ name_of_category graph.now c.0 }
@@ -261,7 +261,7 @@ fn push_rest(out: &mut Vec<u8>, graph: &Graph, root: CatId, terms: &Terms) -> Re
     Ok(())
 }
 
-/// What stands behind the name of a category.
+/// What stands after the name of a category.
 fn push_kind(out: &mut Vec<u8>, number: bool) -> Result<(), AllocError>
     ensures { OnOk result (out.new.items ≡ out.old.items ++ kind_text number) }
 {
@@ -272,7 +272,7 @@ fn push_kind(out: &mut Vec<u8>, number: bool) -> Result<(), AllocError>
     }
 }
 
-/// A word with the space behind it, and a name.
+/// A word with the space after it, and a name.
 fn push_named(out: &mut Vec<u8>, word: &[u8], name: &[u8]) -> Result<(), AllocError>
     ensures { OnOk result (out.new.items ≡ out.old.items ++ (word.now ++ name.now)) }
 {
@@ -284,7 +284,7 @@ fn push_named(out: &mut Vec<u8>, word: &[u8], name: &[u8]) -> Result<(), AllocEr
 fn push_category(out: &mut Vec<u8>, graph: &Graph, c: CatId) -> Result<(), AllocError>
     requires { IsCategory graph.now c.0 }
     ensures { OnOk result (out.new.items ≡ out.old.items ++ ended_line
-        (category_text (name_of_category graph.now c.0) (is_number graph.now c.0))) }
+        (category_text (name_of_category graph.now c.0, is_number graph.now c.0))) }
 {
     push_named(out, b"category ", name(graph, c))?;
     push_kind(out, graph.is_number(c))?;
@@ -293,7 +293,7 @@ fn push_category(out: &mut Vec<u8>, graph: &Graph, c: CatId) -> Result<(), Alloc
 
 /// The lines of the declared categories.
 fn push_categories(out: &mut Vec<u8>, graph: &Graph) -> Result<(), AllocError>
-    ensures { let lines = category_texts graph.now.names graph.now.numbers in
+    ensures { let lines = map category_text (zip graph.now.names graph.now.numbers) in
         OnOk result (out.new.items ≡ out.old.items ++ text_of_lines lines) }
 {
     let count = graph.categories();
@@ -391,7 +391,7 @@ pub(crate) fn push_schema(
     push_constraints(out, graph, constraints)
 }
 
-/// The lines of these constraints in the canonical text of a schema with this graph. `Memory` where there is no room
+/// The lines of these constraints in the canonical text of a schema with this graph. `Memory` if there is no room
 /// for them. Linear in the lines.
 pub fn print_constraints(
     alloc: Global,
@@ -407,7 +407,7 @@ pub fn print_constraints(
 }
 
 /// The canonical text of a schema: a line for the second version, each category, each edge and each constraint, in
-/// declaration order, with one space between tokens. `Memory` where there is no room for it. Linear in the text.
+/// declaration order, with one space between tokens. `Memory` if there is no room for it. Linear in the text.
 ///
 /// The schema is what its canonical text is read as.
 pub fn print_schema(alloc: Global, schema: &Schema) -> Result<Text, Memory>

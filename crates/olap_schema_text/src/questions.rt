@@ -1,8 +1,8 @@
 // Reading a question's formula.
-ghost use Rattle.olap_ast.specs.Constants.{all_comparisons, all_equalities};
-ghost use Rattle.olap_ast.specs.Formula.{comparisons, equalities};
+ghost use Rattle.olap_ast.specs.Atoms.{all_comparisons, all_equalities, comparisons, equalities};
+ghost use Rattle.olap_ast.specs.Pairs.{pair_count, with_number, with_pair};
 ghost use Rattle.olap_ast.specs.Trees.{constraint_of, formula_of};
-ghost use Rattle.olap_ast.specs.Valid.{IsQuestion, pair_count, with_number, with_pair};
+ghost use Rattle.olap_ast.specs.Valid.{IsQuestion};
 ghost use Rattle.olap_base.specs.Graph.{IsDeclared};
 ghost use Rattle.olap_base.specs.Limits.{most_constants, most_nodes};
 ghost use Rattle.olap_grammar.specs.Brackets.{most_tokens};
@@ -11,11 +11,12 @@ ghost use Rattle.olap_grammar.specs.CuttingMachine.{tokens_of};
 ghost use Rattle.olap_grammar.specs.Keeping.{BeginsFound};
 ghost use Rattle.olap_grammar.specs.declared.tokens.Token.{Token as Tokens};
 ghost use Rattle.olap_grammar.specs.declared.tokens.Version.TheVariants as version;
-ghost use Rattle.olap_schema_text.specs.Judging.{question_read};
+ghost use Rattle.olap_schema_text.specs.Judging.{has_too_many_constants, question_read};
 ghost use Rattle.olap_schema_text.specs.Parts.{question_cut};
 ghost use Rattle.olap_schema.specs.Readable.{AreTexts};
 ghost use Rattle.olap_schema_text.specs.Reading.{Finds, ReadsFormula, number_pair_of, pair_of};
-ghost use Rattle.olap_schema_text.specs.Resolving.{goes_on, resolved};
+ghost use Rattle.olap_base.specs.Following.{goes_on};
+ghost use Rattle.olap_schema_text.specs.Resolving.{resolved};
 ghost use Rattle.olap_grammar.specs.Shown.{form_of};
 ghost use Rattle.olap_schema.specs.Schemas.{schema_of};
 ghost use Rattle.std.specs.Prelude.{◌≡◌, ◌≤◌, [], List, Option, IfOk, Err, Ok, OnOk, Some, None, codes, flat_map, fold, if◌then◌else◌, map, nat_lt};
@@ -75,8 +76,8 @@ fn add_all_pairs(
 /// Whether there are too many pairs of a category and a constant in the schema and the formula.
 fn check_pairs(alloc: Global, schema: &Schema, f: &Formula) -> Result<(), Refusal<SchemaKind>>
     ensures { let s = schema_of schema.now in
-        let count = pair_count (all_equalities s (formula_of f.now)) (all_comparisons s (formula_of f.now)) in
-        Finds result (if nat_lt most_constants count then Some (codes "TooManyConstants") else None) }
+        Finds result (if has_too_many_constants s.constraints (formula_of f.now)
+        then Some (codes "TooManyConstants") else None) }
 {
     let mut pairs = Vec::new(alloc);
     let mut numbers = Vec::new(alloc);
@@ -93,8 +94,7 @@ fn at_root(
     requires { IsDeclared (schema_of schema.now).graph root.0 }
     ensures { let s = schema_of schema.now in ReadsFormula result
         (goes_on (resolved s.graph root.0 (form_of form.now)) (λ f.
-        if nat_lt most_constants (pair_count (all_equalities s f) (all_comparisons s f))
-        then Err (codes "TooManyConstants") else Ok f)) }
+        if has_too_many_constants s.constraints f then Err (codes "TooManyConstants") else Ok f)) }
 {
     let f = resolve(alloc, &Known::Whole(schema.graph()), root, form)?;
     match check_pairs(alloc, schema, &f) {
@@ -157,7 +157,7 @@ fn read_question(
 /// schema's was.
 ///
 /// A fault is the first check that fails. The text is one line: a LF or a CR is a `BadByte`. The limits on nodes and
-/// depth are those of one formula; the one on constants counts the schema's too. `Memory` where there is no room.
+/// depth are those of one formula; the one on constants counts the schema's too. `Memory` if there is no room.
 /// What is given may be handed on: it is a formula of the schema at that root.
 #[tactic(auto, unfolding(crate::specs::Judging::question_read))]
 pub fn read_formula(

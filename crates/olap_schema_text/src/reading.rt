@@ -8,8 +8,9 @@ ghost use Rattle.olap_graph.specs.Building.{category_refusal, edge_refusal, with
 ghost use Rattle.olap_schema_text.specs.Judging.{Above, category_kind as category_kind_of, category_read, constraint_added, constraint_read, edge_added, edge_kind as edge_kind_of, edge_read, line_read, nothing_above, root_read};
 ghost use Rattle.olap_schema_text.specs.Parts.{tokens_read, version_at};
 ghost use Rattle.olap_schema_text.specs.Kinds.{IsRefusedAs, name_of_kind};
-ghost use Rattle.olap_schema_text.specs.Reading.{Reads, above_of};
-ghost use Rattle.olap_schema_text.specs.Resolving.{goes_on, resolved};
+ghost use Rattle.olap_schema_text.specs.Reading.{IsCounted, Reads, above_of};
+ghost use Rattle.olap_schema_text.specs.Resolving.{resolved};
+ghost use Rattle.olap_base.specs.Following.{goes_on};
 ghost use Rattle.olap_grammar.specs.Shown.{form_of};
 ghost use Rattle.olap_ast.specs.Formula.{Formula as Meaning};
 ghost use Rattle.olap_ast.specs.Schema.{Constraint as Entry};
@@ -36,7 +37,7 @@ use olap_grammar::{FirstTokens, Form, NoTokens, Token, Version, first_tokens};
 use olap_graph::{CategoryFault, EdgeFault, GraphBuilder};
 use std::alloc::Global;
 
-/// What the lines so far say.
+/// What the lines so far say, and the distinct constants of its constraints.
 #[derive(Drop)]
 pub(crate) struct Reading {
     pub(crate) version: Option<Version>,
@@ -50,7 +51,8 @@ pub(crate) struct Reading {
 
 /// Before the first line.
 pub(crate) fn begin(alloc: Global) -> Result<Reading, Memory>
-    ensures { IfOk result (λ reading. above_of reading ≡ nothing_above) }
+    ensures above { IfOk result (λ reading. above_of reading ≡ nothing_above) }
+    ensures counted { IfOk result IsCounted }
 {
     Ok(Reading {
         version: None,
@@ -113,8 +115,11 @@ fn read_category(
     name: &[u8],
     number: bool,
 ) -> Result<(), Refusal<SchemaKind>>
-    requires { IsTrue (is_category_name name.now) }
-    ensures { Reads result (above_of reading.new) (category_read (above_of reading.old) n version name.now number) }
+    requires name { IsTrue (is_category_name name.now) }
+    requires counted { IsCounted reading.old }
+    ensures read { Reads result (above_of reading.new)
+        (category_read (above_of reading.old) n version name.now number) }
+    ensures counted { OnOk result (IsCounted reading.new) }
 {
     if number && !has_numbers(version) {
         return Err(Refusal::Kind(SchemaKind::BadForm));
@@ -148,8 +153,10 @@ fn edge_kind(fault: EdgeFault) -> SchemaKind
 fn add_edge(reading: &mut Reading, c: CatId, d: CatId) -> Result<(), Refusal<SchemaKind>>
     requires child { IsCategory (above_of reading.old).graph c.0 }
     requires parent { IsCategory (above_of reading.old).graph d.0 }
-    ensures { Reads result (above_of reading.new)
+    requires counted { IsCounted reading.old }
+    ensures read { Reads result (above_of reading.new)
         (edge_added (above_of reading.old) c.0 d.0 (edge_refusal (above_of reading.old).graph c.0 d.0)) }
+    ensures counted { OnOk result (IsCounted reading.new) }
 {
     match reading.builder.add_edge(c, d) {
         Ok(_) => Ok(()),
@@ -160,7 +167,9 @@ fn add_edge(reading: &mut Reading, c: CatId, d: CatId) -> Result<(), Refusal<Sch
 
 /// An edge's line.
 fn read_edge(reading: &mut Reading, child: &[u8], parent: &[u8]) -> Result<(), Refusal<SchemaKind>>
-    ensures { Reads result (above_of reading.new) (edge_read (above_of reading.old) child.now parent.now) }
+    requires counted { IsCounted reading.old }
+    ensures read { Reads result (above_of reading.new) (edge_read (above_of reading.old) child.now parent.now) }
+    ensures counted { OnOk result (IsCounted reading.new) }
 {
     if child.len() > MOST_TEXT_BYTES || parent.len() > MOST_TEXT_BYTES {
         return Err(Refusal::Kind(SchemaKind::TextTooLong));
@@ -174,13 +183,15 @@ fn read_edge(reading: &mut Reading, child: &[u8], parent: &[u8]) -> Result<(), R
     }
 }
 
-/// Puts a constraint of so many nodes behind the others.
+/// Puts a constraint of this many nodes after the others.
 fn push_constraint(reading: &mut Reading, root: CatId, nodes: u32, f: Formula) -> Result<(), Memory>
     requires { (above_of reading.old).nodes + nodes ≤ most_schema_nodes }
-    ensures { let old = above_of reading.old in
+    ensures above { let old = above_of reading.old in
         let added : Entry = record { root = root.0; formula = formula_of f } in
         OnOk result (above_of reading.new
         ≡ record old { constraints = old.constraints ++ added ∷ []; nodes = old.nodes + nodes }) }
+    ensures pairs { OnOk result (reading.new.pairs.items ≡ reading.old.pairs.items) }
+    ensures numbers { OnOk result (reading.new.numbers.items ≡ reading.old.numbers.items) }
 {
     reading.constraints.push(Constraint { root, formula: f })?;
     reading.nodes += nodes;
@@ -196,9 +207,11 @@ fn add_constraint(
     tokens: &[Token],
     f: Formula,
 ) -> Result<(), Refusal<SchemaKind>>
-    requires { (above_of reading.old).nodes + nodes_of version tokens.now ≤ most_schema_nodes }
-    ensures { Reads result (above_of reading.new)
+    requires few { (above_of reading.old).nodes + nodes_of version tokens.now ≤ most_schema_nodes }
+    requires counted { IsCounted reading.old }
+    ensures read { Reads result (above_of reading.new)
         (constraint_added (above_of reading.old) version root.0 tokens.now (formula_of f)) }
+    ensures counted { OnOk result (IsCounted reading.new) }
 {
     add_few_pairs(alloc, &mut reading.pairs, &mut reading.numbers, &f)?;
     push_constraint(reading, root, nodes(version, tokens) as u32, f)?;
@@ -251,8 +264,10 @@ fn read_constraint(
     name: &[u8],
     tokens: &[Token],
 ) -> Result<(), Refusal<SchemaKind>>
-    ensures { Reads result (above_of reading.new)
+    requires counted { IsCounted reading.old }
+    ensures read { Reads result (above_of reading.new)
         (constraint_read (above_of reading.old) version name.now tokens.now) }
+    ensures counted { OnOk result (IsCounted reading.new) }
 {
     let form = checked_form(alloc, version, reading.nodes, name, tokens)?;
     let (root, f) = rooted(alloc, reading, name, &form)?;
@@ -266,8 +281,10 @@ fn read_statement(
     n: u64,
     tokens: &[Token],
 ) -> Result<(), Refusal<SchemaKind>>
-    ensures { Reads result (above_of reading.new)
+    requires counted { IsCounted reading.old }
+    ensures read { Reads result (above_of reading.new)
         (tokens_read (above_of reading.old) n (Some tokens.now)) }
+    ensures counted { OnOk result (IsCounted reading.new) }
 {
     match (reading.version, statement_in(tokens)) {
         (None, Statement::Version(version)) => {
@@ -310,9 +327,11 @@ fn read_found(
     found: &FirstTokens,
 ) -> Result<(), Refusal<SchemaKind>>
     requires room { most_tokens most_nodes + 3 ≤ found.now.most }
-    ensures { let old = above_of reading.old in
+    requires counted { IsCounted reading.old }
+    ensures read { let old = above_of reading.old in
         (ts : Option (List Tokens)) → BeginsFound (version_at old) (kept_of found.now) ts
         → Reads result (above_of reading.new) (tokens_read old n ts) }
+    ensures counted { OnOk result (IsCounted reading.new) }
 {
     if found.more {
         return Err(Refusal::Kind(long_line_fault(reading, found)));
@@ -327,8 +346,10 @@ fn read_saying(
     n: u64,
     line: &[u8],
 ) -> Result<(), Refusal<SchemaKind>>
-    ensures { let old = above_of reading.old in
+    requires counted { IsCounted reading.old }
+    ensures read { let old = above_of reading.old in
         Reads result (above_of reading.new) (tokens_read old n (tokens_of (version_at old) line.now)) }
+    ensures counted { OnOk result (IsCounted reading.new) }
 {
     let version = reading.version.unwrap_or(Version::One);
     match first_tokens(alloc, version, line, MOST_TOKENS) {
@@ -346,7 +367,9 @@ pub(crate) fn read_line(
     n: u64,
     line: &[u8],
 ) -> Result<(), Refusal<SchemaKind>>
-    ensures { Reads result (above_of reading.new) (line_read (above_of reading.old) n line.now) }
+    requires counted { IsCounted reading.old }
+    ensures read { Reads result (above_of reading.new) (line_read (above_of reading.old) n line.now) }
+    ensures counted { OnOk result (IsCounted reading.new) }
 {
     if is_bad(line) {
         return Err(Refusal::Kind(SchemaKind::BadByte));

@@ -90,7 +90,7 @@ fn stands_before(root: CatId, categories: &[CatId], c: CatId) -> bool
     root == c || is_among(c, categories)
 }
 
-/// The categories of the names, if none stands twice among them and the root. Where one does, the names behind it
+/// The categories of the names, if none stands twice among them and the root. Where one does, the names after it
 /// aren't looked up, and no more categories are listed than there are.
 fn distinct(
     alloc: Global,

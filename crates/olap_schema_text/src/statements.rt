@@ -74,7 +74,7 @@ fn three_words<'a>(keyword: &[u8], first: &'a [u8], second: &'a [u8]) -> Stateme
     Statement::Other
 }
 
-/// What two words, a colon and the tokens behind it say.
+/// What two words, a colon and the tokens after it say.
 #[tactic(auto, unfolding(crate::specs::Statements::statement_of))]
 fn with_colon<'a>(keyword: &[u8], root: &'a [u8], formula: &'a [Token]) -> Statement<'a>
     ensures says { said result

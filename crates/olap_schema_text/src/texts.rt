@@ -3,7 +3,7 @@ ghost use Rattle.olap_schema_text.specs.Judging.{first_stuck, lines_on, schema_r
 ghost use Rattle.olap_schema_text.specs.Kinds.{IsFaultOf};
 ghost use Rattle.olap_schema_text.specs.Laws.{GivesReadable};
 ghost use Rattle.olap_schema_text.specs.Lines.{lines_of};
-ghost use Rattle.olap_schema_text.specs.Reading.{ReadsLines, above_of};
+ghost use Rattle.olap_schema_text.specs.Reading.{IsCounted, ReadsLines, above_of};
 ghost use Rattle.olap_schema.specs.Schemas.{schema_of};
 ghost use Rattle.std.specs.Prelude.{◌≡◌, ◌<◌, ◌-◌, MatchResult, Ok, slice_index};
 
@@ -21,6 +21,7 @@ fn read_lines(
     reading: &mut Reading,
     text: &[u8],
 ) -> Result<(), Refusal<Fault<SchemaKind>>>
+    requires { IsCounted reading.old }
     ensures { ReadsLines result (above_of reading.new) (lines_on (Ok (above_of reading.old)) 0 (lines_of text.now)) }
 {
     let mut n = 0u64;
@@ -70,7 +71,7 @@ fn line_of(lines: &[u64], c: u16) -> u64
 /// The schema that the text stands for.
 ///
 /// A fault is the first: of the first line that has one, its first; and where no line has one, `NoWayToAll` for the
-/// first declared category that doesn't reach `All`, on the line of its declaration. `Memory` where there is no room.
+/// first declared category that doesn't reach `All`, on the line of its declaration. `Memory` if there is no room.
 /// Linear in the text; no call is nested deeper than a formula may be, whatever the text is.
 #[tactic(auto, unfolding(crate::specs::Judging::schema_read))]
 pub fn read_schema(alloc: Global, text: &[u8]) -> Result<Schema, Refusal<Fault<SchemaKind>>>
@@ -89,7 +90,8 @@ fn read_from(
     started: Reading,
     text: &[u8],
 ) -> Result<Schema, Refusal<Fault<SchemaKind>>>
-    requires { GivesReadable (text_ended (lines_on (Ok (above_of started)) 0 (lines_of text.now))) }
+    requires readable { GivesReadable (text_ended (lines_on (Ok (above_of started)) 0 (lines_of text.now))) }
+    requires counted { IsCounted started }
     ensures { let read = text_ended (lines_on (Ok (above_of started)) 0 (lines_of text.now)) in
         MatchResult result (λ s. read ≡ Ok (schema_of s)) (λ e. IsFaultOf e read) }
 {

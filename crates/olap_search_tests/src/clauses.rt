@@ -109,7 +109,7 @@ fn add(rt: &impl Abort, alloc: Global, clauses: &mut Vec<Vec<Lit>>, lits: &[Lit]
     clauses.push(clause).expect(rt, "memory");
 }
 
-// Whether the pigeon sits in the hole, of so many.
+// Whether the pigeon sits in the hole, of this many.
 fn sits(pigeon: u8, hole: u8, holes: u8, positive: bool) -> Lit {
     let variable = u32::from(pigeon) * u32::from(holes) + u32::from(hole);
     Lit { variable, positive }
@@ -160,7 +160,7 @@ fn draw(state: &mut u32) -> Lit {
     }
 }
 
-// So many clauses of three literals, drawn one after the other.
+// This many clauses of three literals, drawn one after the other.
 fn drawn(rt: &impl Abort, alloc: Global, seed: u32, count: u8) -> Vec<Vec<Lit>> {
     let mut clauses = Vec::new(alloc);
     let mut state = seed;
@@ -204,7 +204,7 @@ fn is_satisfiable(clauses: &[Vec<Lit>]) -> bool {
     false
 }
 
-// An engine over these clauses, with so much room to learn in.
+// An engine over these clauses, with this much room to learn in.
 fn engine_of(rt: &impl Abort, alloc: Global, reader: &Reader, room: u32) -> Engine {
     let mut pool = Pool::new(alloc);
     for clause in reader.clauses {
@@ -271,7 +271,7 @@ fn small_sets_are_decided(rt: HostRuntime) {
     }
 }
 
-// Whether so many pigeons are found to fit.
+// Whether this many pigeons are found to fit.
 fn fit(rt: &impl Abort, alloc: Global, count: u8, holes: u8) -> Option<bool> {
     let clauses = pigeons(rt, alloc, count, holes);
     is_found(rt, alloc, u32::from(count) * u32::from(holes), &clauses)

@@ -129,7 +129,7 @@ pub(crate) fn formula(
     Ok(text)
 }
 
-/// The text of a schema over so many categories, each second one of numbers: a way to `All` from each, cycles and
+/// The text of a schema over this many categories, each second one of numbers: a way to `All` from each, cycles and
 /// shortcuts among the edges, and up to three constraints.
 pub(crate) fn schema(alloc: Global, draws: &mut Draws, count: u64) -> Result<String, AllocError> {
     let mut text = String::from_str(alloc, "schema 2\n")?;

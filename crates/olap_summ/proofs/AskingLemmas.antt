@@ -1,6 +1,6 @@
 -- What is found of the frozen dimensions of a root, or isn't, in all legal instances.
 --     found_is_one    what was found as it was wanted is one
---     none_exactly    none was found exactly where the question is true nowhere
+--     none_exactly    none was found exactly if the question is true nowhere
 use Rattle.std.proofs.Common.{ℕ, refl, ◌↔◌}
 use Rattle.std.specs.Prelude.{Option, Some, None, Result, Ok, Err, IfOk, IfSome, IsNone}
 use Rattle.olap_base.specs.Graph.{IsHierarchy}
@@ -20,7 +20,7 @@ pub found_is_one : (w : Wanted) (s : Schema) (q : Formula) (r : ℕ) (found : Fo
 found_is_one wanted.Least s q r found f = one_of s q r found f
 found_is_one wanted.Any s q r found f = f
 
--- none was found exactly where the question is true nowhere
+-- none was found exactly if the question is true nowhere
 pub none_exactly : {E : Type 0} (w : Wanted) (s : Schema) (q : Formula) (r : ℕ) (result : Result (Option Found) E)
     → IsHierarchy s.graph → IfOk result (λ o. IsNone o → HasNone s q r)
     → IfOk result (λ o. IfSome o (IsFoundAs w s q r)) → IfOk result (λ o. IsNone o ↔ IsNowhere s q r)

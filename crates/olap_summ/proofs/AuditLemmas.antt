@@ -6,33 +6,30 @@ use Rattle.std.proofs.Common.{◌≡◌, ℕ, ◌<◌, List, [], ◌∷◌, ◌+
 use Rattle.std.specs.Prelude.{◌≤◌, Contains, flat_map, remove, slice_get}
 use Rattle.std.proofs.lemmas.List.{length-map}
 use Rattle.std.proofs.lemmas.List.Elements.{Contains-append_cases, Contains-append_left, Contains-append_right}
-use Rattle.std.proofs.lemmas.Option.{get_or_from_slice_get, slice_get-map, slice_get_read, slice_get_within}
+use Rattle.std.proofs.lemmas.Option.{slice_get-map, slice_get_read}
 use Rattle.std.specs.Option.{option_map}
 use Rattle.olap_base.specs.declared.ids.CatId.{CatId}
 use Rattle.olap_base.specs.Deciding.{below_is_member, contains_cases}
 use Rattle.olap_base.specs.Graph.{Graph, HasEdge, IsCategory, IsHierarchy}
-use Rattle.olap_base.specs.Instance.{Instance, IsBelow, category_of}
 use Rattle.olap_base.specs.Limits.{most_constants}
-use Rattle.olap_base.proofs.ListLemmas.{AllPairs-from_Distinct, Contains-nil}
-use Rattle.olap_ast.specs.Constants.{all_comparisons, all_equalities}
+use Rattle.olap_base.proofs.ListLemmas.{AllPairs-from_Distinct, Contains-nil, Contains-slice_get}
+use Rattle.olap_ast.specs.Atoms.{Comparison, Equality, all_comparisons, all_equalities, comparisons, equalities}
+use Rattle.olap_ast.specs.Pairs.{pair_count}
 use Rattle.olap_ast.specs.Findings.{IsRedundant, IsUnused, without}
-use Rattle.olap_ast.specs.Formula.{Comparison, Equality, Formula.Path, HasPath, comparisons, equalities}
+use Rattle.olap_ast.specs.Formula.{Formula.Path}
 use Rattle.olap_ast.specs.Questions.{IsImplied}
 use Rattle.olap_ast.specs.Schema.{Constraint, Meets, Schema}
 use Rattle.olap_ast.specs.Trees.{constraint_of, formula_of}
 use Rattle.olap_ast.specs.declared.formulas.Constraint.{Constraint as StoredConstraint}
-use Rattle.olap_ast.specs.Valid.{IsFormulaAt, IsValidSchema, pair_count}
+use Rattle.olap_ast.specs.Valid.{IsFormulaAt, IsValidSchema}
+use Rattle.olap_ast.proofs.ComparedLemmas.{constraints_counted}
 use Rattle.olap_schema.proofs.PairCounting.{few_numbers, few_pairs}
 use Rattle.olap_schema.proofs.WithoutLemmas.{atoms_left, number_atoms_left}
 use Rattle.olap_summ.specs.Answers.{IsNowhere}
 use Rattle.olap_summ.proofs.NowhereLemmas.{as_well}
+use Rattle.olap_ast.proofs.QuestionLemmas.{one_step}
 
 -- ---- edges
-
--- a path of one edge is a parent
-one_step : (i : Instance) (x d : ℕ) → HasPath i x (d ∷ []) → (y : ℕ) × IsBelow i x y × (category_of i y ≡ d)
-one_step i x d ([], h, q) = absurd (cc)
-one_step i x d (y ∷ ys, h, q) = (y, h.0, cc)
 
 -- no member with that edge, as the audit asks it, is: the edge is unused
 pub unused_is : (s : Schema) (c d : ℕ) (N : Type 0) → N ↔ IsNowhere s (Path (d ∷ [])) c
@@ -74,10 +71,6 @@ redundant_is s k c P at e = (
     same : (d : Constraint) → slice_get s.constraints k ≡ Some d → d ≡ c
     same d q = let t : Some d ≡ Some c = sym q ∙ at in cc
 
--- what stands at a place is in the list
-pub listed_at : {A : Type 0} (xs : List A) (k : ℕ) (x : A) → slice_get xs k ≡ Some x → Contains xs x
-listed_at xs k x e = (k, slice_get_within xs k x e, get_or_from_slice_get xs k x x e)
-
 -- the atoms of a constraint are among the schema's
 atoms_of : (cs : List Constraint) (c : Constraint) (a : Equality) → Contains cs c → Contains (equalities c.formula) a
     → Contains (flat_map (λ b. equalities b.formula) cs) a
@@ -117,7 +110,7 @@ few_asked s k c v h =
       | inl t ↦ number_atoms_left s.constraints k a t
       | inr t ↦ number_atoms_of s.constraints c a h t
     ]) in
-    let fit = v.constants_fit in
+    let fit = subst (λ n. n ≤ most_constants) (constraints_counted s.constraints) v.constants_fit in
     omega arith
 
 -- ---- a stored constraint, asked of the schema without it
@@ -133,7 +126,7 @@ module _ (s t : Schema) (k : ℕ) (stored : List StoredConstraint) (c : StoredCo
       ∙ ap (option_map constraint_of) (slice_get_read stored (length stored) k c refl inside is)
 
   among : Contains s.constraints (constraint_of c)
-  among = listed_at s.constraints k (constraint_of c) asked_at
+  among = Contains-slice_get s.constraints k (constraint_of c) asked_at
 
   pub asked_root : IsCategory t.graph c.root.0
   asked_root = subst (λ (x : Schema). IsCategory x.graph c.root.0) (sym same) (v.roots (constraint_of c) among).1

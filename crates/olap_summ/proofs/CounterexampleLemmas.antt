@@ -85,6 +85,7 @@ least_told s p c sources hier e None first = tt
 least_told s p c sources hier e (Some found) first =
     counterexample_is s c sources hier found (subst (λ (f : Formula). IsFirstFound wanted.Least s f found) e first)
 
+-- any frozen dimension that was found for the question is a counterexample
 pub any_told : (s : Schema) (p : Formula) (c : ℕ) (sources : List ℕ) → IsHierarchy s.graph
     → p ≡ not_by_one c sources → (o : Option Found) → IfSome o (IsFirstFound wanted.Any s p)
     → IfSome o (IsOneCounterexampleFound s c sources)

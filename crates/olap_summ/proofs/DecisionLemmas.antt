@@ -15,13 +15,14 @@ use Rattle.std.proofs.lemmas.List.Quantifiers.{all_pairs_push}
 use Rattle.std.proofs.Math.Seq.{map-set_same, take-append_seam}
 use Rattle.olap_base.specs.Graph.{IsBottom, category_count}
 use Rattle.olap_base.specs.Limits.{most_constants}
-use Rattle.olap_ast.specs.Constants.{all_comparisons, all_equalities}
+use Rattle.olap_ast.specs.Atoms.{all_comparisons, all_equalities}
+use Rattle.olap_ast.specs.Pairs.{pair_count}
 use Rattle.olap_ast.specs.Formula.{Formula}
 use Rattle.olap_ast.specs.Frozen.{CandidatesExist}
 use Rattle.olap_ast.specs.Questions.{NoneFrozen}
 use Rattle.olap_ast.specs.Schema.{Schema}
 use Rattle.olap_ast.specs.Summarizable.{IsSummarizable}
-use Rattle.olap_ast.specs.Valid.{IsFormulaAt, IsValidSchema, pair_count}
+use Rattle.olap_ast.specs.Valid.{IsFormulaAt, IsValidSchema}
 use Rattle.olap_dimsat.specs.declared.searching.Search.{Search}
 use Rattle.olap_dimsat.specs.declared.finding.Wanted.TheVariants as wanted
 use Rattle.olap_dimsat.specs.Searches.{IsMadeWith, IsSizedFor, candidates_in, found_in, named_in, root_of}
@@ -39,6 +40,7 @@ use Rattle.olap_summ.specs.declared.questioning.Questions.{Questions}
 use Rattle.olap_ast.proofs.SourceLemmas.{question_at, question_few, question_kinds, until}
 use Rattle.olap_summ.proofs.CounterexampleLemmas.{counterexample_is, summarizable_is, summarizable_isnt}
 use Rattle.olap_summ.proofs.NowhereLemmas.{nowhere}
+use Rattle.olap_base.proofs.GeneralLemmas.{less_equal_greater}
 
 -- ---- roots and names
 
@@ -70,7 +72,7 @@ own_names xs k d h o =
     omega (arith, below, same, q))
     refl
 
--- a search of this root stands at the place or behind it
+-- a search of this root stands at the place or after it
 pub place_within : (xs : List Asked) (r place : ℕ) → Contains (roots_of xs) r
     → ((j : ℕ) → j < place → slice_index (roots_of xs) j ≡ r → ⊥) → place < length xs
 place_within xs r place t none = elim (which t.0 place) [
@@ -264,10 +266,6 @@ all_asked s q d n is none e b bottom =
     let m = length-map d.searches.items (λ (a : Asked). a.root.0) in
     subst (IsNowhere s (asked_by q)) t.2 (none t.0 (let l : t.0 < length (roots_in d) = t.1 in omega (arith, l, m, e)))
 
--- of two places one is earlier, or they are one
-order : (i j : ℕ) → (i < j) ⊎ ((i ≡ j) ⊎ (j < i))
-order i j = grind arith
-
 -- no bottom category before the k-th has one
 before_place : (s : Schema) (q : Questions) (d : Decision) (k : ℕ) → IsDecisionOf s q d → k < length (roots_in d)
     → NoneAmong s (asked_by q) k d.searches.items
@@ -277,7 +275,7 @@ before_place s q d k is h none b l bottom =
     subst (IsNowhere s (asked_by q)) t.2 (none t.0 (earlier t.0 t.1 t.2))
   where
     earlier : (j : ℕ) → j < length (roots_in d) → slice_index (roots_in d) j ≡ b → j < k
-    earlier j inside e = elim (order j k) [
+    earlier j inside e = elim (less_equal_greater j k) [
       | inl t ↦ t
       | inr t ↦ elim t [
         | inl same ↦ absurd (let p = ap (slice_index (roots_in d)) same in omega (arith, p, e, l))

@@ -3,7 +3,7 @@
 --     one_more     with a finding at this place; `added` in the words of the code
 --     no_more      with none at this place; `none_added` likewise
 --     to_constraints, to_edges    on to the next kind
---     all_found    behind the last
+--     all_found    after the last
 use Rattle.std.proofs.Common.{◌≡◌, ℕ, zero, suc, ◌+◌, ◌<◌, ◌≤◌, List, [], ◌∷◌, ◌++◌, length, get_or, map, refl, ap, sym, subst, ◌∙◌, ◌⊎◌, inl, inr, arith}
 use Rattle.std.specs.Prelude.{Contains}
 use Rattle.std.proofs.lemmas.List.{map-append}
@@ -76,7 +76,7 @@ wider : (kind place n k p : ℕ) → n ≡ place + 1 → (k < kind) ⊎ ((k ≡ 
 wider kind place n k p e (inl l) = inl l
 wider kind place n k p e (inr h) = inr (h.0, let l = h.1 in omega arith)
 
--- a finding at this place is put behind the others
+-- a finding at this place is put after the others
 pub one_more : (s : Schema) (kind place n : ℕ) (list : List Finding) (f : Finding)
     → AreFindingsBefore s kind place list → kind_of f ≡ kind → place_of f ≡ place → n ≡ place + 1 → IsFinding s f
     → AreFindingsBefore s kind n (list ++ f ∷ [])
@@ -96,7 +96,7 @@ one_more s kind place n list f b k p e is = record {
   ];
 }
 
--- where there is none at this place the list stays
+-- if there is none at this place the list stays
 pub no_more : (s : Schema) (kind place n : ℕ) (list : List Finding) → AreFindingsBefore s kind place list
     → n ≡ place + 1 → ((f : Finding) → kind_of f ≡ kind → place_of f ≡ place → IsFinding s f → ⊥)
     → AreFindingsBefore s kind n list
@@ -207,7 +207,7 @@ none_yet s = record {
     none (Unused e) is (inl l) = omega (arith, l)
     none (Unused e) is (inr h) = let q = h.0 in omega (arith, q)
 
--- behind the categories come the constraints, counted from 1
+-- after the categories come the constraints, counted from 1
 pub to_constraints : (s : Schema) (list : List Finding)
     → AreFindingsBefore s unsatisfiable (category_count s.graph) list
     → AreFindingsBefore s redundant 1 list
@@ -224,7 +224,7 @@ to_constraints s list b = next_kind s 1 (category_count s.graph) 2 1 list b refl
     from (Redundant (suc n)) k is = omega arith
     from (Unused e) k is = absurd (omega (arith, k))
 
--- behind the constraints come the edges
+-- after the constraints come the edges
 pub to_edges : (s : Schema) (n : ℕ) (list : List Finding) → n ≡ length s.constraints + 1
     → AreFindingsBefore s redundant n list
     → AreFindingsBefore s unused 0 list
@@ -236,7 +236,7 @@ to_edges s n list e b = next_kind s 2 n 3 0 list b refl within (λ f k is. omega
     within (Redundant (suc m)) k is = let l = slice_get_within s.constraints m is.0 is.1 in omega (arith, l, e)
     within (Unused x) k is = absurd (omega (arith, k))
 
--- behind the edges there is nothing
+-- after the edges there is nothing
 pub all_found : (s : Schema) (n : ℕ) (list : List Finding) → n ≡ length s.graph.edges
     → AreFindingsBefore s unused n list
     → AreFindings s list

@@ -1,8 +1,9 @@
 // A frozen dimension for a question at a root: the least, or any.
 ghost use Rattle.std.specs.Prelude.{◌≤◌, ◌↔◌, IfOk, IfSome, IsNone};
-ghost use Rattle.olap_ast.specs.Constants.{all_comparisons, all_equalities};
+ghost use Rattle.olap_ast.specs.Atoms.{all_comparisons, all_equalities};
+ghost use Rattle.olap_ast.specs.Pairs.{pair_count};
 ghost use Rattle.olap_ast.specs.Trees.{formula_of};
-ghost use Rattle.olap_ast.specs.Valid.{IsFormulaAt, pair_count};
+ghost use Rattle.olap_ast.specs.Valid.{IsFormulaAt};
 ghost use Rattle.olap_base.specs.Graph.{IsCategory};
 ghost use Rattle.olap_base.specs.Limits.{most_constants};
 ghost use Rattle.olap_dimsat.specs.Finding.{IsFoundAs};
@@ -16,7 +17,7 @@ use olap_frozen::Found;
 use olap_schema::Schema;
 use std::alloc::Global;
 
-/// The frozen dimension that is wanted of those whose root makes the question true. None exactly where it is true at no
+/// The frozen dimension that is wanted of those whose root makes the question true. None exactly if it is true at no
 /// member of the root in any legal instance.
 pub(crate) fn found(
     alloc: Global,

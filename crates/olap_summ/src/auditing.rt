@@ -1,9 +1,10 @@
 // Audits: what a schema says or does for nothing.
 ghost use Rattle.std.specs.Prelude.{◌≡◌, ◌≤◌, ◌<◌, ◌↔◌, Contains, IfOk, IsTrue, false, length, map, slice_index_or, true, OnOk};
-ghost use Rattle.olap_ast.specs.Constants.{all_comparisons, all_equalities};
+ghost use Rattle.olap_ast.specs.Atoms.{all_comparisons, all_equalities};
+ghost use Rattle.olap_ast.specs.Pairs.{pair_count};
 ghost use Rattle.olap_ast.specs.Findings.{AreFindings, IsRedundant, IsUnsatisfiable, IsUnused};
 ghost use Rattle.olap_ast.specs.Trees.{formula_of};
-ghost use Rattle.olap_ast.specs.Valid.{IsFormulaAt, pair_count};
+ghost use Rattle.olap_ast.specs.Valid.{IsFormulaAt};
 ghost use Rattle.olap_base.specs.Graph.{Edge, IsCategory};
 ghost use Rattle.olap_base.specs.Limits.{most_constants};
 ghost use Rattle.olap_graph.specs.Lookups.{edge_at};
@@ -196,7 +197,7 @@ fn add_unused(
 /// What the schema says or does for nothing: the declared categories that can't have a member, the constraints that
 /// follow from the others, and the edges that no legal instance uses, each in declaration order.
 ///
-/// What one answer showed is asked no more: a frozen dimension that was found settles its categories and its edges.
+/// What one answer shows isn't asked again: a frozen dimension that was found settles its categories and its edges.
 pub fn audit(alloc: Global, schema: &Schema) -> Result<List<Finding>, Memory>
     ensures findings { IfOk result (λ list. AreFindings (schema_of schema.now) (map finding_of list)) }
 {

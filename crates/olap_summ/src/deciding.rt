@@ -73,7 +73,7 @@ impl Decision {
         })
     }
 
-    /// Whether the target is not summarizable from the sources. False exactly where it is; then `into` stays. Where it
+    /// Whether the target is not summarizable from the sources. False exactly if it is; then `into` stays. Where it
     /// isn't, `into` becomes the counterexample: the least frozen dimension of the first bottom category that has one
     /// whose root reaches the target, and not by exactly one source.
     ///

@@ -1,10 +1,11 @@
 // Constraints that hold in all legal instances.
 ghost use Rattle.std.specs.Prelude.{◌≡◌, ◌≤◌, ◌↔◌, IfOk, IfSome, IsNone, IsTrue, length};
-ghost use Rattle.olap_ast.specs.Constants.{all_comparisons, all_equalities};
+ghost use Rattle.olap_ast.specs.Atoms.{all_comparisons, all_equalities};
+ghost use Rattle.olap_ast.specs.Pairs.{pair_count};
 ghost use Rattle.olap_ast.specs.Formula as Meaning;
 ghost use Rattle.olap_ast.specs.Questions.{IsImplied};
 ghost use Rattle.olap_ast.specs.Trees.{formula_of};
-ghost use Rattle.olap_ast.specs.Valid.{IsFormulaAt, pair_count};
+ghost use Rattle.olap_ast.specs.Valid.{IsFormulaAt};
 ghost use Rattle.olap_base.specs.Graph.{IsCategory};
 ghost use Rattle.olap_base.specs.Limits.{most_constants};
 ghost use Rattle.olap_frozen.specs.LeastFound.{IsLeastFound};
@@ -27,7 +28,7 @@ fn negation(alloc: Global, f: &Formula) -> Result<Formula, Memory>
     Ok(Formula::Not(part))
 }
 
-/// The least frozen dimension whose root makes the formula false. None exactly where every legal instance meets the
+/// The least frozen dimension whose root makes the formula false. None exactly if every legal instance meets the
 /// constraint of this root and formula.
 pub fn implies(
     alloc: Global,

@@ -27,7 +27,7 @@ impl Questions {
     /// The question of this target and these sources. It keeps them, and the formula, which is the same at each bottom
     /// category.
     ///
-    /// `DuplicateSource`: exactly where a source stands twice. The target may be a source, and either may be `All`.
+    /// `DuplicateSource`: exactly if a source stands twice. The target may be a source, and either may be `All`.
     pub fn of(
         alloc: Global,
         schema: &Schema,

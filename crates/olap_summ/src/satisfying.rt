@@ -14,7 +14,7 @@ use olap_frozen::Found;
 use olap_schema::Schema;
 use std::alloc::Global;
 
-/// The least frozen dimension with this root. None exactly where no legal instance has a member in the category.
+/// The least frozen dimension with this root. None exactly if no legal instance has a member in the category.
 pub fn satisfiable(alloc: Global, schema: &Schema, c: CatId) -> Result<Option<Found>, Memory>
     requires { IsCategory (schema_of schema.now).graph c.0 }
     ensures none { IfOk result (λ o. IsNone o ↔ IsUnsatisfiable (schema_of schema.now) c.0) }

@@ -44,7 +44,7 @@ fn found_at(
     found(alloc, schema, root, &questions.formula, wanted)
 }
 
-// The frozen dimension that is wanted for the question, of the first bottom category that has one. None exactly where
+// The frozen dimension that is wanted for the question, of the first bottom category that has one. None exactly if
 // the target is summarizable from the sources.
 fn first_found(
     alloc: Global,
@@ -72,7 +72,7 @@ fn first_found(
 }
 
 /// The counterexample to summarizability: the least frozen dimension of the first bottom category that has one whose
-/// root reaches the target, and not by exactly one source. None exactly where the target is summarizable from the
+/// root reaches the target, and not by exactly one source. None exactly if the target is summarizable from the
 /// sources: in all legal instances with all facts its view from the sources' views is its direct view.
 ///
 /// The target may be a source, and either may be `All`. One search stands at a time, and none is made after the first
@@ -98,7 +98,7 @@ pub fn summarizable(
 }
 
 /// A counterexample to summarizability, where any serves: a frozen dimension of the first bottom category that has one
-/// whose root reaches the target, and not by exactly one source. None exactly where the target is summarizable from the
+/// whose root reaches the target, and not by exactly one source. None exactly if the target is summarizable from the
 /// sources.
 ///
 /// The target may be a source, and either may be `All`. It makes the searches that `summarizable` makes; but each finds

@@ -122,7 +122,7 @@ pub(crate) fn stored(alloc: Global, rt: &impl Abort, instance: &Instance) -> Sto
     ensures store { IsStore (views_of result) }
     ensures fit { All Fits (views_of result) }
     ensures three { length result.views ≡ 3 }
-    ensures at_members { All (λ v. All (λ r. r.member < length instance.now) v.rows) (views_of result) }
+    ensures at_members { All (λ v. All (λ r. r.at < length instance.now) v.rows) (views_of result) }
 {
     assert!(rt; instance.members() == 18);
     let states = vec![in alloc; YUCATAN].expect(rt, "memory");

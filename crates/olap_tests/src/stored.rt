@@ -38,7 +38,7 @@ fn is_text_from(
 ) -> bool
     requires store { IsStore (views_of store.now) }
     requires fit { All Fits (views_of store.now) }
-    requires at_members { All (λ v. All (λ r. r.member < length legal.now) v.rows) (views_of store.now) }
+    requires at_members { All (λ v. All (λ r. r.at < length legal.now) v.rows) (views_of store.now) }
     requires bits { mask < 2 ^ length store.now.views }
 {
     let view = from_views(alloc, legal, store, mask, c).expect(rt, "a view");
@@ -49,7 +49,7 @@ fn is_text_from(
 fn have_texts(alloc: Global, rt: &impl Abort, legal: &Legal, store: &Store)
     requires store { IsStore (views_of store.now) }
     requires fit { All Fits (views_of store.now) }
-    requires at_members { All (λ v. All (λ r. r.member < length legal.now) v.rows) (views_of store.now) }
+    requires at_members { All (λ v. All (λ r. r.at < length legal.now) v.rows) (views_of store.now) }
     requires three { length store.now.views ≡ 3 }
 {
     for (mask, category, wanted) in &VIEWS {

@@ -3,7 +3,6 @@ use Rattle.std.proofs.Common.{◌≡◌, ℕ, List, [], ◌∷◌, Ok, cond, len
 use Rattle.std.proofs.lemmas.Bool.Decides.{nat_tests}
 use Rattle.std.specs.Prelude.{◌==◌}
 use Rattle.olap_base.specs.Instance.{Instance}
-use Rattle.olap_base.proofs.ViewLemmas.{eqb_is}
 use Rattle.olap_breaks.specs.Breaks.{Break, breaks_text}
 use Rattle.olap_breaks.specs.Seen.{break_seen}
 use Rattle.olap_breaks.specs.declared.finding.Break as code
@@ -13,6 +12,7 @@ use Rattle.olap_order.specs.declared.replies.Reply.{Reply}
 use Rattle.olap_order.specs.declared.status.Status.{Status}
 use Rattle.olap_order.specs.declared.status.Status.TheVariants.{No, Yes}
 use Rattle.olap_totals.specs.Under.{breaks_status}
+use Rattle.std.proofs.lemmas.Bool.{eqb-true}
 
 -- what is told is told, where it is a yes or a no
 told_as : {Q : Type 0} {answers : Q → Status → List ℕ → Type 0} (st : Status) (text : List ℕ) (reply : Reply)
@@ -32,9 +32,9 @@ told_none {Q} {answers} i [] bs reply e n status bytes = subst
     (λ ds. Replies answers (Told (breaks_status ds) (breaks_text i ds)) (Ok reply)) e
     (told_as Yes (breaks_text i []) reply status tt bytes)
 told_none {Q} {answers} i (b ∷ found) bs reply e n status bytes =
-    let z : length (b ∷ found) ≡ 0 = eqb_is (length (b ∷ found)) 0 n in absurd (omega arith)
+    let z : length (b ∷ found) ≡ 0 = eqb-true (length (b ∷ found)) 0 n in absurd (omega arith)
 
--- where there is a first, there are some
+-- if there is a first, there are some
 isnt_none : (b : Break) (bs : List Break) → (length (b ∷ bs) == 0) ≡ false
 isnt_none b bs = grind (arith, nat_tests)
 

@@ -27,7 +27,7 @@ refused_shown why (stops.Refused bytes) is = record {
 refused_shown why stops.Read is = absurd is
 refused_shown why (stops.Memory m) is = record { right = tt; verdict = tt; unread = λ e. absurd (cc) }
 
-module _ (g : Graph) (i : Instance) (views : List View) where
+module _ (g : Graph) (i : Instance) (views : List (View ℕ ℕ)) where
   -- of this length, as it is told or refused
   abbrev of_length : Bool → Order Question
   of_length long = if long then refused (codes "store TooLong") else Told Yes (store_text g i views)

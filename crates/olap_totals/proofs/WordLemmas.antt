@@ -37,12 +37,12 @@ by_four_places order (x ∷ y ∷ z ∷ w ∷ []) a b c d p q r s least most =
     λ at0 at1 at2 at3 is0 is1 is2 is3. cc
 by_four_places order (x ∷ y ∷ z ∷ w ∷ v ∷ more) a b c d p q r s least most = absurd (omega (arith, most))
 
--- one category or more by their number behind three words
+-- one category or more by their number after three words
 is_few_is : (n : ℕ) → nat_lt 0 n && nat_le n most_views
     ≡ nat_le 4 (suc (suc (suc n))) && nat_le (suc (suc (suc n))) (most_views + 3)
 is_few_is n = grind (arith, nat_tests)
 
--- the order of `store` by its words one by one is that by so many words
+-- the order of `store` by its words one by one is that by this many words
 pub store_is : (words : List (List ℕ)) → store_by words ≡ between 4 (most_views + 3) store_order words
 store_is [] = refl
 store_is (a ∷ []) = refl

@@ -1,25 +1,23 @@
 -- The order in which each command over an instance judges its files and words. Their answers are functions of what was
--- read, so each order ends in what is told.
+-- read, so each order ends in its output.
 --     store_told     the text of stored views
---     order_named    of the command of that name, by the words after it
+--     order_named    the order of the command of that name with these words, if there is one
 use Rattle.std.specs.Prelude.{ℕ, List, ◌++◌, ◌+◌, ◌-◌, ◌==◌, length, codes, if◌then◌else◌, nat_lt, Option, None}
 use Rattle.std.specs.Fmt.{decimal}
 use Rattle.std.specs.Str.{bytes_eq}
 use Rattle.olap_base.specs.Graph.{Graph}
-use Rattle.olap_base.specs.Limits.{most_facts, most_store_bytes, most_views}
+use Rattle.olap_base.specs.Limits.{most_store_bytes, most_views}
 use Rattle.olap_base.specs.Instance.{Instance}
-use Rattle.olap_base.specs.Views.{View, direct_view, direct_views}
+use Rattle.olap_base.specs.Views.{View, direct_view, direct_views, members}
 use Rattle.olap_ast.specs.Schema.{Schema}
 use Rattle.olap_breaks.specs.Breaks.{breaks, breaks_text}
-use Rattle.olap_records.specs.Records.{records_of}
-use Rattle.olap_facts.specs.FactText.{facts_read_within}
-use Rattle.olap_delta.specs.Changes.{Step, appended, retracted}
-use Rattle.olap_delta.specs.Kinds.{name_of_change_kind}
-use Rattle.olap_delta.specs.Reading.{views_changed}
+use Rattle.olap_records.specs.Tables.{named}
+use Rattle.olap_delta.specs.Changes.{Step, appended, retracted, store_after}
+use Rattle.olap_delta.specs.Kinds.{name_of_kind}
 use Rattle.olap_view.specs.StoreText.{store_text}
 use Rattle.olap_view.specs.ViewText.{view_text}
 use Rattle.olap_order.specs.Arguments.{at_least, at_word, between, exactly, word}
-use Rattle.olap_order.specs.Order.{Order, Read, Told, and_then, refused}
+use Rattle.olap_order.specs.Order.{Order, Told, and_then, refused}
 use Rattle.olap_order.specs.Outputs.{line}
 use Rattle.olap_order.specs.Steps.{category_word, different_words, meaning_or_fault, schema_file}
 use Rattle.olap_reading.specs.Steps.{facts_file, legal_file, store_file}
@@ -33,7 +31,7 @@ rollup_order words =
     and_then (at_word (category_word s.graph) 5 words) (λ c.
     and_then (legal_file s (codes "instance") (word 3 words)) (λ i.
     and_then (facts_file s i (codes "facts") (word 4 words)) (λ table.
-    Told Yes (view_text i (direct_view i table c))))))
+    Told Yes (view_text i (direct_view (members i) table c))))))
 
 -- the schema, the instance and its laws
 abbrev pub check_order : List (List ℕ) → Order Question
@@ -42,8 +40,8 @@ check_order words =
     and_then (legal_file s (codes "instance") (word 3 words)) (λ i.
     Told Yes (line (codes "legal " ++ decimal (length i - 1)))))
 
--- the text of stored views, if a file of them may have so many bytes
-abbrev pub store_told : Graph → Instance → List View → Order Question
+-- the text of stored views, if it isn't longer than a file of them may be
+abbrev pub store_told : Graph → Instance → List (View ℕ ℕ) → Order Question
 store_told g i views =
     if nat_lt most_store_bytes (length (store_text g i views)) then refused (codes "store TooLong")
     else Told Yes (store_text g i views)
@@ -55,14 +53,12 @@ store_order words =
     and_then (different_words (codes "DuplicateView") s.graph 5 words) (λ cs.
     and_then (legal_file s (codes "instance") (word 3 words)) (λ i.
     and_then (facts_file s i (codes "facts") (word 4 words)) (λ table.
-    store_told s.graph i (direct_views i table cs)))))
+    store_told s.graph i (direct_views (members i) table cs)))))
 
--- facts at the instance's members in a file of any length, and the stored views after them; a fault of the facts comes
--- before a fault of a view
-abbrev pub changed_file : Step → Schema → Instance → List View → (facts : List ℕ) → Order (List View)
-changed_file step s i views facts = Read facts (λ text.
-    meaning_or_fault (codes "facts") (codes "record") name_of_change_kind
-    (views_changed step i views (facts_read_within most_facts s.graph i (records_of text))))
+-- the stored views after the facts in a file, in order, of which the first is record 2
+abbrev pub changed_file : Step → Schema → Instance → List (View ℕ ℕ) → (facts : List ℕ) → Order (List (View ℕ ℕ))
+changed_file step s i views facts = and_then (facts_file s i (codes "facts") facts) (λ table.
+    meaning_or_fault (codes "facts") (codes "record") (named name_of_kind (store_after step i 2 views table)))
 
 -- the schema, the instance and its laws, the stored views, the facts, and then each fact at the views
 abbrev pub change_order : Step → List (List ℕ) → Order Question
@@ -82,7 +78,7 @@ breaks_order words =
     and_then (legal_file s (codes "instance") (word 3 words)) (λ i. let found = breaks s.graph i c cs in
     Told (if length found == 0 then Yes else No) (breaks_text i found)))))
 
--- of the command of that name; of stored views there is one or more
+-- the order of the command of that name with these words, if there is one; there is one stored view or more
 abbrev pub order_named : List ℕ → List (List ℕ) → Option (Order Question)
 order_named name words =
     if bytes_eq name (codes "rollup") then exactly 4 rollup_order words

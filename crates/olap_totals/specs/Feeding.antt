@@ -22,12 +22,12 @@ use Rattle.olap_totals.specs.declared.feeding.Unchanged.{Unchanged}
 use Rattle.olap_totals.specs.declared.feeding.Unchanged.TheVariants as unchanged
 
 -- the store after the change by the facts that records stand for, or why there is none
-abbrev pub IsChangedBy : Change → Graph → Instance → List View → List (List (List ℕ))
+abbrev pub IsChangedBy : Change → Graph → Instance → List (View ℕ ℕ) → List (List (List ℕ))
     → Result Store (Refusal (Fault ChangeKind)) → Type 0
 IsChangedBy by g i views records = IsStoreAfterAll by i views (facts_read_within most_facts g i records)
 
 -- a refusal tells the first fault of the file's text, or the first fact that can't be taken
-abbrev pub IsWhyUnchanged : Step → Graph → Instance → List View → Option (List ℕ) → Unchanged → Type 0
+abbrev pub IsWhyUnchanged : Step → Graph → Instance → List (View ℕ ℕ) → Option (List ℕ) → Unchanged → Type 0
 IsWhyUnchanged step g i views rest unchanged.Failed = ⊤
 IsWhyUnchanged step g i views rest (unchanged.Refused e) = IsOfRest rest (λ text.
     IsRefusedBy e (views_changed step i views (facts_read_within most_facts g i (records_of text))))

@@ -1,4 +1,4 @@
--- What is left of each order once its schema is read, its instance too, or still more.
+-- What is left of each order once its schema is read, or also its instance, or also what comes next.
 --     rollup_under, check_under, store_under, breaks_under, change_under   under a schema
 --     store_of, breaks_of   of an instance, after the categories
 --     change_of      of a legal instance
@@ -6,7 +6,7 @@
 use Rattle.std.specs.Prelude.{ℕ, List, [], ◌++◌, ◌-◌, ◌==◌, codes, if◌then◌else◌, length}
 use Rattle.std.specs.Fmt.{decimal}
 use Rattle.olap_base.specs.Instance.{Instance}
-use Rattle.olap_base.specs.Views.{View, direct_view, direct_views}
+use Rattle.olap_base.specs.Views.{View, direct_view, direct_views, members}
 use Rattle.olap_ast.specs.Schema.{Schema}
 use Rattle.olap_delta.specs.Changes.{Step}
 use Rattle.olap_view.specs.ViewText.{view_text}
@@ -27,7 +27,7 @@ rollup_under s instance facts category =
     and_then (category_word s.graph 5 category) (λ c.
     and_then (legal_file s (codes "instance") instance) (λ i.
     and_then (facts_file s i (codes "facts") facts) (λ table.
-    Told Yes (view_text i (direct_view i table c)))))
+    Told Yes (view_text i (direct_view (members i) table c)))))
 
 -- the instance and its laws
 abbrev pub check_under : Schema → (instance : List ℕ) → Order Question
@@ -40,7 +40,7 @@ abbrev pub store_of : Schema → (instance facts : List ℕ) (categories : List 
 store_of s instance facts cs =
     and_then (legal_file s (codes "instance") instance) (λ i.
     and_then (facts_file s i (codes "facts") facts) (λ table.
-    store_told s.graph i (direct_views i table cs)))
+    store_told s.graph i (direct_views (members i) table cs)))
 
 -- the categories from left to right, and then what is left of the order
 abbrev pub store_under : Schema → (instance facts : List ℕ) (categories : List (List ℕ)) → Order Question
@@ -64,7 +64,7 @@ breaks_under s instance target sources =
     and_then (categories_from (codes "DuplicateSource") s.graph 5 [] sources) (λ cs. breaks_of s instance c cs))
 
 -- the facts, and the stored views after them
-abbrev pub change_by : Step → Schema → Instance → List View → (facts : List ℕ) → Order Question
+abbrev pub change_by : Step → Schema → Instance → List (View ℕ ℕ) → (facts : List ℕ) → Order Question
 change_by step s i views facts =
     and_then (changed_file step s i views facts) (λ changed. store_told s.graph i changed)
 

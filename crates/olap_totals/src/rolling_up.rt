@@ -1,6 +1,6 @@
 // The command `rollup`: the direct view of a category.
 ghost use Rattle.std.specs.Prelude.{codes};
-ghost use Rattle.olap_base.specs.Views.{direct_view};
+ghost use Rattle.olap_base.specs.Views.{direct_view, members};
 ghost use Rattle.olap_instance.specs.Made.{IsMadeFor};
 ghost use Rattle.olap_schema.specs.Schemas.{schema_of};
 ghost use Rattle.olap_view.specs.ViewText.{view_text};
@@ -31,7 +31,7 @@ fn view_in<L: Library>(
     requires { IsMadeFor (schema_of schema.now).graph legal.now }
     ensures judged { Judged IsAnswer L.Library lib.old lib.new
         (and_then (facts_file (schema_of schema.now) legal.now (codes "facts") file.now) (λ table.
-        Told Status.Yes (view_text legal.now (direct_view legal.now table category.0)))) result }
+        Told Status.Yes (view_text legal.now (direct_view (members legal.now) table category.0)))) result }
 {
     let views = views_in(alloc, schema, legal, &[category], file, lib)?;
     let text = print_view(alloc, legal.instance(), &views.items()[0])?;

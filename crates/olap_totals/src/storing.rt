@@ -1,7 +1,7 @@
 // The command `store`: the direct views of some categories as a text of stored views.
 ghost use Rattle.std.specs.Prelude.{◌≢◌, ◌<◌, ◌^◌, All, AllPairs, codes, length};
 ghost use Rattle.olap_base.specs.Graph.{IsCategory};
-ghost use Rattle.olap_base.specs.Views.{direct_views};
+ghost use Rattle.olap_base.specs.Views.{direct_views, members};
 ghost use Rattle.olap_instance.specs.Made.{IsMadeFor};
 ghost use Rattle.olap_schema.specs.Schemas.{schema_of};
 ghost use Rattle.olap_view.specs.Seen.{ids, views_of};
@@ -22,15 +22,15 @@ use olap_schema::Schema;
 use olap_view::{Store, print_store};
 use std::alloc::Global;
 
-/// The text of stored views, if a file of them may have so many bytes.
+/// The text of stored views, if it isn't longer than a file of them may be.
 pub(crate) fn told(
     alloc: Global,
     schema: &Schema,
     legal: &Legal,
     store: &Store,
 ) -> Result<Reply, Stop>
-    requires categories { All (λ v. IsCategory (schema_of schema.now).graph v.category) (views_of store.now) }
-    requires at_members { All (λ v. All (λ r. r.member < length legal.now) v.rows) (views_of store.now) }
+    requires categories { All (λ v. IsCategory (schema_of schema.now).graph v.target) (views_of store.now) }
+    requires at_members { All (λ v. All (λ r. r.at < length legal.now) v.rows) (views_of store.now) }
     ensures replies { Replies IsAnswer
         (store_told (schema_of schema.now).graph legal.now (views_of store.now)) result }
 {
@@ -57,7 +57,7 @@ fn stored<L: Library>(
     ensures judged { Judged IsAnswer L.Library lib.old lib.new
         (and_then (facts_file (schema_of schema.now) legal.now (codes "facts") file.now) (λ table.
         store_told (schema_of schema.now).graph legal.now
-        (direct_views legal.now table (ids categories.now)))) result }
+        (direct_views (members legal.now) table (ids categories.now)))) result }
 {
     let views = views_in(alloc, schema, legal, categories, file, lib)?;
     let store = Store { views };

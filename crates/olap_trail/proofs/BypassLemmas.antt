@@ -1,5 +1,5 @@
 -- Whether one of a list of edges is bypassed.
-use Rattle.std.proofs.Common.{◌≡◌, ℕ, ◌+◌, ◌<◌, ◌≤◌, ◌⊎◌, ◌↔◌, List, length, get_or, map, Bool, true, false, ap, sym, subst, ◌∙◌, inl, inr, arith}
+use Rattle.std.proofs.Common.{◌≡◌, ℕ, ◌+◌, ◌<◌, ◌≤◌, ◌↔◌, List, length, get_or, map, Bool, true, false, ap, sym, subst, ◌∙◌, inl, inr, arith}
 use Rattle.std.specs.Prelude.{IsTrue}
 use Rattle.std.proofs.lemmas.List.{get_or_default}
 use Rattle.std.proofs.lemmas.List.Elements.{Contains-get_or}
@@ -8,10 +8,7 @@ use Rattle.olap_base.specs.Graph.{Edge}
 use Rattle.olap_trail.specs.Drawing.{HoldsBypass, IsBypassed, Joins, edge_of}
 use Rattle.olap_trail.specs.declared.drawing.Ends.{Ends}
 use Rattle.olap_trail.proofs.WalkLemmas.{joins_cases, joins_new, more}
-
--- below c + 1 is below c, or c
-newest : (a c : ℕ) → a < c + 1 → (a < c) ⊎ (a ≡ c)
-newest a c h = grind arith
+use Rattle.olap_base.proofs.GeneralLemmas.{below_or_same}
 
 -- the ends at a place are those of an edge
 pub joins_at : (items : List Ends) (es : List Edge) (k : ℕ) (d : Ends) → map edge_of items ≡ es → k < length items
@@ -29,7 +26,7 @@ NoneBypassed items es k =
 pub none_more : (items : List Ends) (es : List Edge) (k : ℕ) (d : Ends) (b : Bool) → b ≡ false → k < length items
     → IsTrue b ↔ IsBypassed es (get_or items k d).child.0 (get_or items k d).parent.0
     → NoneBypassed items es k → NoneBypassed items es (k + 1)
-none_more items es k d b isnt h m none i f l w = elim (newest i k l) [
+none_more items es k d b isnt h m none i f l w = elim (below_or_same i k l) [
   | inl s ↦ none i f s w
   | inr q ↦
       let same = ap (λ j. get_or items j f) q ∙ get_or_default items k f d h in

@@ -3,7 +3,7 @@ use Rattle.std.proofs.Common.{◌≡◌, ◌≢◌, ℕ, ◌-◌, ◌<◌, ◌�
 use Rattle.std.specs.Prelude.{AllPairs, Contains, Option, Some, None, filter, ◌==◌}
 use Rattle.std.proofs.Math.ListN.{get_or-append}
 use Rattle.std.proofs.Math.Seq.{get_or-append_seam, take-append_seam}
-use Rattle.std.proofs.lemmas.Bool.{ne_eqb}
+use Rattle.std.proofs.lemmas.Bool.{ne_eqb, cases_eq}
 use Rattle.std.proofs.lemmas.List.{append-nil, get_or-set_other, get_or-set_same, length_push, map-append, map_push}
 use Rattle.std.proofs.lemmas.List.Elements.{All-push, Contains-get_or, filter-append}
 use Rattle.std.proofs.lemmas.List.Quantifiers.{all_pairs_push}
@@ -191,15 +191,11 @@ shortcut_is g = (
 
 -- ---- the table of what was decided
 
--- two numbers are equal, or they aren't
-same_or_not : (a b : ℕ) → (a ≡ b) ⊎ (a ≢ b)
-same_or_not a b = grind arith
-
 -- the table with the new decision
 pub statuses_push : (ss : List (Option Bool)) (ds : List Decision) (d : Decision) (i : ℕ) → i ≡ d.edge → i < length ss
     → status_in ds d.edge ≡ None → ((e : ℕ) → get_or ss e None ≡ status_in ds e)
     → (e : ℕ) → get_or (set ss i (Some d.present)) e None ≡ status_in (ds ++ d ∷ []) e
-statuses_push ss ds d i q h undecided f e = elim (same_or_not e i) [
+statuses_push ss ds d i q h undecided f e = elim (cases_eq e i) [
   | inl k ↦
       ap (λ j. get_or (set ss i (Some d.present)) j None) k ∙ get_or-set_same ss i (Some d.present) None h
       ∙ sym (ap (status_in (ds ++ d ∷ [])) (k ∙ q) ∙ status_new ds d undecided)
@@ -211,7 +207,7 @@ statuses_push ss ds d i q h undecided f e = elim (same_or_not e i) [
 pub statuses_pop : (ss : List (Option Bool)) (ds : List Decision) (d : Decision) (i : ℕ) → i ≡ d.edge → i < length ss
     → (Contains (edges_of ds) d.edge → ⊥) → ((e : ℕ) → get_or ss e None ≡ status_in (ds ++ d ∷ []) e)
     → (e : ℕ) → get_or (set ss i None) e None ≡ status_in ds e
-statuses_pop ss ds d i q h new f e = elim (same_or_not e i) [
+statuses_pop ss ds d i q h new f e = elim (cases_eq e i) [
   | inl k ↦
       ap (λ j. get_or (set ss i None) j None) k ∙ get_or-set_same ss i None None h
       ∙ sym (ap (status_in ds) (k ∙ q) ∙ status_none ds d.edge new)

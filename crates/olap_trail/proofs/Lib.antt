@@ -3,7 +3,7 @@ mod WalkLemmas
 mod SetLemmas
 mod StageLemmas
 mod TableLemmas
-mod TakingLemmas
+pub mod TakingLemmas
 mod DecisionLemmas
 mod CountingLemmas
 mod BypassLemmas

@@ -44,7 +44,7 @@ grown_union old through new x c e leads d =
       λ o. (has_union old through d).1 (elim o [ inl a ↦ inl a | inr t ↦ inr t.1 ]),
     )
 
--- the least number that is in both sets is there exactly where some number is
+-- the least number that is in both sets is there exactly if some number is
 pub meets_is : (l r m : FinSet nat_cmp) (o : Option ℕ) (b : Bool) → m ≡ intersection l r → IsNone o ↔ (m ≡ empty)
     → IfSome o (IsLeast m) → b ≡ is_some o → IsTrue b ↔ ((d : ℕ) × IsIn l d × IsIn r d)
 meets_is l r m None b e none some q = (

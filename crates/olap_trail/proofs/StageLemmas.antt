@@ -1,5 +1,5 @@
--- The sets of one number of edges, copied behind themselves and grown by the next edge.
-use Rattle.std.proofs.Common.{◌≡◌, ◌≢◌, ℕ, ◌+◌, ◌*◌, ◌<◌, ◌≤◌, ◌⊎◌, List, length, set, ap, sym, subst, ◌∙◌, inl, inr, arith}
+-- The sets of one number of edges, copied after themselves and grown by the next edge.
+use Rattle.std.proofs.Common.{◌≡◌, ℕ, ◌+◌, ◌*◌, ◌<◌, ◌≤◌, List, length, set, ap, sym, subst, ◌∙◌, inl, inr, arith}
 use Rattle.std.proofs.Math.ListN.{length-set}
 use Rattle.std.proofs.Math.Nat.{mul-le-mul_right}
 use Rattle.std.specs.FinSet.{FinSet}
@@ -8,11 +8,7 @@ use Rattle.olap_bits.specs.Sets.{members}
 use Rattle.olap_bits.specs.declared.sets.CatSet.{CatSet}
 use Rattle.olap_graph.specs.Rows.{row}
 use Rattle.olap_trail.specs.Drawing.{IsGrown}
-use Rattle.olap_graph.proofs.RowLemmas.{row_other, row_same}
-
--- below c + 1 is below c, or c
-newest : (a c : ℕ) → a < c + 1 → (a ≢ c) × (a < c) ⊎ (a ≡ c)
-newest a c h = grind arith
+use Rattle.olap_graph.proofs.RowLemmas.{row_other, row_same, newest}
 
 -- the sets of the first categories are copied and grown
 pub record AreCopied {W : ℕ} (old new : List (CatSet W)) (place count c : ℕ) (through : FinSet nat_cmp) (k : ℕ)

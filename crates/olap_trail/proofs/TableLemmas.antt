@@ -105,7 +105,7 @@ module _ {W : ℕ} {room set_room : ℕ} {es : List Edge} {place : ℕ} {rows pa
       let s = t.reserved_sets in
       omega (arith, e, f, p, s)
 
-  -- the same with empty sets behind
+  -- the same with empty sets after them
   pub tables_filled : (new_set_room : ℕ) (new_rows : List (CatSet W)) → set_room ≤ new_set_room
       → place + length parents ≤ length new_rows → ((i : ℕ) → row new_rows i ≡ row rows i)
       → AreTables room new_set_room es place new_rows parents cycles

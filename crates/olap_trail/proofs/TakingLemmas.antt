@@ -5,7 +5,7 @@ use Rattle.std.specs.Ordering.{nat_cmp}
 use Rattle.std.proofs.Math.ListN.{get_or-append, length-set}
 use Rattle.std.proofs.Math.Seq.{get_or-append_seam}
 use Rattle.std.proofs.lemmas.List.{length-replicate, length_push, take-append-le, take_all}
-use Rattle.olap_base.proofs.ListLemmas.{Contains-nil}
+use Rattle.olap_base.proofs.ListLemmas.{Contains-nil, none_marked}
 use Rattle.olap_base.specs.Graph.{Edge}
 use Rattle.olap_base.specs.Steps.{Climb, Climb.climb}
 use Rattle.olap_bits.specs.CatSet.{IsOfWidth}
@@ -21,16 +21,10 @@ use Rattle.olap_trail.proofs.WalkLemmas.{joins_cases, joins_more, joins_new, mor
 -- ---- no edges
 
 -- of empty sets each is empty
-row_none : {W : ℕ} (x : CatSet W) → members x ≡ empty → (m i : ℕ) → row (replicate m x) i ≡ empty
+pub row_none : {W : ℕ} (x : CatSet W) → members x ≡ empty → (m i : ℕ) → row (replicate m x) i ≡ empty
 row_none x e zero i = refl
 row_none x e (suc m) zero = e
 row_none x e (suc m) (suc i) = row_none x e m i
-
--- of false marks each is false
-mark_none : (m i : ℕ) → get_or (replicate m false) i false ≡ false
-mark_none zero i = refl
-mark_none (suc m) zero = refl
-mark_none (suc m) (suc i) = mark_none m i
 
 -- without edges there is no walk
 no_climb : (es : List Edge) (x y : ℕ) → es ≡ [] → Climb (Joins es) x y → ⊥
@@ -67,7 +61,7 @@ tables_none {W} room set_room n stages x rows parents cycles width wide e some r
         λ j. absurd (Contains-nil (record { child = c; parent = d }) j),
       );
       cycles = λ k h. (
-        λ m. let z : false ≡ true = sym (mark_none stages k) ∙ m in absurd (cc),
+        λ m. let z : false ≡ true = sym (none_marked stages k) ∙ m in absurd (cc),
         λ w. absurd (no_climb (take k []) w.0 w.0 (take_all k [] (omega arith)) w.1),
       );
     }))

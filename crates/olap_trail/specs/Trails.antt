@@ -1,4 +1,4 @@
--- The definitions' decisions behind the program's.
+-- The definitions' decisions that the program's stand for.
 use Rattle.std.specs.Prelude.{List, map}
 use Rattle.olap_trail.specs.Decisions.{Decision}
 use Rattle.olap_trail.specs.declared.decisions.Decision.{Decision as OneDecision}

@@ -18,8 +18,8 @@ pub(crate) struct Ends {
     pub(crate) parent: CatId,
 }
 
-/// The edges that were drawn, and for each number of them what each category leads to by the first so many: so an edge
-/// is taken back by a smaller number.
+/// The edges that were drawn, and for each n what each category leads to by the first n of them: so an edge is taken
+/// back by a smaller number.
 #[derive(Drop)]
 pub(crate) struct Drawn<const W: usize> {
     edges: Vec<Ends>,
@@ -64,7 +64,7 @@ fn meets<const W: usize>(left: &CatSet<W>, right: &CatSet<W>) -> bool
     left.meet(*right).first().is_some()
 }
 
-/// Adds empty sets until there are so many. There is room for them.
+/// Adds empty sets until there are this many. There is room for them.
 fn fill<const W: usize>(rows: &mut Vec<CatSet<W>>, count: usize)
     requires width { IsOfWidth W }
     requires room { count ≤ vec_capacity rows.old }
@@ -77,7 +77,7 @@ fn fill<const W: usize>(rows: &mut Vec<CatSet<W>>, count: usize)
     }
 }
 
-/// Copies the sets of so many categories behind themselves, each grown.
+/// Appends copies of the sets of this many categories, each grown.
 fn draw<const W: usize>(
     rows: &mut [CatSet<W>],
     place: usize,
@@ -99,7 +99,7 @@ fn draw<const W: usize>(
 }
 
 impl<const W: usize> Drawn<W> {
-    /// No edges, among so many categories, and room for so many edges.
+    /// No edges, among this many categories, and room for this many edges.
     pub(crate) fn new(alloc: Global, count: u16, room: u16) -> Result<Drawn<W>, Memory>
         requires width { IsOfWidth W }
         requires wide { count ≤ 64 * W }

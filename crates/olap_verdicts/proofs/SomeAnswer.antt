@@ -10,6 +10,7 @@ use Rattle.olap_proof.specs.Judged.{TextsAreJudged}
 use Rattle.olap_verdicts.specs.Laws.{AnswersExist}
 use Rattle.olap_verdicts.specs.Questions.{ByCertificate}
 
+-- a question about a valid schema has an answer
 pub answers_exist : SourcesHaveCandidates → TextsAreJudged → AnswersExist
 answers_exist candidates judged (ByCertificate f s c sources text) v =
     let k = candidates s c sources v in

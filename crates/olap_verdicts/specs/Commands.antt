@@ -1,6 +1,6 @@
 -- The order in which each command about a certificate judges its files and words.
 --     verify_order        of `verify` and `verify-short`
---     order_named         of the command of that name, by the words after it
+--     order_named         the order of the command of that name with these words, if there is one
 use Rattle.std.specs.Prelude.{ℕ, List, codes, if◌then◌else◌, Option, None}
 use Rattle.std.specs.Str.{bytes_eq}
 use Rattle.olap_base.specs.Limits.{most_certificate_bytes}
@@ -20,7 +20,7 @@ verify_order form words =
     and_then (text_file (codes "certificate") most_certificate_bytes (word 3 words)) (λ text.
     Done (ByCertificate form s c cs text)))))
 
--- of the command of that name
+-- the order of the command of that name with these words, if there is one
 abbrev pub order_named : List ℕ → List (List ℕ) → Option (Order Question)
 order_named name words =
     if bytes_eq name (codes "verify") then at_least 3 (verify_order Long) words

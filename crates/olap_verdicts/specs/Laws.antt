@@ -25,7 +25,7 @@ AnswersAreOne = (q : Question) (s t : Status) (b c : List ℕ) → IsAsked q →
 abbrev pub AnswersExist : Type 0
 AnswersExist = (q : Question) → IsAsked q → (status : Status) × (bytes : List ℕ) × IsAnswer q status bytes
 
--- where the answer is yes, the target is summarizable from the sources
+-- if the answer is yes, the target is summarizable from the sources
 abbrev pub AcceptedIsSummarizable : Type 0
 AcceptedIsSummarizable = (f : Form) (s : Schema) (c : ℕ) (sources text bytes : List ℕ) → IsValidSchema s
     → IsAnswer (ByCertificate f s c sources text) Yes bytes → IsSummarizable s c sources

@@ -2,5 +2,5 @@
 pub mod Questions
 pub mod Commands
 pub mod Laws
--- The inside: what is left of an order behind its schema, and the commands of the code as orders.
+-- The inside: what is left of an order after its schema, and the commands of the code as orders.
 pub mod Seen

@@ -1,5 +1,5 @@
 -- The commands of the code, as the orders of the words that they hold.
---     verify_under    what is left of the order of `verify` behind the schema
+--     verify_under    what is left of the order of `verify` after the schema
 --     seen            the order of a command
 use Rattle.std.specs.Prelude.{ℕ, List, [], ◌∷◌, codes}
 use Rattle.olap_ast.specs.Schema.{Schema}

@@ -1,5 +1,5 @@
 -- The rows of a direct view are within the bounds of stored rows.
-use Rattle.std.proofs.Common.{ℕ, suc, ◌≤◌, List, [], ◌∷◌, length, Bool, true, false, cond, arith, Option, Some, None, IfSome, w64}
+use Rattle.std.proofs.Common.{ℕ, ◌≤◌, List, [], ◌∷◌, length, arith, Option, Some, None, IfSome, w64}
 use Rattle.std.specs.Prelude.{All, filter, filter_map}
 use Rattle.std.specs.List.{cons_option}
 use mir.Val.{SFits}
@@ -10,20 +10,11 @@ use Rattle.olap_base.specs.Reaching.{reaches}
 use Rattle.olap_base.specs.Instance.{Instance}
 use Rattle.olap_base.specs.Limits.{most_count}
 use Rattle.olap_base.specs.Summaries.{Summary}
-use Rattle.olap_base.specs.Views.{Fact, direct_rows, members_of, row_at, total_of_facts, values_at}
+use Rattle.olap_base.specs.Views.{Fact, direct_rows, members, members_of, row_at, total_of_facts, values_at}
 use Rattle.olap_view.specs.Bounds.{IsOfValues}
 use Rattle.olap_view.specs.Stores.{IsStored}
 use Rattle.olap_view.proofs.SummaryLemmas.{of_values_more, total_of_value_list}
-
--- what passes a test isn't longer
-pub filter_short : {A : Type 0} (p : A → Bool) (xs : List A) → length (filter p xs) ≤ length xs
-filter_short p [] = omega arith
-filter_short {A} p (x ∷ xs) = go (p x) (filter_short p xs)
-  where
-    go : (b : Bool) → length (filter p xs) ≤ length xs
-        → length (cond b (x ∷ filter p xs) (filter p xs)) ≤ suc (length xs)
-    go true h = omega arith
-    go false h = omega arith
+use Rattle.olap_base.proofs.ListLemmas.{length-filter}
 
 -- what is of some values is of more
 of_values : (o : Option Summary) (n k : ℕ) → n ≤ k → IfSome o (IsOfValues n) → IfSome o (IsOfValues k)
@@ -31,17 +22,17 @@ of_values None n k h q = q
 of_values (Some s) n k h q = of_values_more n k s h q
 
 -- what some facts come to at y
-pub total_is_of_values : (i : Instance) (facts : List Fact) (y : ℕ) → All (λ f. SFits w64 f.value) facts
-    → IfSome (total_of_facts i facts y) (IsOfValues (length facts))
+pub total_is_of_values : (i : Instance) (facts : List (Fact ℕ)) (y : ℕ) → All (λ f. SFits w64 f.value) facts
+    → IfSome (total_of_facts (members i) facts y) (IsOfValues (length facts))
 total_is_of_values i facts y a =
-    of_values (total_of_facts i facts y) (length (values_at i facts y)) (length facts) short
-    (total_of_value_list (values_at i facts y)
-    (All-map (SFits w64) (λ (f : Fact). f.value) (filter (λ f. reaches i f.member y) facts)
-    (All-filter (λ (f : Fact). reaches i f.member y) (λ (f : Fact). SFits w64 f.value) facts a)))
+    of_values (total_of_facts (members i) facts y) (length (values_at (members i) facts y)) (length facts) short
+    (total_of_value_list (values_at (members i) facts y)
+    (All-map (SFits w64) (λ (f : Fact ℕ). f.value) (filter (λ f. reaches i f.at y) facts)
+    (All-filter (λ (f : Fact ℕ). reaches i f.at y) (λ (f : Fact ℕ). SFits w64 f.value) facts a)))
   where
-    short : length (values_at i facts y) ≤ length facts
-    short = let e = length-map (filter (λ (f : Fact). reaches i f.member y) facts) (λ (f : Fact). f.value) in
-        let l = filter_short (λ (f : Fact). reaches i f.member y) facts in omega arith
+    short : length (values_at (members i) facts y) ≤ length facts
+    short = let e = length-map (filter (λ (f : Fact ℕ). reaches i f.at y) facts) (λ (f : Fact ℕ). f.value) in
+        let l = length-filter (λ (f : Fact ℕ). reaches i f.at y) facts in omega arith
 
 -- what few values come to may be stored
 row_stored : (y n : ℕ) (o : Option Summary) → n ≤ most_count → IfSome o (IsOfValues n) → IfSome (row_at y o) IsStored
@@ -68,7 +59,8 @@ filter_map_all P h [] f = All-nil P
 filter_map_all P h (x ∷ xs) f = cons_all P (h x) (filter_map h xs) (f x) (filter_map_all P h xs f)
 
 -- the rows of a direct view may be stored
-pub direct_stored : (i : Instance) (c : ℕ) (facts : List Fact) → length facts ≤ most_count
-    → All (λ f. SFits w64 f.value) facts → All IsStored (direct_rows i c facts)
-direct_stored i c facts h a = filter_map_all IsStored (λ y. row_at y (total_of_facts i facts y)) (members_of i c)
-    (λ y. row_stored y (length facts) (total_of_facts i facts y) h (total_is_of_values i facts y a))
+pub direct_stored : (i : Instance) (c : ℕ) (facts : List (Fact ℕ)) → length facts ≤ most_count
+    → All (λ f. SFits w64 f.value) facts → All IsStored (direct_rows (members i) c facts)
+direct_stored i c facts h a =
+    filter_map_all IsStored (λ y. row_at y (total_of_facts (members i) facts y)) (members_of i c)
+    (λ y. row_stored y (length facts) (total_of_facts (members i) facts y) h (total_is_of_values i facts y a))

@@ -1,6 +1,5 @@
 -- What a record of a text of stored views says, check by check.
 --     too-many, may-begin         a record that begins a view
---     none-there                  no row of the member was read
 --     some-seen                   something is there, whatever it is seen as
 --     no-view, row-twice, row-is  a row's record
 use Rattle.std.proofs.Common.{◌≡◌, ◌↔◌, ◌<◌, ◌≤◌, ◌==◌, ◌∙◌, ℕ, Bool, true, false, not, List, length, Option, Some, None, IsTrue, is_some, is_none, unwrap_or, if◌then◌else◌, nat_le, refl, sym, ap, subst, arith}
@@ -58,11 +57,6 @@ module _ (g : Graph) (earlier : List Record) (cs : List ℕ) (c : ℕ) (b : Bool
       (rw (other, n) refl, other, omega arith)
 
 -- ---- a row
-
--- what isn't something is nothing
-pub none-there : {A : Type 0} (o : Option A) → is_some o ≡ false → o ≡ None
-none-there None e = refl
-none-there (Some x) e = absurd (cc)
 
 -- something stays something under a map
 pub some-seen : {A B : Type 0} (f : A → B) (o : Option A) → is_some (option_map f o) ≡ is_some o

@@ -5,7 +5,7 @@ mod StoresLemmas
 pub mod SummaryLemmas
 mod ColumnLemmas
 mod TableLemmas
-pub mod ViewingLemmas
+mod ViewingLemmas
 pub mod FittingLemmas
 mod SummaryTableLemmas
 mod WaitingLemmas
@@ -13,14 +13,14 @@ mod TallyLemmas
 mod JoinedWaitingLemmas
 mod MergingLemmas
 mod RollerLemmas
-mod StoredNumbersLemmas
+pub mod StoredNumbersLemmas
 mod StoredRowsLemmas
 mod StoreReadingLemmas
 mod GuessLemmas
 mod JudgingLemmas
-mod StoreTextLemmas
+pub mod StoreTextLemmas
 pub mod FileOrderLemmas
 mod StoreLemmas
-mod StoreLawLemmas
+pub mod StoreLawLemmas
 mod PrintedStoreLemmas
-mod ReadStoreLemmas
+pub mod ReadStoreLemmas

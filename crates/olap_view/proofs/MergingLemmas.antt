@@ -17,12 +17,12 @@ use Rattle.olap_view.specs.Merging.{AreMerged, total_of_rows}
 use Rattle.olap_view.specs.Stores.{IsStored}
 use Rattle.olap_view.specs.SummaryTables.{Summarized, stands_at}
 use Rattle.olap_view.specs.Tables.{IsAmong, when}
-use Rattle.olap_view.proofs.FittingLemmas.{filter_short}
 use Rattle.olap_view.proofs.SummaryLemmas.{joinable, stored_up_to, total_of_stored}
 use Rattle.olap_view.proofs.TallyLemmas.{among}
+use Rattle.olap_base.proofs.ListLemmas.{length-filter}
 
 -- a stored row may be joined
-pub stored_small : (r : Row) → IsStored r → IsJoinable r.summary
+pub stored_small : (r : Row ℕ) → IsStored r → IsJoinable r.summary
 stored_small r q = joinable most_count most_sum r.summary (omega arith) (omega arith) (stored_up_to r q)
 
 -- no rows leave nothing
@@ -31,47 +31,47 @@ pub merged_start : (t : Summarized) → ((y : ℕ) → IsAmong t.instance t.cate
 merged_start t e = record { at = e }
 
 -- one row more adds its summary where its member reaches
-total_more : (i : Instance) (rows : List Row) (r : Row) (y : ℕ)
-    → total_of_rows i (rows ++ r ∷ []) y ≡ total_of_rows i rows y ⊕ when (reaches i r.member y) r.summary
-total_more i rows r y = ap (λ l. total (map (λ (q : Row). q.summary) l))
-    (filter-append (λ (q : Row). reaches i q.member y) rows (r ∷ [])) ∙ go (reaches i r.member y)
+total_more : (i : Instance) (rows : List (Row ℕ)) (r : Row ℕ) (y : ℕ)
+    → total_of_rows i (rows ++ r ∷ []) y ≡ total_of_rows i rows y ⊕ when (reaches i r.at y) r.summary
+total_more i rows r y = ap (λ l. total (map (λ (q : Row ℕ). q.summary) l))
+    (filter-append (λ (q : Row ℕ). reaches i q.at y) rows (r ∷ [])) ∙ go (reaches i r.at y)
   where
-    go : (b : Bool) → total (map (λ (q : Row). q.summary)
-        (filter (λ (q : Row). reaches i q.member y) rows ++ cond b (r ∷ []) []))
+    go : (b : Bool) → total (map (λ (q : Row ℕ). q.summary)
+        (filter (λ (q : Row ℕ). reaches i q.at y) rows ++ cond b (r ∷ []) []))
         ≡ total_of_rows i rows y ⊕ when b r.summary
-    go true = ap total (map-append (λ (q : Row). q.summary) (filter (λ (q : Row). reaches i q.member y) rows) (r ∷ []))
-        ∙ total_push (map (λ (q : Row). q.summary) (filter (λ (q : Row). reaches i q.member y) rows)) r.summary
-    go false = ap (λ l. total (map (λ (q : Row). q.summary) l))
-        (append-nil (filter (λ (q : Row). reaches i q.member y) rows))
+    go true = ap total (map-append (λ (q : Row ℕ). q.summary) (filter (λ (q : Row ℕ). reaches i q.at y) rows) (r ∷ []))
+        ∙ total_push (map (λ (q : Row ℕ). q.summary) (filter (λ (q : Row ℕ). reaches i q.at y) rows)) r.summary
+    go false = ap (λ l. total (map (λ (q : Row ℕ). q.summary) l))
+        (append-nil (filter (λ (q : Row ℕ). reaches i q.at y) rows))
         ∙ sym (⊕_none (total_of_rows i rows y))
 
 -- one row more
-pub merged_more : (rows : List Row) (r : Row) (t u : Summarized) → u.instance ≡ t.instance
+pub merged_more : (rows : List (Row ℕ)) (r : Row ℕ) (t u : Summarized) → u.instance ≡ t.instance
     → u.categories ≡ t.categories
     → ((y : ℕ) → IsAmong t.instance t.categories y
-    → stands_at u y ≡ stands_at t y ⊕ when (reaches t.instance r.member y) r.summary)
+    → stands_at u y ≡ stands_at t y ⊕ when (reaches t.instance r.at y) r.summary)
     → AreMerged rows t → AreMerged (rows ++ r ∷ []) u
 merged_more rows r t u e g j a = record {
   at = λ y m. let k = among t u e g y m in
       j y k
-      ∙ ap (λ o. o ⊕ when (reaches t.instance r.member y) r.summary) (a.at y k)
+      ∙ ap (λ o. o ⊕ when (reaches t.instance r.at y) r.summary) (a.at y k)
       ∙ sym (total_more t.instance rows r y)
       ∙ ap (λ i. total_of_rows i (rows ++ r ∷ []) y) (sym e);
 }
 
 -- the rows at members that reach y
-abbrev reaching : Instance → List Row → ℕ → List Row
-reaching i rows y = filter (λ (r : Row). reaches i r.member y) rows
+abbrev reaching : Instance → List (Row ℕ) → ℕ → List (Row ℕ)
+reaching i rows y = filter (λ (r : Row ℕ). reaches i r.at y) rows
 
 -- what few stored rows come to may be joined
-pub holds_room : (rows : List Row) (t : Summarized) → length rows ≤ most_views * most_members → All IsStored rows
+pub holds_room : (rows : List (Row ℕ)) (t : Summarized) → length rows ≤ most_views * most_members → All IsStored rows
     → AreMerged rows t → (y : ℕ) → IsAmong t.instance t.categories y → IfSome (stands_at t y) IsJoinable
 holds_room rows t h q a y m =
     subst (λ (o : Option Summary). IfSome o IsJoinable) (sym (a.at y m))
-    (go (length (reaching t.instance rows y)) (filter_short (λ (r : Row). reaches t.instance r.member y) rows)
+    (go (length (reaching t.instance rows y)) (length-filter (λ (r : Row ℕ). reaches t.instance r.at y) rows)
     (total_of_rows t.instance rows y)
     (total_of_stored (reaching t.instance rows y)
-    (All-filter (λ (r : Row). reaches t.instance r.member y) IsStored rows q)))
+    (All-filter (λ (r : Row ℕ). reaches t.instance r.at y) IsStored rows q)))
   where
     go : (n : ℕ) → n ≤ length rows → (o : Option Summary) → IfSome o (IsUpTo (n * most_count) (n * most_sum))
         → IfSome o IsJoinable

@@ -1,6 +1,5 @@
 -- Printing a view row by row, and reading its text back.
-use Rattle.std.proofs.Common.{◌≡◌, ◌+◌, ◌<◌, ◌++◌, ◌∷◌, ◌∙◌, ℕ, List, [], length, map, take, get_or, suc, zero, append_assoc, arith, sym, ap}
-use Rattle.std.specs.Prelude.{All}
+use Rattle.std.proofs.Common.{◌≡◌, ◌+◌, ◌<◌, ◌++◌, ◌∷◌, ◌∙◌, ℕ, List, [], length, map, take, get_or, append_assoc, arith, sym, ap}
 use Rattle.std.proofs.lemmas.List.Elements.{All-map}
 use Rattle.std.proofs.lemmas.List.{map-append, take_more}
 use Rattle.olap_base.specs.Instance.{Instance}
@@ -11,9 +10,10 @@ use Rattle.olap_records.proofs.ReadingBack.{text-back, texts-push}
 use Rattle.olap_view.specs.Seen.{row_of, rows_of}
 use Rattle.olap_view.specs.ViewText.{fields_in, header, records_of_view, view_text}
 use Rattle.olap_view.specs.declared.views.Row as told
+use Rattle.olap_instance.proofs.Passing.{all-full}
 
--- one row more behind what was there
-pub row_more : (first : List ℕ) (top : List (List ℕ)) (fields : Row → List (List ℕ)) (rows : List told.Row) (k : ℕ)
+-- one row more after what was there
+pub row_more : (first : List ℕ) (top : List (List ℕ)) (fields : Row ℕ → List (List ℕ)) (rows : List told.Row) (k : ℕ)
     (d : told.Row) (out new : List ℕ) → k < length rows
     → out ≡ first ++ text_of_rows (top ∷ map fields (rows_of (take k rows)))
     → new ≡ out ++ text_of_row (fields (row_of (get_or rows k d)))
@@ -30,14 +30,8 @@ row_more first top fields rows k d out new l eo en =
     ∙ ap (λ (t : List ℕ). first ++ t) (sym (texts-push (top ∷ before) (fields (row_of row)))
     ∙ ap (λ (t : List (List (List ℕ))). text_of_rows (top ∷ t)) (sym more))
 
--- each record has a field, where the first has and those behind it have
-all-full : (top : List (List ℕ)) (rows : List (List (List ℕ))) → 0 < length top → All (λ r. 0 < length r) rows
-    → All (λ r. 0 < length r) (top ∷ rows)
-all-full top rows h t zero d l = h
-all-full top rows h t (suc k) d l = t k d (omega arith)
-
 -- the text of a view reads back
-pub view-reads : (i : Instance) (v : View) → records_of (view_text i v) ≡ records_of_view i v
+pub view-reads : (i : Instance) (v : View ℕ ℕ) → records_of (view_text i v) ≡ records_of_view i v
 view-reads i v =
     text-back (records_of_view i v)
     (all-full header (map (fields_in i) v.rows) (omega arith)

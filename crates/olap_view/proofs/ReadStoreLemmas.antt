@@ -21,7 +21,7 @@ use Rattle.olap_base.specs.declared.refusals.Fault.{Fault}
 use Rattle.olap_base.specs.Summaries.{Summary}
 use Rattle.olap_base.specs.Views.{View, members_of, row_at}
 use Rattle.olap_base.proofs.ListLemmas.{first_true, second_true}
-use Rattle.olap_facts.proofs.FittingLemmas.{told-where, value-fits}
+use Rattle.olap_facts.proofs.FittingLemmas.{value-fits}
 use Rattle.olap_graph.specs.Lookups.{category_named, names_of}
 use Rattle.olap_numerals.specs.Values.{is_numeral, value_of}
 use Rattle.olap_records.specs.Faults.{field, first_fault, or_after}
@@ -35,41 +35,36 @@ use Rattle.olap_view.specs.declared.kinds.StoreKind.{StoreKind}
 use Rattle.olap_view.proofs.FileOrderLemmas.{all-rows, each-in-order, store-of}
 use Rattle.olap_view.proofs.StoreReadingLemmas.{begun-more, begun-same, none-same}
 use Rattle.olap_records.specs.Tables.{begins_with, or_read}
+use Rattle.std.proofs.lemmas.Bool.{leb-true, ltb-true}
+use Rattle.olap_base.proofs.GeneralLemmas.{none_past}
+use Rattle.std.proofs.lemmas.Option.{cond_some}
 
 -- ---- numbers
-
--- what a test of numbers says
-at-most : (a b : ℕ) → nat_le a b ≡ true → a ≤ b
-at-most a b t = grind (arith, nat_tests)
-
--- the same, strictly
-below : (a b : ℕ) → nat_lt a b ≡ true → a < b
-below a b t = grind (arith, nat_tests)
 
 -- a count that is spelled is within the bounds
 count-fits : (text : List ℕ) (n : ℕ) → count_of text ≡ Some n → (1 ≤ n) × (n ≤ most_count)
 count-fits text n e =
     let m = digits_value 10 text in
-    let t = told-where (is_numeral text && (nat_lt 0 m && nat_le m most_count)) m n e in
+    let t = cond_some (is_numeral text && (nat_lt 0 m && nat_le m most_count)) m n e in
     let u = second_true (is_numeral text) (nat_lt 0 m && nat_le m most_count) t.0 in
-    let a = below 0 m (first_true (nat_lt 0 m) (nat_le m most_count) u) in
-    let b = at-most m most_count (second_true (nat_lt 0 m) (nat_le m most_count) u) in
+    let a = ltb-true 0 m (first_true (nat_lt 0 m) (nat_le m most_count) u) in
+    let b = leb-true m most_count (second_true (nat_lt 0 m) (nat_le m most_count) u) in
     subst (λ k. (1 ≤ k) × (k ≤ most_count)) t.1 (omega arith, b)
 
 -- so is what passes the test of a sum
-is-sum-fits : (z : ℤ) → is_sum z ≡ true → (neg_ℤ (pos most_sum) ≤ℤ z) × (z ≤ℤ pos most_sum)
-is-sum-fits (pos n) t = let l = at-most n most_sum t in (omega (arith, ints), omega (arith, ints))
-is-sum-fits (negsuc n) t = let l = below n most_sum t in (omega (arith, ints), omega (arith, ints))
+pub is-sum-fits : (z : ℤ) → is_sum z ≡ true → (neg_ℤ (pos most_sum) ≤ℤ z) × (z ≤ℤ pos most_sum)
+is-sum-fits (pos n) t = let l = leb-true n most_sum t in (omega (arith, ints), omega (arith, ints))
+is-sum-fits (negsuc n) t = let l = ltb-true n most_sum t in (omega (arith, ints), omega (arith, ints))
 
 -- and a sum that is spelled
 sum-fits : (text : List ℕ) (n : ℤ) → sum_of text ≡ Some n → (neg_ℤ (pos most_sum) ≤ℤ n) × (n ≤ℤ pos most_sum)
 sum-fits text n e =
     let z = signed_digits_value 10 text in
-    let t = told-where (is_numeral (without_leading_sign text) && is_sum z) z n e in
+    let t = cond_some (is_numeral (without_leading_sign text) && is_sum z) z n e in
     subst (λ (k : ℤ). (neg_ℤ (pos most_sum) ≤ℤ k) × (k ≤ℤ pos most_sum)) t.1
     (is-sum-fits z (second_true (is_numeral (without_leading_sign text)) (is_sum z) t.0))
 
--- the four numbers of a summary, where there are four
+-- the four numbers of a summary, if there are four
 record AreFour (n : Option ℕ) (s l g : Option ℤ) (m : Summary) : Type 0 where
   count : n ≡ Some m.count
   sum : s ≡ Some m.sum
@@ -120,11 +115,6 @@ said-fits i rows y = found (find (is_row_of i y) rows)
 
 -- ---- categories
 
--- no fault is told where none of the tests holds
-passed : {K : Type 0} (b : Bool) (k : K) (o : Option K) → cond b (Some k) o ≡ None → (b ≡ false) × (o ≡ None)
-passed true k o e = absurd (cc)
-passed false k o e = (refl, e)
-
 -- what fails the test of at most is more
 more-than : (a b : ℕ) → nat_le a b ≡ false → suc b ≤ a
 more-than a b e = grind (arith, nat_tests)
@@ -140,8 +130,8 @@ module _ (g : Graph) (i : Instance) where
       → beginning_fault g before (category_number g r) ≡ None → AreFew (before ++ r ∷ [])
   new-begins before r a b e =
       let c = category_number g r in
-      let p = passed (list_any (λ d. d == c) (begun g before)) _ _ e in
-      let q = passed (nat_le most_views (length (begun g before))) _ _ p.1 in
+      let p = none_past (list_any (λ d. d == c) (begun g before)) _ _ e in
+      let q = none_past (nat_le most_views (length (begun g before))) _ _ p.1 in
       let l = more-than most_views (length (begun g before)) q.0 in
       let more = begun-more g before r b in record {
         few = let n = ap length more in omega (arith, l, n, length-append (begun g before) (c ∷ []));
@@ -153,8 +143,8 @@ module _ (g : Graph) (i : Instance) where
   one-more : (before : List Record) (r : Record) → AreFew before → store_fault g i before r ≡ None
       → AreFew (before ++ r ∷ [])
   one-more before r a e =
-      let p = passed (not (length r == 6)) _ _ e in
-      let q = passed _ _ _ p.1 in
+      let p = none_past (not (length r == 6)) _ _ e in
+      let q = none_past _ _ _ p.1 in
       go (is_beginning r) refl q.1
     where
       go : (b : Bool) → is_beginning r ≡ b
@@ -211,7 +201,7 @@ module _ (g : Graph) (i : Instance) (rows : List Record) where
         store = store-of i (said_of i rows) cs a.few a.differ;
         fit = All-map Fits (view_by i (said_of i rows)) cs (λ k d l. all-rows IsStored (said_of i rows)
             (members_of i (get_or cs k d)) (λ y c. said-fits i rows y));
-        categories = All-map (λ (v : View). IsCategory g v.category) (view_by i (said_of i rows)) cs
+        categories = All-map (λ (v : View ℕ ℕ). IsCategory g v.target) (view_by i (said_of i rows)) cs
             (All-map (IsCategory g) (category_number g) (filter is_beginning rows)
             (λ k d l. number-is g (get_or (filter is_beginning rows) k d)));
         at_members = λ k d l m e w. ((order k d l).members m e w).0;

@@ -12,7 +12,7 @@ use Rattle.olap_base.specs.Graph.{Graph}
 use Rattle.olap_base.specs.Instance.{Instance}
 use Rattle.olap_base.specs.Limits.{most_facts}
 use Rattle.olap_base.specs.Refusing.{IsRefusedBy}
-use Rattle.olap_base.specs.Views.{Fact, View, direct_view}
+use Rattle.olap_base.specs.Views.{Fact, View, direct_view, members}
 use Rattle.olap_base.specs.declared.refusals.Fault.{Fault}
 use Rattle.olap_base.specs.declared.refusals.Refusal.{Refusal}
 use Rattle.olap_records.specs.Standing.{records_fed, unmarked}
@@ -43,17 +43,17 @@ whole-taken g i categories piece text same (Err e) h =
     (append-nil piece ∙ same) (h [])
 
 -- a tally that stood for some facts has these facts more
-pub record IsAdded (before after : Tallied) (facts more : List Fact) : Type 0 where
+pub record IsAdded (before after : Tallied) (facts more : List (Fact ℕ)) : Type 0 where
   pub instance : after.instance ≡ before.instance
   pub categories : after.categories ≡ before.categories
   pub stands : StandsFor after (facts ++ more)
 
 -- none is added
-pub none-added : (t : Tallied) (facts : List Fact) → StandsFor t facts → IsAdded t t facts []
+pub none-added : (t : Tallied) (facts : List (Fact ℕ)) → StandsFor t facts → IsAdded t t facts []
 none-added t facts s = record {
   instance = refl;
   categories = refl;
-  stands = subst (λ (fs : List Fact). StandsFor t fs) (sym (append-nil facts)) s;
+  stands = subst (λ (fs : List (Fact ℕ)). StandsFor t fs) (sym (append-nil facts)) s;
 }
 
 -- there is no last fact
@@ -64,7 +64,7 @@ no-fact (Some f) none = absurd (none f refl)
 module _ (g : Graph) (i : Instance) (categories fed : List ℕ) (feed : Feeding) (tally : Tallied)
     (inside : IsRoller (rolling feed tally)) (h : HasTaken g i categories fed (rolling feed tally)) where
   -- a piece more
-  pub taken-more : (piece : List ℕ) (facts : List Fact) (new : Feeding) (after : Tallied)
+  pub taken-more : (piece : List ℕ) (facts : List (Fact ℕ)) (new : Feeding) (after : Tallied)
       → IsSameSetting feed new → after.categories ≡ tally.categories
       → Fed new (fed ++ piece) (h.facts ++ facts) → StandsFor after (h.facts ++ facts)
       → HasTaken g i categories (fed ++ piece) (rolling new after)
@@ -81,13 +81,14 @@ module _ (g : Graph) (i : Instance) (categories fed : List ℕ) (feed : Feeding)
   pub refused-by : (text : List ℕ) (e : Refusal (Fault FactKind)) → IsRefusedBy e (fed_read feed text)
       → IsRefusedBy e (facts_read_within most_facts g i (records_fed text))
   refused-by text e r =
-      subst (λ (t : Result (List Fact) (Fault FactKind)). IsRefusedBy e t)
+      subst (λ (t : Result (List (Fact ℕ)) (Fault FactKind)). IsRefusedBy e t)
       (read-by g i feed h.graph h.instance inside.most text) r
 
   -- at the end the tally gives the views of the text
-  pub rolled-up : (facts : List Fact) (after : Tallied) (views : List View)
+  pub rolled-up : (facts : List (Fact ℕ)) (after : Tallied) (views : List (View ℕ ℕ))
       → fed_read feed fed ≡ Ok (h.facts ++ facts) → IsAdded tally after h.facts facts
-      → ((all : List Fact) → StandsFor after all → views ≡ map (direct_view after.instance all) after.categories)
+      → ((all : List (Fact ℕ)) → StandsFor after all → views
+      ≡ map (direct_view (members after.instance) all) after.categories)
       → AreRolledUp g i (records_fed fed) categories views
   rolled-up facts after views read added v =
       let all = h.facts ++ facts in
@@ -96,6 +97,6 @@ module _ (g : Graph) (i : Instance) (categories fed : List ℕ) (feed : Feeding)
         facts = all;
         read = sym (read-by g i feed h.graph h.instance inside.most fed) ∙ read;
         direct = v all added.stands
-            ∙ ap (λ (j : Instance). map (direct_view j all) after.categories) over
-            ∙ ap (λ (cs : List ℕ). map (direct_view i all) cs) (added.categories ∙ h.categories_are);
+            ∙ ap (λ (j : Instance). map (direct_view (members j) all) after.categories) over
+            ∙ ap (λ (cs : List ℕ). map (direct_view (members i) all) cs) (added.categories ∙ h.categories_are);
       }

@@ -14,12 +14,12 @@ pub rows_more_is : (rows : List told_row.Row) (k : ℕ) (d : told_row.Row) → k
 rows_more_is rows k d h = ap rows_of (take_more rows k d h) ∙ map-append row_of (take k rows) (get_or rows k d ∷ [])
 
 -- what holds of each row holds of the k-th
-pub each_row : (P : Row → Type 0) (rows : List told_row.Row) (k : ℕ) (d : told_row.Row) → k < length rows
+pub each_row : (P : Row ℕ → Type 0) (rows : List told_row.Row) (k : ℕ) (d : told_row.Row) → k < length rows
     → All P (rows_of rows) → P (row_of (get_or rows k d))
 each_row P rows k d h a = subst P (get_or-map row_of rows k d (row_of d) h) (a k (row_of d) (simp length-map h))
 
 -- what holds of each view holds of the k-th
-pub each_view : (P : View → Type 0) (views : List told_view.View) (k : ℕ) (v : told_view.View) → k < length views
+pub each_view : (P : View ℕ ℕ → Type 0) (views : List told_view.View) (k : ℕ) (v : told_view.View) → k < length views
     → v ≡ get_or views k v → All P (each_view_of views) → P (view_of v)
 each_view P views k v h e a = subst (λ (w : told_view.View). P (view_of w)) (sym e)
     (subst P (get_or-map view_of views k v (view_of v) h) (a k (view_of v) (simp length-map h)))

@@ -24,7 +24,7 @@ count-back n l h =
     rw (t, d.1, a, b) refl
 
 -- a sum within the bounds may be stored
-in-bounds : (z : ℤ) → neg_ℤ (pos most_sum) ≤ℤ z → z ≤ℤ pos most_sum → is_sum z ≡ true
+pub in-bounds : (z : ℤ) → neg_ℤ (pos most_sum) ≤ℤ z → z ≤ℤ pos most_sum → is_sum z ≡ true
 in-bounds (pos n) a b = let l : n ≤ most_sum = omega (arith, ints) in grind (arith, nat_tests)
 in-bounds (negsuc n) a b = let l : n < most_sum = omega (arith, ints) in grind (arith, nat_tests)
 

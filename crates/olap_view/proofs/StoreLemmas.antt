@@ -16,12 +16,13 @@ use Rattle.olap_view.specs.Stores.{Fits, IsInFileOrder, IsSoundStore, IsStored}
 use Rattle.olap_view.specs.Tables.{view_by}
 use Rattle.olap_view.specs.declared.stored_rows.StoredRows.{StoredRows}
 use Rattle.olap_view.proofs.FileOrderLemmas.{all-rows, each-in-order, store-of}
-use Rattle.olap_view.proofs.ViewingLemmas.{member_is, rows_same}
+use Rattle.olap_view.proofs.ViewingLemmas.{rows_same}
+use Rattle.olap_base.proofs.ViewLemmas.{members_of_is}
 
 module _ (g : Graph) (i : Instance) (rows : List Record) (t : StoredRows) (h : Tells g i rows t) where
   -- the view of c is the one that the records stand for
   view-told : (c : ℕ) → view_by i (stored_at t) c ≡ view_read i rows c
-  view-told c = ap (λ rs. record { category = c; rows = rs })
+  view-told c = ap (λ rs. record { target = c; rows = rs })
       (rows_same i c (λ y. row_at y (stored_at t y)) (row_read i rows)
       (λ y m. ap (row_at y) (h.at y m.0)))
 
@@ -37,7 +38,7 @@ module _ (g : Graph) (i : Instance) (rows : List Record) (t : StoredRows) (h : T
   -- a view of rows that are stored may be stored
   stored-in : (c : ℕ) → Fits (view_by i (stored_at t) c)
   stored-in c = all-rows IsStored (stored_at t) (members_of i c)
-      (λ y k. stored y (stored_at t y) (h.stored y (member_is i c y k).0))
+      (λ y k. stored y (stored_at t y) (h.stored y (members_of_is i c y k).0))
     where
       stored : (y : ℕ) (o : Option Summary) → IfSome o (IsStoredAt y) → IfSome (row_at y o) IsStored
       stored y None e = e
@@ -54,7 +55,7 @@ module _ (g : Graph) (i : Instance) (rows : List Record) (t : StoredRows) (h : T
         (let b = ap length h.categories in let f = h.few in omega arith)
         (subst (AllPairs ◌≢◌) (sym h.categories) h.differ);
     fit = All-map Fits (view_by i (stored_at t)) (begun_in t) (λ k d l. stored-in (get_or (begun_in t) k d));
-    categories = All-map (λ (v : View). IsCategory g v.category) (view_by i (stored_at t)) (begun_in t)
+    categories = All-map (λ (v : View ℕ ℕ). IsCategory g v.target) (view_by i (stored_at t)) (begun_in t)
         (subst (All (IsCategory g)) (sym h.categories) h.known);
     at_members = λ k d l m e w. ((views-ordered k d l).members m e w).0;
   }

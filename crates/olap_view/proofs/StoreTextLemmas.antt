@@ -24,14 +24,15 @@ use Rattle.olap_view.specs.declared.views.Row as told_row
 use Rattle.olap_view.specs.declared.views.View as told_view
 use Rattle.olap_records.specs.Tables.{begins_with}
 
--- the text of records behind others
-texts-append : (xs ys : List (List (List ℕ))) → text_of_rows (xs ++ ys) ≡ text_of_rows xs ++ text_of_rows ys
+-- the text of records after others
+pub texts-append : (xs ys : List (List (List ℕ))) → text_of_rows (xs ++ ys) ≡ text_of_rows xs ++ text_of_rows ys
 texts-append [] ys = refl
 texts-append (x ∷ xs) ys = ap (λ (t : List ℕ). text_of_row x ++ t) (texts-append xs ys)
     ∙ sym (append_assoc (text_of_row x) (text_of_rows xs) (text_of_rows ys))
 
 -- one view more
-pub stored-view : (top : List (List ℕ)) (records : View → List (List (List ℕ))) (views : List told_view.View) (k : ℕ)
+pub stored-view : (top : List (List ℕ)) (records : View ℕ ℕ → List (List (List ℕ))) (views : List told_view.View)
+    (k : ℕ)
     (view : told_view.View) (shown : List (List (List ℕ))) (out new : List ℕ) → k < length views
     → view ≡ get_or views k view
     → out ≡ text_of_rows (top ∷ flat_map records (each_view_of (take k views)))
@@ -52,12 +53,13 @@ stored-view top records views k view shown out new l e eo en es =
 -- ---- members
 
 -- what holds of the members of rows holds of those of the structs that stand for them
-pub told-members : (n : ℕ) (rows : List told_row.Row) → All (λ r. r.member < n) (rows_of rows)
+pub told-members : (n : ℕ) (rows : List told_row.Row) → All (λ r. r.at < n) (rows_of rows)
     → All (λ r. r.member.0 < n) rows
-told-members n rows a = λ k d h. each_row (λ r. r.member < n) rows k d h a
+told-members n rows a = λ k d h. each_row (λ r. r.at < n) rows k d h a
 
 -- ---- read back
 
+-- the record has a field
 abbrev Full : List (List ℕ) → Type 0
 Full r = 0 < length r
 
@@ -73,18 +75,18 @@ full-append (x ∷ xs) ys a b = full-cons x (xs ++ ys) (a 0 x (omega arith))
     (full-append xs ys (λ k d l. a (suc k) d (omega arith)) b)
 
 -- those of a view
-full-one : (g : Graph) (i : Instance) (v : View) → All Full (records_of_one g i v)
+full-one : (g : Graph) (i : Instance) (v : View ℕ ℕ) → All Full (records_of_one g i v)
 full-one g i v = full-cons (beginning _) (map (λ r. _ ∷ fields_in i r) v.rows) (omega arith)
     (All-map Full (λ r. _ ∷ fields_in i r) v.rows (λ k d l. omega arith))
 
 -- those of several views
-full-each : (g : Graph) (i : Instance) (views : List View) → All Full (flat_map (records_of_one g i) views)
+full-each : (g : Graph) (i : Instance) (views : List (View ℕ ℕ)) → All Full (flat_map (records_of_one g i) views)
 full-each g i [] = λ k d l. absurd (omega arith)
 full-each g i (v ∷ views) = full-append (records_of_one g i v) (flat_map (records_of_one g i) views) (full-one g i v)
     (full-each g i views)
 
 -- the text of stored views reads back
-pub store-reads : (g : Graph) (i : Instance) (views : List View)
+pub store-reads : (g : Graph) (i : Instance) (views : List (View ℕ ℕ))
     → records_of (store_text g i views) ≡ records_of_store g i views
 store-reads g i views =
     text-back (records_of_store g i views)

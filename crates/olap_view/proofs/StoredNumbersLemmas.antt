@@ -1,7 +1,7 @@
 -- The numbers that std's parse gives, by the words of this crate.
 --     digits-parses, digits-of-text   a number of 64 bits
 --     wide-decides                    the test of 128 bits
-use Rattle.std.proofs.Common.{◌≡◌, ◌<◌, ◌==◌, ◌^◌, ◌&&◌, ℕ, ℤ, pos, negsuc, Bool, true, false, List, Result, Option, Some, None, if◌then◌else◌, refl, nat_lt, slice_index}
+use Rattle.std.proofs.Common.{◌≡◌, ◌<◌, ◌==◌, ◌^◌, ◌&&◌, ℕ, ℤ, pos, negsuc, false, List, Result, None, refl, nat_lt, slice_index}
 use Rattle.std.specs.Bool.{Decides}
 use Rattle.std.specs.Result.{result_ok}
 use Rattle.std.specs.Int.RustNames.{FitsSigned}
@@ -11,21 +11,21 @@ use Rattle.std.proofs.lemmas.Bool.Decides.{Decides-and, Decides-like, Decides-lt
 use Rattle.std.proofs.lemmas.Fmt.{IsAscii-from_digits}
 use Rattle.std.proofs.lemmas.Str.{IsUtf8-from_ascii}
 use Rattle.olap_numerals.specs.Values.{is_numeral}
-use Rattle.olap_numerals.proofs.Spelling.{numeral-decides, ok-where}
+use Rattle.olap_numerals.proofs.Spelling.{numeral-decides, ok-where, none-unless}
 use Rattle.olap_view.specs.NumbersInside.{digits_of, is_wide}
 use mir.Syntax.{w128}
 
 -- ---- 64 bits
 
 -- the test of digits decides std's words
-digits-decides : (bs : List ℕ) → Decides (is_numeral bs && nat_lt (digits_value 10 bs) (2 ^ 64))
+pub digits-decides : (bs : List ℕ) → Decides (is_numeral bs && nat_lt (digits_value 10 bs) (2 ^ 64))
     (IsNumeral 10 bs × (digits_value 10 bs < 2 ^ 64))
 digits-decides bs =
     Decides-and (is_numeral bs) (nat_lt (digits_value 10 bs) (2 ^ 64)) (numeral-decides bs)
     (Decides-ltb (digits_value 10 bs) (2 ^ 64))
 
 -- with no plus first the whole text is parsed
-without-plus : (bs : List ℕ) → (slice_index bs 0 == 43) ≡ false → without_leading_plus bs ≡ bs
+pub without-plus : (bs : List ℕ) → (slice_index bs 0 == 43) ≡ false → without_leading_plus bs ≡ bs
 without-plus bs e = rw e refl
 
 -- what std's parse gives of a text with no plus is the number that its digits spell
@@ -34,12 +34,6 @@ pub digits-parses : {E : Type 0} (bs : List ℕ) (r : Result ℕ E) → (slice_i
 digits-parses bs r e h =
     ok-where r (is_numeral bs && nat_lt (digits_value 10 bs) (2 ^ 64)) (digits_value 10 bs)
     (rw (without-plus bs e) at h) (digits-decides bs)
-
--- nothing, where the test can't hold
-none-unless : {T : Type 0} {P : Type 0} (t : Bool) (v : T) → Decides t P → ¬ P
-    → ◌≡◌ {A = Option T} None (if t then Some v else None)
-none-unless true v d n = absurd (n (d.0 refl))
-none-unless false v d n = refl
 
 -- what is no text spells no number
 pub digits-of-text : (bs : List ℕ) → ¬ (IsUtf8 bs) → None ≡ digits_of bs

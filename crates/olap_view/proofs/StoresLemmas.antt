@@ -13,7 +13,7 @@ use Rattle.olap_view.specs.Stores.{chosen, chosen_from}
 use Rattle.olap_view.specs.declared.views.View as told
 
 -- the chosen of the views with one more
-chosen_more : (k : ℕ) (views : List View) (v : View) (mask : ℕ) → chosen_from k (views ++ v ∷ []) mask
+chosen_more : (k : ℕ) (views : List (View ℕ ℕ)) (v : View ℕ ℕ) (mask : ℕ) → chosen_from k (views ++ v ∷ []) mask
     ≡ chosen_from k views mask ++ cond (bit_at mask (k + length views) == 1) (v ∷ []) []
 chosen_more k [] v mask = let e : k ≡ k + 0 = omega arith in ap (λ n. cond (bit_at mask n == 1) (v ∷ []) []) e
 chosen_more k (x ∷ views) v mask =
@@ -23,13 +23,13 @@ chosen_more k (x ∷ views) v mask =
     (chosen_more (k + 1) views v mask
     ∙ ap (λ n. chosen_from (k + 1) views mask ++ cond (bit_at mask n == 1) (v ∷ []) []) e)
   where
-    go : (b : Bool) (more before last : List View) → more ≡ before ++ last
+    go : (b : Bool) (more before last : List (View ℕ ℕ)) → more ≡ before ++ last
         → cond b (x ∷ more) more ≡ cond b (x ∷ before) before ++ last
     go true more before last e = ap (λ l. x ∷ l) e
     go false more before last e = e
 
 -- the rows of chosen views
-abbrev pub rows_chosen : List View → ℕ → List Row
+abbrev pub rows_chosen : List (View ℕ ℕ) → ℕ → List (Row ℕ)
 rows_chosen views mask = flat_map (λ v. v.rows) (chosen views mask)
 
 module _ (views : List told.View) (k : ℕ) (v : told.View) (mask : ℕ) (h : k < length views)
@@ -52,31 +52,31 @@ module _ (views : List told.View) (k : ℕ) (v : told.View) (mask : ℕ) (h : k 
   -- the k-th view's bit is in the mask
   pub rows_chosen_more : (bit_at mask k == 1) ≡ true → rows_chosen (each_view_of (take (k + 1) views)) mask
       ≡ rows_chosen (each_view_of (take k views)) mask ++ rows_of v.rows
-  rows_chosen_more t = ap (flat_map (λ (w : View). w.rows)) (last_is true t)
-      ∙ sym (flat_map_more (λ (w : View). w.rows) [] (chosen (each_view_of (take k views)) mask) (view_of v))
+  rows_chosen_more t = ap (flat_map (λ (w : View ℕ ℕ). w.rows)) (last_is true t)
+      ∙ sym (flat_map_more (λ (w : View ℕ ℕ). w.rows) [] (chosen (each_view_of (take k views)) mask) (view_of v))
 
   -- it isn't
   pub rows_chosen_same : (bit_at mask k == 1) ≡ false → rows_chosen (each_view_of (take (k + 1) views)) mask
       ≡ rows_chosen (each_view_of (take k views)) mask
-  rows_chosen_same t = ap (flat_map (λ (w : View). w.rows))
+  rows_chosen_same t = ap (flat_map (λ (w : View ℕ ℕ). w.rows))
       (last_is false t ∙ append-nil (chosen (each_view_of (take k views)) mask))
 
 -- what holds of the member of each row holds of a member that is found among them
-found_below : (n : ℕ) (rows : List Row) → All (λ r. r.member < n) rows → (q : ℕ)
-    → list_any (λ m. q == m) (map (λ r. r.member) rows) ≡ true → q < n
+found_below : (n : ℕ) (rows : List (Row ℕ)) → All (λ r. r.at < n) rows → (q : ℕ)
+    → list_any (λ m. q == m) (map (λ r. r.at) rows) ≡ true → q < n
 found_below n [] a q t = cc t
-found_below n (r ∷ rows) a q t = go (q == r.member) refl t (found_below n rows (λ k d l. a (suc k) d (omega arith)) q)
+found_below n (r ∷ rows) a q t = go (q == r.at) refl t (found_below n rows (λ k d l. a (suc k) d (omega arith)) q)
   where
-    go : (b : Bool) → (q == r.member) ≡ b → (b || list_any (λ m. q == m) (map (λ r. r.member) rows)) ≡ true
-        → (list_any (λ m. q == m) (map (λ r. r.member) rows) ≡ true → q < n) → q < n
-    go true e t f = let s : q ≡ r.member = (Decides-eqb q r.member).0 e in let i = a 0 r (omega arith) in omega arith
+    go : (b : Bool) → (q == r.at) ≡ b → (b || list_any (λ m. q == m) (map (λ r. r.at) rows)) ≡ true
+        → (list_any (λ m. q == m) (map (λ r. r.at) rows) ≡ true → q < n) → q < n
+    go true e t f = let s : q ≡ r.at = (Decides-eqb q r.at).0 e in let i = a 0 r (omega arith) in omega arith
     go false e t f = f t
 
 -- rows at different members below n are n at most
-pub few_rows : (n : ℕ) (rows : List Row) → AllPairs ◌≢◌ (map (λ r. r.member) rows) → All (λ r. r.member < n) rows
+pub few_rows : (n : ℕ) (rows : List (Row ℕ)) → AllPairs ◌≢◌ (map (λ r. r.at) rows) → All (λ r. r.at < n) rows
     → length rows ≤ n
 few_rows n rows d a =
-    let l = length-le_from_distinct_below (map (λ r. r.member) rows) n
-    (IsDistinct-from_AllPairs Decides-eqb (map (λ r. r.member) rows) d) (found_below n rows a) in
-    let m = length-map rows (λ r. r.member) in
+    let l = length-le_from_distinct_below (map (λ r. r.at) rows) n
+    (IsDistinct-from_AllPairs Decides-eqb (map (λ r. r.at) rows) d) (found_below n rows a) in
+    let m = length-map rows (λ r. r.at) in
     omega arith

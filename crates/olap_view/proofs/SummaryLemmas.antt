@@ -3,22 +3,17 @@
 --     joined_up_to, joined_of_values   two summaries together
 --     total_of_stored                  the total of stored rows
 --     total_of_value_list              the total of values of 64 bits
---     in_64_bits                       what is made of two numbers, from their bits
-use Rattle.std.proofs.Common.{◌≡◌, ℕ, suc, ◌+◌, ◌*◌, ◌^◌, ◌≤◌, List, [], ◌∷◌, length, map, Bool, true, false, cond, arith, ℤ, Option, Some, None, IfSome, w64, to_z, of_z}
+use Rattle.std.proofs.Common.{ℕ, suc, ◌+◌, ◌*◌, ◌^◌, ◌≤◌, List, [], ◌∷◌, length, map, arith, ℤ, Option, Some, None, IfSome, w64}
 use Rattle.std.specs.Prelude.{All, int_lt}
 use mir.Val.{SFits}
-use Rattle.std.proofs.lemmas.Int.{ints, to_z-of_z}
+use Rattle.std.proofs.lemmas.Int.{ints}
 use Rattle.std.proofs.lemmas.List.Elements.{All-head, All-tail}
 use Rattle.olap_base.specs.Limits.{most_count, most_sum}
 use Rattle.olap_base.specs.Summaries.{Summary, joined, of_value, total, ◌⊕◌}
 use Rattle.olap_base.specs.Views.{Row}
 use Rattle.olap_view.specs.Bounds.{IsJoinable, IsOfValues, IsUpTo}
 use Rattle.olap_view.specs.Stores.{IsStored}
-
--- a function of two numbers of 64 bits sees them as they are
-pub in_64_bits : (g : ℤ → ℤ → ℤ) (x y : ℤ) → SFits w64 x → SFits w64 y
-    → g (to_z w64 (of_z w64 x)) (to_z w64 (of_z w64 y)) ≡ g x y
-in_64_bits g x y p q = rw (to_z-of_z w64 x p, to_z-of_z w64 y q)
+use Rattle.olap_base.proofs.GeneralLemmas.{either_fits}
 
 -- ---- counts and sums
 
@@ -44,15 +39,15 @@ joined_up_to n m k l s t u v =
 -- ---- rows that are stored
 
 -- a stored row is within its bounds
-pub stored_up_to : (r : Row) → IsStored r → IsUpTo most_count most_sum r.summary
+pub stored_up_to : (r : Row ℕ) → IsStored r → IsUpTo most_count most_sum r.summary
 stored_up_to r q = let a = q.few in record { count = omega arith; sum_from = q.sum_from; sum_to = q.sum_to }
 
 -- the total of stored rows, by how many they are
-pub total_of_stored : (rows : List Row) → All IsStored rows
+pub total_of_stored : (rows : List (Row ℕ)) → All IsStored rows
     → IfSome (total (map (λ r. r.summary) rows)) (IsUpTo (length rows * most_count) (length rows * most_sum))
 total_of_stored [] a = tt
 total_of_stored (r ∷ rows) a =
-    go (total (map (λ (q : Row). q.summary) rows)) (total_of_stored rows (All-tail IsStored r rows a))
+    go (total (map (λ (q : Row ℕ). q.summary) rows)) (total_of_stored rows (All-tail IsStored r rows a))
   where
     one : IsUpTo most_count most_sum r.summary
     one = stored_up_to r (All-head IsStored r rows a)
@@ -67,17 +62,12 @@ total_of_stored (r ∷ rows) a =
 
 -- ---- values of 64 bits
 
--- either of two values of 64 bits
-either_fits : (b : Bool) (x y : ℤ) → SFits w64 x → SFits w64 y → SFits w64 (cond b x y)
-either_fits true x y p q = p
-either_fits false x y p q = q
-
 -- one value's summary is small
 pub value_up_to : (v : ℤ) → SFits w64 v → IsUpTo 1 (2 ^ 63) (of_value v)
 value_up_to v f = record { count = omega arith; sum_from = omega (arith, ints); sum_to = omega (arith, ints) }
 
 -- it is of one value
-value_is : (v : ℤ) → SFits w64 v → IsOfValues 1 (of_value v)
+pub value_is : (v : ℤ) → SFits w64 v → IsOfValues 1 (of_value v)
 value_is v f = record { some = omega arith; up_to = value_up_to v f; least = f; greatest = f }
 
 -- what is of some values is of more

@@ -9,7 +9,6 @@ use Rattle.std.proofs.Common.{◌≡◌, ◌≢◌, ℕ, suc, ◌+◌, ◌<◌, 
 use Rattle.std.specs.Prelude.{◌==◌, ◌⊎◌, All, AllPairs, Contains, filter_map, find}
 use Rattle.std.specs.List.{range_with_len}
 use Rattle.std.specs.Option.{option_map, option_or}
-use Rattle.std.proofs.lemmas.Bool.Decides.{nat_tests}
 use Rattle.std.proofs.lemmas.List.{get_or-map, get_or-take, get_or_default, length-map, length-take-le, map-append, take_more}
 use Rattle.std.proofs.lemmas.List.FromFn.{get_or-range_with_len, length-range_with_len}
 use Rattle.std.proofs.lemmas.List.Elements.{Contains-get_or}
@@ -19,7 +18,7 @@ use Rattle.olap_base.specs.Instance.{Instance, IsMemberOf, category_of}
 use Rattle.olap_base.specs.Reaching.{reaches}
 use Rattle.olap_base.specs.Summaries.{Summary, ◌⊕◌}
 use Rattle.olap_base.specs.Views.{Row, View, members_of, row_at}
-use Rattle.olap_base.proofs.ListLemmas.{Contains-map}
+use Rattle.olap_base.proofs.ListLemmas.{Contains-map, map_same}
 use Rattle.olap_base.specs.declared.ids.CatId.{CatId}
 use Rattle.olap_view.specs.Bounds.{IsJoinable}
 use Rattle.olap_view.specs.Seen.{each_view_of, ids, summary_of, view_of}
@@ -31,7 +30,8 @@ use Rattle.olap_view.specs.declared.tables.Table.{Table}
 use Rattle.olap_view.specs.declared.views.View as told_view
 use Rattle.olap_view.proofs.FileOrderLemmas.{rows-back}
 use Rattle.olap_view.proofs.TableLemmas.{places_kept}
-use Rattle.olap_view.proofs.ViewingLemmas.{map_same, rows_same}
+use Rattle.olap_view.proofs.ViewingLemmas.{rows_same}
+use Rattle.std.proofs.lemmas.Bool.{eq-eqb, ne_eqb}
 
 -- ---- what stands at a member
 
@@ -50,14 +50,6 @@ among_as i t u e y m = record {
   member = m.member;
   category = subst (λ l. Contains l (category_of i y)) (sym (ap (λ v. map (λ d. d.0) v.items) e)) m.category;
 }
-
--- equal numbers pass the test
-test_true : (a b : ℕ) → a ≡ b → (a == b) ≡ true
-test_true a b e = grind (arith, nat_tests)
-
--- different ones don't
-test_false : (a b : ℕ) → a ≢ b → (a == b) ≡ false
-test_false a b n = grind (arith, nat_tests)
 
 -- after a summary was put at y
 pub put_at : (i : Instance) (t u : Table) (y : ℕ) (s : told.Summary) → HasPlaces i t → IsAmong i (categories_of t) y
@@ -89,9 +81,9 @@ put_at i t u y s p a f g z m =
     at (yes e) =
         ap (λ w. option_map summary_of (get_or (set t.summaries.items (place_in t y) (Some s)) (place_in t w) None)) e
         ∙ ap (option_map summary_of) here
-        ∙ sym (ap (λ b. cond b (Some (summary_of s)) (summary_at t z)) (test_true z y e))
+        ∙ sym (ap (λ b. cond b (Some (summary_of s)) (summary_at t z)) (eq-eqb z y e))
     at (no n) = ap (option_map summary_of) (there (place_in t z) (λ q. n (p.apart z y m a q)))
-        ∙ sym (ap (λ b. cond b (Some (summary_of s)) (summary_at t z)) (test_false z y n))
+        ∙ sym (ap (λ b. cond b (Some (summary_of s)) (summary_at t z)) (ne_eqb z y n))
 
 -- after a summary was joined to what stands at the members that x reaches
 pub joined_at : (i : Instance) (x : ℕ) (s : Summary) (t u : Table) → AreJoined i x s t u
@@ -105,7 +97,7 @@ joined_at i x s t u j y m =
 
 -- the view of a category
 pub view_at-is : (i : Instance) (t : Table) (c : ℕ) → view_in i t c ≡ view_at (summarized i t) c
-view_at-is i t c = ap (λ rows. record { category = c; rows = rows })
+view_at-is i t c = ap (λ rows. record { target = c; rows = rows })
     (rows_same i c (λ y. row_at y (summary_at t y)) (λ y. row_at y (stands_at (summarized i t) y))
     (λ y m. ap (row_at y) (sym (summarized_is i t y m.0))))
 
@@ -116,61 +108,61 @@ views_at-are i t = map_same (view_in i t) (view_at (summarized i t)) (categories
 -- ---- rows of stored views, one after another
 
 -- no row stands at y
-pub absent : (y : ℕ) (rows : List Row) → All (λ r. r.member ≢ y) rows → summary_in rows y ≡ None
+pub absent : (y : ℕ) (rows : List (Row ℕ)) → All (λ r. r.at ≢ y) rows → summary_in rows y ≡ None
 absent y [] a = refl
 absent y (r ∷ rows) a =
-    ap (λ b. option_map (λ (r : Row). r.summary) (cond b (Some r) (find (λ r. r.member == y) rows)))
-    (test_false r.member y (a 0 r (omega arith)))
+    ap (λ b. option_map (λ (r : Row ℕ). r.summary) (cond b (Some r) (find (λ r. r.at == y) rows)))
+    (ne_eqb r.at y (a 0 r (omega arith)))
     ∙ absent y rows (λ k d l. a (suc k) d (omega arith))
 
 -- what rows have at y, or else what was there, after one row more
-pub filled_more : (rows : List Row) (r : Row) (y : ℕ) (base before after : Option Summary)
-    → summary_in rows r.member ≡ None → before ≡ option_or (summary_in rows y) base
-    → after ≡ cond (y == r.member) (Some r.summary) before
+pub filled_more : (rows : List (Row ℕ)) (r : Row ℕ) (y : ℕ) (base before after : Option Summary)
+    → summary_in rows r.at ≡ None → before ≡ option_or (summary_in rows y) base
+    → after ≡ cond (y == r.at) (Some r.summary) before
     → after ≡ option_or (summary_in (rows ++ r ∷ []) y) base
-filled_more rows r y base before after n e f = f ∙ go (ℕ_discrete y r.member)
+filled_more rows r y base before after n e f = f ∙ go (ℕ_discrete y r.at)
   where
-    behind : (b : Bool) → (r.member == y) ≡ b
+    behind : (b : Bool) → (r.at == y) ≡ b
         → summary_in (rows ++ r ∷ []) y
-        ≡ option_map (λ (q : Row). q.summary) (option_or (find (λ q. q.member == y) rows) (cond b (Some r) None))
-    behind b t = ap (option_map (λ (q : Row). q.summary)) (find-append (λ (q : Row). q.member == y) rows (r ∷ [])
-        ∙ ap (λ t. option_or (find (λ q. q.member == y) rows) (cond t (Some r) None)) t)
+        ≡ option_map (λ (q : Row ℕ). q.summary) (option_or (find (λ q. q.at == y) rows) (cond b (Some r) None))
+    behind b t = ap (option_map (λ (q : Row ℕ). q.summary)) (find-append (λ (q : Row ℕ). q.at == y) rows (r ∷ [])
+        ∙ ap (λ t. option_or (find (λ q. q.at == y) rows) (cond t (Some r) None)) t)
 
-    nothing : (o : Option Row) → option_map (λ (q : Row). q.summary) o ≡ None → o ≡ None
+    nothing : (o : Option (Row ℕ)) → option_map (λ (q : Row ℕ). q.summary) o ≡ None → o ≡ None
     nothing None q = refl
     nothing (Some x) q = absurd (cc)
 
-    or_nothing : (o : Option Row) → option_or o None ≡ o
+    or_nothing : (o : Option (Row ℕ)) → option_or o None ≡ o
     or_nothing None = refl
     or_nothing (Some x) = refl
 
-    go : Dec (y ≡ r.member)
-        → cond (y == r.member) (Some r.summary) before ≡ option_or (summary_in (rows ++ r ∷ []) y) base
+    go : Dec (y ≡ r.at)
+        → cond (y == r.at) (Some r.summary) before ≡ option_or (summary_in (rows ++ r ∷ []) y) base
     go (yes q) =
-        let none : find (λ q. q.member == y) rows ≡ None =
-        nothing (find (λ q. q.member == y) rows) (subst (λ z. summary_in rows z ≡ None) (sym q) n) in
-        ap (λ b. cond b (Some r.summary) before) (test_true y r.member q)
-        ∙ sym (ap (λ o. option_or o base) (behind true (test_true r.member y (sym q))
-        ∙ ap (λ o. option_map (λ (q : Row). q.summary) (option_or o (Some r))) none))
+        let none : find (λ q. q.at == y) rows ≡ None =
+        nothing (find (λ q. q.at == y) rows) (subst (λ z. summary_in rows z ≡ None) (sym q) n) in
+        ap (λ b. cond b (Some r.summary) before) (eq-eqb y r.at q)
+        ∙ sym (ap (λ o. option_or o base) (behind true (eq-eqb r.at y (sym q))
+        ∙ ap (λ o. option_map (λ (q : Row ℕ). q.summary) (option_or o (Some r))) none))
     go (no m) =
-        ap (λ b. cond b (Some r.summary) before) (test_false y r.member m) ∙ e
-        ∙ sym (ap (λ o. option_or o base) (behind false (test_false r.member y (λ q. m (sym q)))
-        ∙ ap (option_map (λ (q : Row). q.summary)) (or_nothing (find (λ q. q.member == y) rows))))
+        ap (λ b. cond b (Some r.summary) before) (ne_eqb y r.at m) ∙ e
+        ∙ sym (ap (λ o. option_or o base) (behind false (ne_eqb r.at y (λ q. m (sym q)))
+        ∙ ap (option_map (λ (q : Row ℕ). q.summary)) (or_nothing (find (λ q. q.at == y) rows))))
 
 -- the rows before the k-th stand at other members
-pub not_before : (rows : List Row) (k : ℕ) (d : Row) → AllPairs ◌<◌ (map (λ r. r.member) rows) → k < length rows
-    → summary_in (take k rows) (get_or rows k d).member ≡ None
-not_before rows k d a h = absent (get_or rows k d).member (take k rows) (λ j e l.
+pub not_before : (rows : List (Row ℕ)) (k : ℕ) (d : Row ℕ) → AllPairs ◌<◌ (map (λ r. r.at) rows) → k < length rows
+    → summary_in (take k rows) (get_or rows k d).at ≡ None
+not_before rows k d a h = absent (get_or rows k d).at (take k rows) (λ j e l.
     let size : length (take k rows) ≡ k = length-take-le k rows (omega arith) in
     let before : j < k = omega arith in
-    let long = length-map rows (λ (r : Row). r.member) in
-    let less : get_or (map (λ (r : Row). r.member) rows) j 0 < get_or (map (λ (r : Row). r.member) rows) k 0 =
+    let long = length-map rows (λ (r : Row ℕ). r.at) in
+    let less : get_or (map (λ (r : Row ℕ). r.at) rows) j 0 < get_or (map (λ (r : Row ℕ). r.at) rows) k 0 =
     a j k 0 before (omega arith) in
-    let first = get_or-map (λ (r : Row). r.member) rows j e 0 (omega arith) in
-    let second = get_or-map (λ (r : Row). r.member) rows k d 0 h in
-    let same : (get_or (take k rows) j e).member ≡ (get_or rows j e).member =
-    ap (λ (r : Row). r.member) (get_or-take k rows j e before) in
-    differ ((get_or (take k rows) j e).member) ((get_or rows k d).member) (omega arith))
+    let first = get_or-map (λ (r : Row ℕ). r.at) rows j e 0 (omega arith) in
+    let second = get_or-map (λ (r : Row ℕ). r.at) rows k d 0 h in
+    let same : (get_or (take k rows) j e).at ≡ (get_or rows j e).at =
+    ap (λ (r : Row ℕ). r.at) (get_or-take k rows j e before) in
+    differ ((get_or (take k rows) j e).at) ((get_or rows k d).at) (omega arith))
   where
     differ : (a b : ℕ) → a < b → a ≢ b
     differ a b h e = omega arith
@@ -178,28 +170,29 @@ not_before rows k d a h = absent (get_or rows k d).member (take k rows) (λ j e 
 -- ---- stored views, one after another
 
 -- the views before the k-th stand in the table, and of the others nothing
-pub record IsFilled (i : Instance) (views : List View) (k : ℕ) (t : Summarized) : Type 0 where
+pub record IsFilled (i : Instance) (views : List (View ℕ ℕ)) (k : ℕ) (t : Summarized) : Type 0 where
   pub instance : t.instance ≡ i
   pub categories : t.categories ≡ categories_in views
-  pub filled : (j : ℕ) (d : View) → j < k → j < length views → (y : ℕ) → IsMemberOf i (get_or views j d).category y
+  pub filled : (j : ℕ) (d : View ℕ ℕ) → j < k → j < length views → (y : ℕ) → IsMemberOf i (get_or views j d).target y
       → stands_at t y ≡ summary_in (get_or views j d).rows y
-  pub empty : (j : ℕ) (d : View) → k ≤ j → j < length views → (y : ℕ) → IsMemberOf i (get_or views j d).category y
+  pub empty : (j : ℕ) (d : View ℕ ℕ) → k ≤ j → j < length views → (y : ℕ) → IsMemberOf i (get_or views j d).target y
       → stands_at t y ≡ None
 
 -- a member of the category of one of the views
-among_view : (i : Instance) (views : List View) (t : Summarized) → t.instance ≡ i → t.categories ≡ categories_in views
-    → (j : ℕ) (d : View) → j < length views → (y : ℕ) → IsMemberOf i (get_or views j d).category y
+among_view : (i : Instance) (views : List (View ℕ ℕ)) (t : Summarized) → t.instance ≡ i → t.categories
+    ≡ categories_in views
+    → (j : ℕ) (d : View ℕ ℕ) → j < length views → (y : ℕ) → IsMemberOf i (get_or views j d).target y
     → IsAmong t.instance t.categories y
 among_view i views t e f j d l y m = record {
   member = subst (λ (i : Instance). y < length i) (sym e) m.0;
   category = subst (λ (i : Instance). Contains t.categories (category_of i y)) (sym e)
       (subst (λ (cs : List ℕ). Contains cs (category_of i y)) (sym f)
       (subst (Contains (categories_in views)) (sym m.1)
-      (Contains-map (λ (v : View). v.category) views (get_or views j d) (Contains-get_or views j d l))));
+      (Contains-map (λ (v : View ℕ ℕ). v.target) views (get_or views j d) (Contains-get_or views j d l))));
 }
 
 -- the table before the first view
-pub filled_first : (i : Instance) (views : List View) (t : Summarized) → t.instance ≡ i
+pub filled_first : (i : Instance) (views : List (View ℕ ℕ)) (t : Summarized) → t.instance ≡ i
     → t.categories ≡ categories_in views → ((y : ℕ) → IsAmong t.instance t.categories y → stands_at t y ≡ None)
     → IsFilled i views 0 t
 filled_first i views t e f none = record {
@@ -215,13 +208,14 @@ or_none None = refl
 or_none (Some s) = refl
 
 -- rows at members of one category have nothing at a member of another
-other_category : (i : Instance) (v : View) (y : ℕ) → IsInFileOrder i v → category_of i y ≢ v.category
+other_category : (i : Instance) (v : View ℕ ℕ) (y : ℕ) → IsInFileOrder i v → category_of i y ≢ v.target
     → summary_in v.rows y ≡ None
 other_category i v y o n = absent y v.rows (λ k d l e. n (ap (category_of i) (sym e) ∙ (o.members k d l).1))
 
 -- one view more
-pub filled_next : (i : Instance) (views : List View) (k : ℕ) (t u : Summarized) → AllPairs ◌≢◌ (categories_in views)
-    → All (IsInFileOrder i) views → k < length views → (v : View) → v ≡ get_or views k v
+pub filled_next : (i : Instance) (views : List (View ℕ ℕ)) (k : ℕ) (t u : Summarized)
+    → AllPairs ◌≢◌ (categories_in views)
+    → All (IsInFileOrder i) views → k < length views → (v : View ℕ ℕ) → v ≡ get_or views k v
     → IsFilled i views k t → u.instance ≡ t.instance → u.categories ≡ t.categories
     → ((y : ℕ) → IsAmong t.instance t.categories y → stands_at u y ≡ option_or (summary_in v.rows y) (stands_at t y))
     → IsFilled i views (k + 1) u
@@ -235,28 +229,29 @@ filled_next i views k t u differ order h v here p e f at = record {
   empty = λ j d l q y m. others j d (omega arith) q y m ∙ p.empty j d (omega arith) q y m;
 }
   where
-    view_is : (j : ℕ) (d : View) → j ≡ k → get_or views j d ≡ v
+    view_is : (j : ℕ) (d : View ℕ ℕ) → j ≡ k → get_or views j d ≡ v
     view_is j d z = ap (λ n. get_or views n d) z ∙ get_or_default views k d v h ∙ sym here
 
     -- at members of this view's category nothing stood
-    this : (j : ℕ) (d : View) → j ≡ k → j < length views → (y : ℕ) → IsMemberOf i (get_or views j d).category y
+    this : (j : ℕ) (d : View ℕ ℕ) → j ≡ k → j < length views → (y : ℕ) → IsMemberOf i (get_or views j d).target y
         → stands_at u y ≡ summary_in (get_or views j d).rows y
     this j d z q y m =
         at y (among_view i views t p.instance p.categories j d q y m)
         ∙ ap (option_or (summary_in v.rows y)) (p.empty j d (omega arith) q y m)
-        ∙ or_none (summary_in v.rows y) ∙ ap (λ (w : View). summary_in w.rows y) (sym (view_is j d z))
+        ∙ or_none (summary_in v.rows y) ∙ ap (λ (w : View ℕ ℕ). summary_in w.rows y) (sym (view_is j d z))
 
-    category_is : (j : ℕ) (d : View) → j < length views → get_or (categories_in views) j 0 ≡ (get_or views j d).category
-    category_is j d q = get_or-map (λ (w : View). w.category) views j d 0 q
+    category_is : (j : ℕ) (d : View ℕ ℕ) → j < length views → get_or (categories_in views) j 0
+        ≡ (get_or views j d).target
+    category_is j d q = get_or-map (λ (w : View ℕ ℕ). w.target) views j d 0 q
 
-    apart : (j : ℕ) (d : View) → j ≢ k → j < length views → (get_or views j d).category ≢ v.category
+    apart : (j : ℕ) (d : View ℕ ℕ) → j ≢ k → j < length views → (get_or views j d).target ≢ v.target
     apart j d n q w = elim (order_of j k n) [
       | inl l ↦ differ j k 0 l (in_map k h) same
       | inr l ↦ differ k j 0 l (in_map j q) (sym same)
     ]
       where
         same : get_or (categories_in views) j 0 ≡ get_or (categories_in views) k 0
-        same = category_is j d q ∙ w ∙ ap (λ (x : View). x.category) here ∙ sym (category_is k v h)
+        same = category_is j d q ∙ w ∙ ap (λ (x : View ℕ ℕ). x.target) here ∙ sym (category_is k v h)
 
         order_of : (a b : ℕ) → a ≢ b → (a < b) ⊎ (b < a)
         order_of a b n = elim (lt_or a b) [ inl l ↦ inl l | inr g ↦ inr (omega arith) ]
@@ -265,10 +260,10 @@ filled_next i views k t u differ order h v here p e f at = record {
             lt_or a b = grind arith
 
         in_map : (m : ℕ) → m < length views → m < length (categories_in views)
-        in_map m l = let e = length-map views (λ (w : View). w.category) in omega arith
+        in_map m l = let e = length-map views (λ (w : View ℕ ℕ). w.target) in omega arith
 
     -- at members of the other views' categories nothing changes
-    others : (j : ℕ) (d : View) → j ≢ k → j < length views → (y : ℕ) → IsMemberOf i (get_or views j d).category y
+    others : (j : ℕ) (d : View ℕ ℕ) → j ≢ k → j < length views → (y : ℕ) → IsMemberOf i (get_or views j d).target y
         → stands_at u y ≡ stands_at t y
     others j d n q y m =
         at y (among_view i views t p.instance p.categories j d q y m)
@@ -276,25 +271,26 @@ filled_next i views k t u differ order h v here p e f at = record {
         (subst (IsInFileOrder i) (sym here) (order k v h)) (λ w. apart j d n q (sym m.1 ∙ w)))
 
 -- the view at members at which the rows of a view stand is that view
-view_back : (i : Instance) (t : Summarized) (v : View) → t.instance ≡ i → IsInFileOrder i v
-    → ((y : ℕ) → IsMemberOf i v.category y → stands_at t y ≡ summary_in v.rows y) → view_at t v.category ≡ v
+view_back : (i : Instance) (t : Summarized) (v : View ℕ ℕ) → t.instance ≡ i → IsInFileOrder i v
+    → ((y : ℕ) → IsMemberOf i v.target y → stands_at t y ≡ summary_in v.rows y) → view_at t v.target ≡ v
 view_back i t v e o s =
     ap (λ j. record {
-      category = v.category;
-      rows = filter_map (λ y. row_at y (stands_at t y)) (members_of j v.category);
+      target = v.target;
+      rows = filter_map (λ y. row_at y (stands_at t y)) (members_of j v.target);
     }) e
-    ∙ ap (λ rows. record { category = v.category; rows = rows })
-    (rows_same i v.category (λ y. row_at y (stands_at t y)) (λ y. row_at y (summary_in v.rows y))
+    ∙ ap (λ rows. record { target = v.target; rows = rows })
+    (rows_same i v.target (λ y. row_at y (stands_at t y)) (λ y. row_at y (summary_in v.rows y))
     (λ y m. ap (row_at y) (s y m)) ∙ rows-back i v o)
 
 -- after the last all views stand in it
-pub filled_all : (i : Instance) (views : List View) (k : ℕ) (t : Summarized) → All (IsInFileOrder i) views
+pub filled_all : (i : Instance) (views : List (View ℕ ℕ)) (k : ℕ) (t : Summarized) → All (IsInFileOrder i) views
     → length views ≤ k → IsFilled i views k t → views_at t ≡ views
 filled_all i views k t order h p =
     ap (map (view_at t)) p.categories ∙ each views (λ j d l. view_back i t (get_or views j d) p.instance (order j d l)
     (p.filled j d (omega arith) l))
   where
-    each : (vs : List View) → ((j : ℕ) (d : View) → j < length vs → view_at t (get_or vs j d).category ≡ get_or vs j d)
+    each : (vs : List (View ℕ ℕ))
+        → ((j : ℕ) (d : View ℕ ℕ) → j < length vs → view_at t (get_or vs j d).target ≡ get_or vs j d)
         → map (view_at t) (categories_in vs) ≡ vs
     each [] f = refl
     each (v ∷ vs) f = ap (λ w. w ∷ map (view_at t) (categories_in vs)) (f 0 v (omega arith))
@@ -326,4 +322,4 @@ categories_more views k v cs h is e =
     ∙ sym (ap (λ (l : List told_view.View). categories_in (each_view_of l)) (take_more views k v h)
     ∙ ap (λ (w : told_view.View). categories_in (each_view_of (before ++ w ∷ []))) (sym is)
     ∙ ap categories_in (map-append view_of before (v ∷ []))
-    ∙ map-append (λ (w : View). w.category) (each_view_of before) (view_of v ∷ []))
+    ∙ map-append (λ (w : View ℕ ℕ). w.target) (each_view_of before) (view_of v ∷ []))

@@ -9,7 +9,6 @@ use Rattle.std.proofs.Common.{◌≡◌, ◌≢◌, ℕ, ◌+◌, ◌<◌, List,
 use Rattle.std.specs.Prelude.{◌==◌, Contains, AllPairs}
 use Rattle.std.specs.List.{list_any}
 use Rattle.std.specs.Option.{option_map}
-use Rattle.std.proofs.lemmas.Bool.Decides.{nat_tests}
 use Rattle.std.proofs.lemmas.List.{get_or-map, get_or-take, get_or_default, length-map, length-set, length-take-le, map-append, take-map, take_more}
 use Rattle.std.proofs.lemmas.List.Folds.{list_any-append}
 use native.Mathlib.Decide.{ℕ_discrete}
@@ -19,7 +18,6 @@ use Rattle.olap_base.specs.Summaries.{Summary, ◌⊕◌}
 use Rattle.olap_base.proofs.ListLemmas.{Contains-map, list_any_is}
 use Rattle.olap_base.specs.declared.ids.CatId.{CatId}
 use Rattle.olap_base.proofs.TotalLemmas.{⊕_none}
-use Rattle.olap_base.proofs.ViewLemmas.{eqb_is}
 use Rattle.olap_legal.specs.Ancestors.{IsAncestor}
 use Rattle.olap_base.specs.Views.{View}
 use Rattle.olap_view.specs.Seen.{each_view_of, ids, summary_of, view_of}
@@ -27,6 +25,8 @@ use Rattle.olap_view.specs.Tables.{AreJoined, AreJoinedIn, HasPlaces, IsAmong, J
 use Rattle.olap_view.specs.declared.summaries.Summary as told
 use Rattle.olap_view.specs.declared.tables.Table.{Table}
 use Rattle.olap_view.specs.declared.views.View as told_view
+use Rattle.olap_base.proofs.GeneralLemmas.{or_false}
+use Rattle.std.proofs.lemmas.Bool.{eqb-true, eq-eqb}
 
 -- ---- places
 
@@ -102,14 +102,6 @@ places_done i t n k e l p = record {
 
 -- ---- joining in one category
 
--- equal numbers pass the test
-test_true : (a b : ℕ) → a ≡ b → (a == b) ≡ true
-test_true a b e = grind (arith, nat_tests)
-
--- different ones don't
-test_false : (a b : ℕ) → a ≢ b → (a == b) ≡ false
-test_false a b n = grind (arith, nat_tests)
-
 -- two tests of which not both hold
 no_test : (a b : Bool) → (a ≡ true → b ≡ true → ⊥) → (a && b) ≡ false
 no_test true true f = absurd (f refl refl)
@@ -157,7 +149,7 @@ module _ (i : Instance) (c x : ℕ) (s : Summary) (before : Table) (p : HasPlace
       there w n = rw get_or-set_other refl
 
       tested : (category_of i y == c && reaches i x y) ≡ true
-      tested = ap (λ b. b && reaches i x y) (test_true (category_of i y) c a.is_member.1)
+      tested = ap (λ b. b && reaches i x y) (eq-eqb (category_of i y) c a.is_member.1)
           ∙ (reaches_is i x y).1 a.reached
 
       at : (z : ℕ) → IsAmong i (categories_of before) z → Dec (z ≡ y)
@@ -169,7 +161,7 @@ module _ (i : Instance) (c x : ℕ) (s : Summary) (before : Table) (p : HasPlace
           ∙ ap (option_map summary_of) (there (place_in before z) (λ q. n (p.apart z y m among q)))
           ∙ nothing_more (summary_at before z) (category_of i z == c && reaches i x z) s
           (no_test (category_of i z == c) (reaches i x z)
-          (λ u v. n (a.only z (m.member, eqb_is (category_of i z) c u) ((reaches_is i x z).0 v))))
+          (λ u v. n (a.only z (m.member, eqb-true (category_of i z) c u) ((reaches_is i x z).0 v))))
 
   -- nothing is joined where none is
   pub joined_none : (ReachesCategory i x c → ⊥) → AreJoinedIn i c x s before before
@@ -179,18 +171,18 @@ module _ (i : Instance) (c x : ℕ) (s : Summary) (before : Table) (p : HasPlace
     same_length = refl;
     at = λ z m. nothing_more (summary_at before z) (category_of i z == c && reaches i x z) s
         (no_test (category_of i z == c) (reaches i x z)
-        (λ u v. n (z, (m.member, eqb_is (category_of i z) c u), (reaches_is i x z).0 v)));
+        (λ u v. n (z, (m.member, eqb-true (category_of i z) c u), (reaches_is i x z).0 v)));
   }
 
 -- ---- joining in all categories
 
 -- a category of the list is found in it
 any_is : (d : ℕ) (cs : List ℕ) → Contains cs d → list_any (λ e. d == e) cs ≡ true
-any_is d cs k = (list_any_is (λ e. d == e) cs).1 (d, k, test_true d d refl)
+any_is d cs k = (list_any_is (λ e. d == e) cs).1 (d, k, eq-eqb d d refl)
 
 -- what is found is in the list
 any_from : (d : ℕ) (cs : List ℕ) → list_any (λ e. d == e) cs ≡ true → Contains cs d
-any_from d cs e = let t = (list_any_is (λ e. d == e) cs).0 e in subst (Contains cs) (sym (eqb_is d t.0 t.2)) t.1
+any_from d cs e = let t = (list_any_is (λ e. d == e) cs).0 e in subst (Contains cs) (sym (eqb-true d t.0 t.2)) t.1
 
 -- what isn't in the list isn't found
 pub none_before : (d : ℕ) (cs : List ℕ) → (Contains cs d → ⊥) → list_any (λ e. d == e) cs ≡ false
@@ -199,11 +191,6 @@ none_before d cs n = go (list_any (λ e. d == e) cs) refl
     go : (b : Bool) → list_any (λ e. d == e) cs ≡ b → b ≡ false
     go true e = absurd (n (any_from d cs e))
     go false e = refl
-
--- or false
-last_test : (p : Bool) → (p || false) ≡ p
-last_test true = refl
-last_test false = refl
 
 -- joined in no category yet
 pub so_far_start : (i : Instance) (x : ℕ) (s : Summary) (before : Table) → JoinedSoFar i [] x s before before
@@ -248,17 +235,17 @@ module _ (i : Instance) (done : List ℕ) (c x : ℕ) (s : Summary) (before betw
           ((list_any (λ d. category_of i y == d) done || list_any (λ d. category_of i y == d) (c ∷ []))
           && reaches i x y) s
       go y m true e =
-          let q = eqb_is (category_of i y) c e in
+          let q = eqb-true (category_of i y) c e in
           let n = none_before (category_of i y) done (λ k. new (subst (Contains done) q k)) in
           ap (λ o. o ⊕ when (category_of i y == c && reaches i x y) s) (untouched y m q)
           ∙ ap (λ b. summary_at before y ⊕ when (b && reaches i x y) s)
-          (sym (ap (λ t. t || list_any (λ d. category_of i y == d) (c ∷ [])) n ∙ last_test (category_of i y == c)))
+          (sym (ap (λ t. t || list_any (λ d. category_of i y == d) (c ∷ [])) n ∙ or_false (category_of i y == c)))
       go y m false e =
           ap (λ b. summary_at between y ⊕ when (b && reaches i x y) s) e
           ∙ ⊕_none (summary_at between y) ∙ j.at y m
           ∙ ap (λ b. summary_at before y ⊕ when (b && reaches i x y) s)
           (sym (ap (λ t. list_any (λ d. category_of i y == d) done || (t || false)) e
-          ∙ last_test (list_any (λ d. category_of i y == d) done)))
+          ∙ or_false (list_any (λ d. category_of i y == d) done)))
 
 -- joined in all categories
 pub joined_all : (i : Instance) (x : ℕ) (s : Summary) (before after : Table)
@@ -329,10 +316,11 @@ module _ (cs : List CatId) (k : ℕ) (c : CatId) (h : k < length cs) (e : c ≡ 
       (subst (λ (d : ℕ). Contains (ids (take k cs)) d) (sym id_at) m))
 
 -- the view of one category more
-pub views_more : (h : ℕ → View) (views : List told_view.View) (v : told_view.View) (cs : List CatId) (k : ℕ) (c : CatId)
+pub views_more : (h : ℕ → View ℕ ℕ) (views : List told_view.View) (v : told_view.View) (cs : List CatId) (k : ℕ)
+    (c : CatId)
     → k < length cs → c ≡ get_or cs k c → each_view_of views ≡ map h (ids (take k cs)) → view_of v ≡ h c.0
     → each_view_of (views ++ v ∷ []) ≡ map h (ids (take (k + 1) cs))
 views_more h views v cs k c l e o s =
-    map-append view_of views (v ∷ []) ∙ ap (λ (t : List View). t ++ view_of v ∷ []) o
-    ∙ ap (λ (w : View). map h (ids (take k cs)) ++ w ∷ []) s
+    map-append view_of views (v ∷ []) ∙ ap (λ (t : List (View ℕ ℕ)). t ++ view_of v ∷ []) o
+    ∙ ap (λ (w : View ℕ ℕ). map h (ids (take k cs)) ++ w ∷ []) s
     ∙ sym (map-append h (ids (take k cs)) (c.0 ∷ [])) ∙ ap (map h) (sym (ids_more cs k c l e))

@@ -20,7 +20,7 @@ use Rattle.olap_base.specs.Reaching.{reaches}
 use Rattle.olap_base.specs.Instance.{Instance}
 use Rattle.olap_base.specs.Limits.{most_count, most_members}
 use Rattle.olap_base.specs.Summaries.{Summary, of_value, total, ◌⊕◌}
-use Rattle.olap_base.specs.Views.{Fact, View, direct_view, members_of, row_at, total_of_facts, values_at}
+use Rattle.olap_base.specs.Views.{Fact, View, direct_view, members, members_of, row_at, total_of_facts, values_at}
 use Rattle.olap_base.proofs.TotalLemmas.{total_push, ⊕_assoc, ⊕_comm, ⊕_none}
 use Rattle.olap_view.specs.Seen.{summary_of}
 use Rattle.olap_view.specs.Stores.{Fits}
@@ -29,33 +29,36 @@ use Rattle.olap_view.specs.Tables.{IsAmong, when}
 use Rattle.olap_view.specs.Tallies.{IsTableOf, IsTableWithin, IsTally, IsWaitingWithin, IsWithin, StandsFor, Tallied, Waiting, tallied, tallied_at, waiting_at}
 use Rattle.olap_view.specs.declared.summaries.Summary as told
 use Rattle.olap_view.proofs.FittingLemmas.{direct_stored}
-use Rattle.olap_view.proofs.ViewingLemmas.{map_same, rows_same}
+use Rattle.olap_view.proofs.ViewingLemmas.{rows_same}
 use Rattle.olap_view.proofs.WaitingLemmas.{waiting_none, waiting_set, within_joined, within_more, within_value}
+use Rattle.olap_base.proofs.ListLemmas.{map_same}
 
 -- ---- one fact more
 
 -- the values that reach a member, with one more fact
-values_push : (i : Instance) (fs : List Fact) (f : Fact) (y : ℕ)
-    → values_at i (fs ++ f ∷ []) y ≡ values_at i fs y ++ cond (reaches i f.member y) (f.value ∷ []) []
-values_push i fs f y = ap (map (λ (g : Fact). g.value)) (filter-append (λ g. reaches i g.member y) fs (f ∷ []))
-    ∙ map-append (λ (g : Fact). g.value) (filter (λ g. reaches i g.member y) fs)
-    (filter (λ g. reaches i g.member y) (f ∷ []))
-    ∙ ap (λ t. map (λ (g : Fact). g.value) (filter (λ g. reaches i g.member y) fs) ++ t) (last (reaches i f.member y))
+values_push : (i : Instance) (fs : List (Fact ℕ)) (f : Fact ℕ) (y : ℕ)
+    → values_at (members i) (fs ++ f ∷ []) y ≡ values_at (members i) fs y ++ cond (reaches i f.at y) (f.value ∷ []) []
+values_push i fs f y = ap (map (λ (g : Fact ℕ). g.value)) (filter-append (λ g. reaches i g.at y) fs (f ∷ []))
+    ∙ map-append (λ (g : Fact ℕ). g.value) (filter (λ g. reaches i g.at y) fs)
+    (filter (λ g. reaches i g.at y) (f ∷ []))
+    ∙ ap (λ t. map (λ (g : Fact ℕ). g.value) (filter (λ g. reaches i g.at y) fs) ++ t) (last (reaches i f.at y))
   where
-    last : (b : Bool) → map (λ (g : Fact). g.value) (cond b (f ∷ []) []) ≡ cond b (f.value ∷ []) []
+    last : (b : Bool) → map (λ (g : Fact ℕ). g.value) (cond b (f ∷ []) []) ≡ cond b (f.value ∷ []) []
     last true = refl
     last false = refl
 
 -- what they come to, with one more fact
-total_more : (i : Instance) (fs : List Fact) (f : Fact) (y : ℕ)
-    → total_of_facts i (fs ++ f ∷ []) y ≡ total_of_facts i fs y ⊕ when (reaches i f.member y) (of_value f.value)
-total_more i fs f y = ap (λ vs. total (map of_value vs)) (values_push i fs f y) ∙ go (reaches i f.member y)
+total_more : (i : Instance) (fs : List (Fact ℕ)) (f : Fact ℕ) (y : ℕ)
+    → total_of_facts (members i) (fs ++ f ∷ []) y
+    ≡ total_of_facts (members i) fs y ⊕ when (reaches i f.at y) (of_value f.value)
+total_more i fs f y = ap (λ vs. total (map of_value vs)) (values_push i fs f y) ∙ go (reaches i f.at y)
   where
-    go : (b : Bool) → total (map of_value (values_at i fs y ++ cond b (f.value ∷ []) []))
-        ≡ total_of_facts i fs y ⊕ when b (of_value f.value)
-    go true = ap total (map-append of_value (values_at i fs y) (f.value ∷ []))
-        ∙ total_push (map of_value (values_at i fs y)) (of_value f.value)
-    go false = ap (λ vs. total (map of_value vs)) (append-nil (values_at i fs y)) ∙ sym (⊕_none (total_of_facts i fs y))
+    go : (b : Bool) → total (map of_value (values_at (members i) fs y ++ cond b (f.value ∷ []) []))
+        ≡ total_of_facts (members i) fs y ⊕ when b (of_value f.value)
+    go true = ap total (map-append of_value (values_at (members i) fs y) (f.value ∷ []))
+        ∙ total_push (map of_value (values_at (members i) fs y)) (of_value f.value)
+    go false = ap (λ vs. total (map of_value vs)) (append-nil (values_at (members i) fs y))
+        ∙ sym (⊕_none (total_of_facts (members i) fs y))
 
 -- a member of the categories of a table that has those of another is one of the other's
 pub among : (t u : Summarized) → u.instance ≡ t.instance → u.categories ≡ t.categories → (y : ℕ)
@@ -76,25 +79,25 @@ tallied_is t ws n y h =
     zero_more y = omega arith
 
 -- the value of the fact is joined to what stands at the members that it reaches
-pub record IsAdded (f : Fact) (a b : Tallied) : Type 0 where
+pub record IsAdded (f : Fact ℕ) (a b : Tallied) : Type 0 where
   pub added : b.added ≡ a.added + 1
   pub instance : b.instance ≡ a.instance
   pub categories : b.categories ≡ a.categories
   pub at : (y : ℕ) → IsAmong a.instance a.categories y
-      → tallied_at b y ≡ tallied_at a y ⊕ when (reaches a.instance f.member y) (of_value f.value)
+      → tallied_at b y ≡ tallied_at a y ⊕ when (reaches a.instance f.at y) (of_value f.value)
 
 -- one fact more was added
-pub stands_more : (a b : Tallied) (f : Fact) (facts : List Fact) → IsAdded f a b → StandsFor a facts
+pub stands_more : (a b : Tallied) (f : Fact ℕ) (facts : List (Fact ℕ)) → IsAdded f a b → StandsFor a facts
     → StandsFor b (facts ++ f ∷ [])
 stands_more a b f facts j s = record {
-  added = let d = s.added in let e = j.added in omega (arith, length-append {A = Fact});
+  added = let d = s.added in let e = j.added in omega (arith, length-append {A = Fact ℕ});
   at = λ y m.
       let k = subst (λ (i : Instance). IsAmong i a.categories y) j.instance
       (subst (λ (cs : List ℕ). IsAmong b.instance cs y) j.categories m) in
       j.at y k
-      ∙ ap (λ o. o ⊕ when (reaches a.instance f.member y) (of_value f.value)) (s.at y k)
+      ∙ ap (λ o. o ⊕ when (reaches a.instance f.at y) (of_value f.value)) (s.at y k)
       ∙ sym (total_more a.instance facts f y)
-      ∙ ap (λ i. total_of_facts i (facts ++ f ∷ []) y) (sym j.instance);
+      ∙ ap (λ i. total_of_facts (members i) (facts ++ f ∷ []) y) (sym j.instance);
 }
 
 -- ---- no fact
@@ -120,7 +123,7 @@ module _ (t : Summarized) (ws : Waiting) (e : (y : ℕ) → IsAmong t.instance t
     in_waiting = λ x. subst (λ (o : Option told.Summary). IfSome (option_map summary_of o) (IsWithin 0))
         (sym (nothing x)) tt;
     facts = [];
-    values = All-nil (λ (f : Fact). SFits w64 f.value);
+    values = All-nil (λ (f : Fact ℕ). SFits w64 f.value);
     stands = stands_start;
   }
 
@@ -136,17 +139,17 @@ module _ (t : Summarized) (ws : Waiting) (n : ℕ) (q : IsTally t ws n) where
 -- ---- one fact more, in the table
 
 -- the value of the fact is joined to what stands in a table
-pub record IsInTable (f : Fact) (t u : Summarized) : Type 0 where
+pub record IsInTable (f : Fact ℕ) (t u : Summarized) : Type 0 where
   pub instance : u.instance ≡ t.instance
   pub categories : u.categories ≡ t.categories
   pub at : (y : ℕ) → IsAmong t.instance t.categories y
-      → stands_at u y ≡ stands_at t y ⊕ when (reaches t.instance f.member y) (of_value f.value)
+      → stands_at u y ≡ stands_at t y ⊕ when (reaches t.instance f.at y) (of_value f.value)
 
 -- the last of three before the second
 behind : (a b c : Option Summary) → (a ⊕ b) ⊕ c ≡ (a ⊕ c) ⊕ b
 behind a b c = ⊕_assoc a b c ∙ ap (λ o. a ⊕ o) (⊕_comm b c) ∙ sym (⊕_assoc a c b)
 
-module _ (t u : Summarized) (ws : Waiting) (n : ℕ) (f : Fact) (j : IsInTable f t u) where
+module _ (t u : Summarized) (ws : Waiting) (n : ℕ) (f : Fact ℕ) (j : IsInTable f t u) where
   -- the fact was added
   pub added_in_table : IsAdded f (tallied t ws n) (tallied u ws (n + 1))
   added_in_table = record {
@@ -154,7 +157,7 @@ module _ (t u : Summarized) (ws : Waiting) (n : ℕ) (f : Fact) (j : IsInTable f
     instance = j.instance;
     categories = j.categories;
     at = λ y m.
-        let v = when (reaches t.instance f.member y) (of_value f.value) in
+        let v = when (reaches t.instance f.at y) (of_value f.value) in
         let inside : y < length u.instance = subst (λ (i : Instance). y < length i) (sym j.instance) m.member in
         tallied_is u ws (n + 1) y inside
         ∙ ap (λ (i : Instance). stands_at u y ⊕ waiting_at i ws y) j.instance
@@ -171,37 +174,38 @@ module _ (t u : Summarized) (ws : Waiting) (n : ℕ) (f : Fact) (j : IsInTable f
     places = subst (λ (i : Instance). length ws ≤ length i) (sym j.instance) q.places;
     in_table = λ y m. let k = among t u j.instance j.categories y m in
         subst (λ (o : Option Summary). IfSome o (IsWithin (n + 1))) (sym (j.at y k))
-        (within_joined n 1 (stands_at t y) (when (reaches t.instance f.member y) (of_value f.value)) (q.in_table y k)
-        (within_value (reaches t.instance f.member y) f.value v));
+        (within_joined n 1 (stands_at t y) (when (reaches t.instance f.at y) (of_value f.value)) (q.in_table y k)
+        (within_value (reaches t.instance f.at y) f.value v));
     in_waiting = λ x. within_more n (n + 1) (option_map summary_of (get_or ws x None)) (omega arith) (q.in_waiting x);
     facts = q.facts ++ f ∷ [];
-    values = All-push (λ (f : Fact). SFits w64 f.value) q.facts f q.values v;
+    values = All-push (λ (f : Fact ℕ). SFits w64 f.value) q.facts f q.values v;
     stands = stands_more (tallied t ws n) (tallied u ws (n + 1)) f q.facts added_in_table q.stands;
   }
 
 -- ---- one fact more, which waits
 
 -- the value of the fact is joined to what waits at its member
-pub record IsInWaiting (f : Fact) (o : Option told.Summary) (ws vs : Waiting) : Type 0 where
-  pub inside : f.member < length ws
-  pub waiting : vs ≡ set ws f.member o
-  pub joined : option_map summary_of o ≡ option_map summary_of (get_or ws f.member None) ⊕ Some (of_value f.value)
+pub record IsInWaiting (f : Fact ℕ) (o : Option told.Summary) (ws vs : Waiting) : Type 0 where
+  pub inside : f.at < length ws
+  pub waiting : vs ≡ set ws f.at o
+  pub joined : option_map summary_of o ≡ option_map summary_of (get_or ws f.at None) ⊕ Some (of_value f.value)
 
 -- the value's summary is put beside what waits there
-pub beside_waiting : (f : Fact) (there : Option told.Summary) (alone s : told.Summary) (ws : Waiting)
-    → f.member < length ws → there ≡ get_or ws f.member there → summary_of alone ≡ of_value f.value
+pub beside_waiting : (f : Fact ℕ) (there : Option told.Summary) (alone s : told.Summary) (ws : Waiting)
+    → f.at < length ws → there ≡ get_or ws f.at there → summary_of alone ≡ of_value f.value
     → Some (summary_of s) ≡ option_map summary_of there ⊕ Some (summary_of alone)
-    → IsInWaiting f (Some s) ws (set ws f.member (Some s))
+    → IsInWaiting f (Some s) ws (set ws f.at (Some s))
 beside_waiting f there alone s ws h e v j = record {
   inside = h;
   waiting = refl;
   joined = j
       ∙ ap (λ (o : Option told.Summary). option_map summary_of o ⊕ Some (summary_of alone))
-      (e ∙ get_or_default ws f.member there None h)
-      ∙ ap (λ (t : Summary). option_map summary_of (get_or ws f.member None) ⊕ Some t) v;
+      (e ∙ get_or_default ws f.at there None h)
+      ∙ ap (λ (t : Summary). option_map summary_of (get_or ws f.at None) ⊕ Some t) v;
 }
 
-module _ (t : Summarized) (ws vs : Waiting) (n : ℕ) (f : Fact) (o : Option told.Summary) (j : IsInWaiting f o ws vs) where
+module _ (t : Summarized) (ws vs : Waiting) (n : ℕ) (f : Fact ℕ) (o : Option told.Summary)
+    (j : IsInWaiting f o ws vs) where
   -- the fact was added
   pub added_in_waiting : IsAdded f (tallied t ws n) (tallied t vs (n + 1))
   added_in_waiting = record {
@@ -209,29 +213,29 @@ module _ (t : Summarized) (ws vs : Waiting) (n : ℕ) (f : Fact) (o : Option tol
     instance = refl;
     categories = refl;
     at = λ y m.
-        let v = when (reaches t.instance f.member y) (of_value f.value) in
+        let v = when (reaches t.instance f.at y) (of_value f.value) in
         tallied_is t vs (n + 1) y m.member
         ∙ ap (λ (l : Waiting). stands_at t y ⊕ waiting_at t.instance l y) j.waiting
         ∙ ap (λ p. stands_at t y ⊕ p)
-        (waiting_set t.instance y ws 0 f.member f.member o (of_value f.value) (omega arith) j.inside j.joined)
+        (waiting_set t.instance y ws 0 f.at f.at o (of_value f.value) (omega arith) j.inside j.joined)
         ∙ sym (⊕_assoc (stands_at t y) (waiting_at t.instance ws y) v)
         ∙ ap (λ p. p ⊕ v) (sym (tallied_is t ws n y m.member));
   }
 
   -- what waits at each member is of one value more at most
-  more_waiting : SFits w64 f.value → IsWaitingWithin n ws → IsWaitingWithin (n + 1) (set ws f.member o)
-  more_waiting v q x = go (ℕ_discrete x f.member)
+  more_waiting : SFits w64 f.value → IsWaitingWithin n ws → IsWaitingWithin (n + 1) (set ws f.at o)
+  more_waiting v q x = go (ℕ_discrete x f.at)
     where
-      go : Dec (x ≡ f.member) → IfSome (option_map summary_of (get_or (set ws f.member o) x None)) (IsWithin (n + 1))
+      go : Dec (x ≡ f.at) → IfSome (option_map summary_of (get_or (set ws f.at o) x None)) (IsWithin (n + 1))
       go (yes e) =
-          let here : get_or (set ws f.member o) f.member None ≡ o = let h = j.inside in rw get_or-set_same refl in
+          let here : get_or (set ws f.at o) f.at None ≡ o = let h = j.inside in rw get_or-set_same refl in
           subst (λ (p : Option told.Summary). IfSome (option_map summary_of p) (IsWithin (n + 1)))
-          (sym (ap (λ z. get_or (set ws f.member o) z None) e ∙ here))
+          (sym (ap (λ z. get_or (set ws f.at o) z None) e ∙ here))
           (subst (λ (p : Option Summary). IfSome p (IsWithin (n + 1))) (sym j.joined)
-          (within_joined n 1 (option_map summary_of (get_or ws f.member None)) (Some (of_value f.value)) (q f.member)
+          (within_joined n 1 (option_map summary_of (get_or ws f.at None)) (Some (of_value f.value)) (q f.at)
           (within_value true f.value v)))
       go (no m) =
-          let there : get_or (set ws f.member o) x None ≡ get_or ws x None = rw get_or-set_other refl in
+          let there : get_or (set ws f.at o) x None ≡ get_or ws x None = rw get_or-set_other refl in
           subst (λ (p : Option told.Summary). IfSome (option_map summary_of p) (IsWithin (n + 1))) (sym there)
           (within_more n (n + 1) (option_map summary_of (get_or ws x None)) (omega arith) (q x))
 
@@ -241,11 +245,11 @@ module _ (t : Summarized) (ws vs : Waiting) (n : ℕ) (f : Fact) (o : Option tol
     few = h;
     members = q.members;
     places = subst (λ (l : Waiting). length l ≤ length t.instance) (sym j.waiting)
-        (subst (λ k. k ≤ length t.instance) (sym (length-set ws f.member o)) q.places);
+        (subst (λ k. k ≤ length t.instance) (sym (length-set ws f.at o)) q.places);
     in_table = λ y m. within_more n (n + 1) (stands_at t y) (omega arith) (q.in_table y m);
     in_waiting = subst (IsWaitingWithin (n + 1)) (sym j.waiting) (more_waiting v q.in_waiting);
     facts = q.facts ++ f ∷ [];
-    values = All-push (λ (f : Fact). SFits w64 f.value) q.facts f q.values v;
+    values = All-push (λ (f : Fact ℕ). SFits w64 f.value) q.facts f q.values v;
     stands = stands_more (tallied t ws n) (tallied t vs (n + 1)) f q.facts added_in_waiting q.stands;
   }
 
@@ -253,28 +257,29 @@ module _ (t : Summarized) (ws vs : Waiting) (n : ℕ) (f : Fact) (o : Option tol
 
 module _ (a : Tallied) (t : Summarized) (of : IsTableOf a t) where
   -- the view of a category in the tally's table is the direct one
-  pub view_is : (c : ℕ) (facts : List Fact) → Contains a.categories c → StandsFor a facts
-      → view_at t c ≡ direct_view a.instance facts c
+  pub view_is : (c : ℕ) (facts : List (Fact ℕ)) → Contains a.categories c → StandsFor a facts
+      → view_at t c ≡ direct_view (members a.instance) facts c
   view_is c facts k s =
-      ap (λ (i : Instance). record { category = c; rows = filter_map (λ y. row_at y (stands_at t y)) (members_of i c) })
+      ap (λ (i : Instance). record { target = c; rows = filter_map (λ y. row_at y (stands_at t y)) (members_of i c) })
       of.instance
-      ∙ ap (λ rows. record { category = c; rows = rows })
-      (rows_same a.instance c (λ y. row_at y (stands_at t y)) (λ y. row_at y (total_of_facts a.instance facts y))
+      ∙ ap (λ rows. record { target = c; rows = rows })
+      (rows_same a.instance c (λ y. row_at y (stands_at t y))
+      (λ y. row_at y (total_of_facts (members a.instance) facts y))
       (λ y m. let among : IsAmong a.instance a.categories y =
       record { member = m.0; category = subst (Contains a.categories) (sym m.1) k } in
       ap (row_at y) (of.at y among ∙ s.at y among)))
 
   -- it may be stored, where the facts are no more than a row may count, and of 64 bits
-  pub view_stored : (c : ℕ) (facts : List Fact) → Contains a.categories c → a.added ≤ most_count
+  pub view_stored : (c : ℕ) (facts : List (Fact ℕ)) → Contains a.categories c → a.added ≤ most_count
       → All (λ f. SFits w64 f.value) facts → StandsFor a facts → Fits (view_at t c)
-  view_stored c facts k few values s = subst (λ (v : View). Fits v) (sym (view_is c facts k s))
+  view_stored c facts k few values s = subst (λ (v : View ℕ ℕ). Fits v) (sym (view_is c facts k s))
       (direct_stored a.instance c facts (let b = s.added in omega arith) values)
 
   -- so it is of all its categories
-  pub views_are : (facts : List Fact) → StandsFor a facts
-      → views_at t ≡ map (direct_view a.instance facts) a.categories
+  pub views_are : (facts : List (Fact ℕ)) → StandsFor a facts
+      → views_at t ≡ map (direct_view (members a.instance) facts) a.categories
   views_are facts s = ap (map (view_at t)) of.categories
-      ∙ map_same (view_at t) (direct_view a.instance facts) a.categories (λ c k. view_is c facts k s)
+      ∙ map_same (view_at t) (direct_view (members a.instance) facts) a.categories (λ c k. view_is c facts k s)
 
   -- and all of them may be stored if each may
   pub views_stored : ((c : ℕ) → Contains a.categories c → Fits (view_at t c)) → All Fits (views_at t)

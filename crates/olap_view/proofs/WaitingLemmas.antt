@@ -92,12 +92,12 @@ within_joined n k (Some s) (Some t) a b =
     up_to_more (n + k) (n * 2 ^ 63 + k * 2 ^ 63) (n + k) ((n + k) * 2 ^ 63) (joined s t) (omega arith) (omega arith)
     (joined_up_to n (n * 2 ^ 63) k (k * 2 ^ 63) s t a b)
 
--- what is within so many may be joined
+-- what is within this many may be joined
 pub within_joinable : (n : ℕ) (o : Option Summary) → n ≤ 2 ^ 62 → IfSome o (IsWithin n) → IfSome o IsJoinable
 within_joinable n None h q = tt
 within_joinable n (Some s) h q = joinable n (n * 2 ^ 63) s h (omega arith) q
 
--- under a test, what is within so many
+-- under a test, what is within this many
 pub within_cond : (n : ℕ) (b : Bool) (o : Option Summary) → IfSome o (IsWithin n) → IfSome (cond b o None) (IsWithin n)
 within_cond n true o q = q
 within_cond n false o q = tt

@@ -16,7 +16,7 @@ pub record IsUpTo (n m : ℕ) (s : Summary) : Type 0 where
 abbrev pub IsJoinable : Summary → Type 0
 IsJoinable = IsUpTo (2 ^ 62) (2 ^ 125)
 
--- what one value or more, and at most n, of 64 bits come to
+-- the total of one value or more, and at most n, of 64 bits
 pub record IsOfValues (n : ℕ) (s : Summary) : Type 0 where
   pub some : 1 ≤ s.count
   pub up_to : IsUpTo n (n * 2 ^ 63) s

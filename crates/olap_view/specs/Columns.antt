@@ -14,11 +14,11 @@ pub record Ascent : Type 0 where
 abbrev pub ascent : Instance → ℕ → Ascent
 ascent i c = record { instance = i; category = c }
 
--- stands where no member of the category is reached
+-- the number that stands for no member of the category
 abbrev pub nobody : ℕ
 nobody = 0xFFFF_FFFF
 
--- the cell has the member of c that x reaches, or nobody where there is none
+-- the cell has the member of c that x reaches, or `nobody` if there is none
 pub record Tells (i : Instance) (c x cell : ℕ) : Type 0 where
   pub some : cell ≢ nobody → IsAncestor i x c cell
   pub none : cell ≡ nobody → ReachesCategory i x c → ⊥

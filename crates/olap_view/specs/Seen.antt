@@ -27,21 +27,21 @@ abbrev pub columns_of : told_row.Row → Summary
 columns_of r = record { count = r.count; sum = r.sum; least = r.least; greatest = r.greatest }
 
 -- the row that a struct stands for
-abbrev pub row_of : told_row.Row → Row
-row_of r = record { member = r.member.0; summary = columns_of r }
+abbrev pub row_of : told_row.Row → Row ℕ
+row_of r = record { at = r.member.0; summary = columns_of r }
 
 -- the rows that structs stand for
-abbrev pub rows_of : List told_row.Row → List Row
+abbrev pub rows_of : List told_row.Row → List (Row ℕ)
 rows_of rows = map row_of rows
 
 -- the view that a struct stands for
-abbrev pub view_of : told_view.View → View
-view_of v = record { category = v.category.0; rows = rows_of v.rows }
+abbrev pub view_of : told_view.View → View ℕ ℕ
+view_of v = record { target = v.category.0; rows = rows_of v.rows }
 
 -- the views that structs stand for
-abbrev pub each_view_of : List told_view.View → List View
+abbrev pub each_view_of : List told_view.View → List (View ℕ ℕ)
 each_view_of views = map view_of views
 
 -- the views of a store
-abbrev pub views_of : Store → List View
+abbrev pub views_of : Store → List (View ℕ ℕ)
 views_of store = each_view_of store.views

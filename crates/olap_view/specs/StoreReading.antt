@@ -38,7 +38,7 @@ said_of i rows y = option_and_then summary_read (find (is_row_of i y) rows)
 
 -- a summary that a row of y may store
 abbrev pub IsStoredAt : ℕ → Summary → Type 0
-IsStoredAt y s = IsStored (record { member = y; summary = s })
+IsStoredAt y s = IsStored (record { at = y; summary = s })
 
 -- the categories are those of the views that these records begin, and each member has the summary in its row, if there
 -- is one

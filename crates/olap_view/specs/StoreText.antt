@@ -26,18 +26,18 @@ use Rattle.olap_view.specs.declared.kinds.StoreKind.TheVariants as kind
 
 -- ---- printed
 
--- the header of a view's text, behind the category
+-- the header of a view's text, after the category
 abbrev pub header : List (List ℕ)
 header = codes "category" ∷ view.header
 
--- the records of a view: one that begins it, with nothing behind the category, and one for each row
-abbrev pub records_of_one : Graph → Instance → View → List (List (List ℕ))
+-- the records of a view: one that begins it, with nothing after the category, and one for each row
+abbrev pub records_of_one : Graph → Instance → View ℕ ℕ → List (List (List ℕ))
 records_of_one g i v =
-    let name = name_of_category g v.category in
+    let name = name_of_category g v.target in
     (name ∷ [] ∷ [] ∷ [] ∷ [] ∷ [] ∷ []) ∷ map (λ r. name ∷ view.fields_in i r) v.rows
 
 -- the text of the header, and of the records of each view
-abbrev pub store_text : Graph → Instance → List View → List ℕ
+abbrev pub store_text : Graph → Instance → List (View ℕ ℕ) → List ℕ
 store_text g i views = text_of_rows (header ∷ flat_map (records_of_one g i) views)
 
 -- ---- a row's numbers
@@ -51,7 +51,7 @@ summary_read r =
 
 -- ---- a record
 
--- the fields behind the category are empty
+-- the fields after the category are empty
 abbrev pub is_beginning : List (List ℕ) → Bool
 is_beginning r = list_all (λ f. length f == 0) (drop 1 r)
 
@@ -67,7 +67,7 @@ begun g rows = map (category_number g) (filter is_beginning rows)
 abbrev pub is_row_of : Instance → ℕ → List (List ℕ) → Bool
 is_row_of i y r = not (is_beginning r) && (member_number i (field r 1) == y)
 
--- the first check that a record fails which begins a view of c, after the records before it
+-- the first check that a record that begins a view of c fails, after the records before it
 abbrev pub beginning_fault : Graph → List (List (List ℕ)) → ℕ → Option StoreKind
 beginning_fault g before c =
     if list_any (λ d. d == c) (begun g before) then Some kind.DuplicateView
@@ -95,33 +95,33 @@ store_fault g i before r =
 
 -- ---- all of them
 
--- the row of a member, if some record is one
-abbrev pub row_read : Instance → List (List (List ℕ)) → ℕ → Option Row
+-- the row of the member y, if some record is one
+abbrev pub row_read : Instance → List (List (List ℕ)) → ℕ → Option (Row ℕ)
 row_read i rows y = row_at y (option_and_then summary_read (find (is_row_of i y) rows))
 
 -- the view of c: the rows of its members, in file order of the members
-abbrev pub view_read : Instance → List (List (List ℕ)) → ℕ → View
-view_read i rows c = record { category = c; rows = filter_map (row_read i rows) (members_of i c) }
+abbrev pub view_read : Instance → List (List (List ℕ)) → ℕ → View ℕ ℕ
+view_read i rows c = record { target = c; rows = filter_map (row_read i rows) (members_of i c) }
 
 -- the views that the records begin, in order
-abbrev pub views_read : Graph → Instance → List (List (List ℕ)) → List View
+abbrev pub views_read : Graph → Instance → List (List (List ℕ)) → List (View ℕ ℕ)
 views_read g i rows = map (view_read i rows) (begun g rows)
 
 -- what the records of a text stand for
-abbrev pub store_read : Graph → Instance → List (List (List ℕ)) → Result (List View) (Fault StoreKind)
+abbrev pub store_read : Graph → Instance → List (List (List ℕ)) → Result (List (View ℕ ℕ)) (Fault StoreKind)
 store_read g i = table_read header kind.BadHeader
     (λ rows. or_read (first_fault (store_fault g i) [] rows) (Ok (views_read g i rows)))
 
 -- ---- as it is printed
 
 -- the header, and the records of each view
-abbrev pub records_of_store : Graph → Instance → List View → List (List (List ℕ))
+abbrev pub records_of_store : Graph → Instance → List (View ℕ ℕ) → List (List (List ℕ))
 records_of_store g i views = header ∷ flat_map (records_of_one g i) views
 
--- a record whose fields behind the category are empty begins a view
+-- a record whose fields after the category are empty begins a view
 abbrev pub beginning : List ℕ → List (List ℕ)
 beginning name = name ∷ [] ∷ [] ∷ [] ∷ [] ∷ [] ∷ []
 
 -- the record that begins the view of that name, and one for each row: the name, and the fields of the row
-abbrev pub records_behind : List ℕ → Instance → List Row → List (List (List ℕ))
+abbrev pub records_behind : List ℕ → Instance → List (Row ℕ) → List (List (List ℕ))
 records_behind name i rows = beginning name ∷ map (λ r. name ∷ view.fields_in i r) rows

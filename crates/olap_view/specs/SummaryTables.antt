@@ -14,7 +14,7 @@ use Rattle.olap_base.specs.Views.{View, members_of, row_at}
 use Rattle.olap_view.specs.Tables.{HasPlaces, categories_of, summary_at}
 use Rattle.olap_view.specs.declared.tables.Table.{Table}
 
--- a summary or none at each member of an instance, of which those of some categories alone say something
+-- a summary or none at each member of an instance; only those at members of some categories say something
 pub record Summarized : Type 0 where
   pub instance : Instance
   pub categories : List ℕ
@@ -25,16 +25,16 @@ abbrev pub stands_at : Summarized → ℕ → Option Summary
 stands_at t y = slice_index_or t.summaries y None
 
 -- the view of c: a row for each of its members at which something stands, in file order
-abbrev pub view_at : Summarized → ℕ → View
-view_at t c = record { category = c; rows = filter_map (λ y. row_at y (stands_at t y)) (members_of t.instance c) }
+abbrev pub view_at : Summarized → ℕ → View ℕ ℕ
+view_at t c = record { target = c; rows = filter_map (λ y. row_at y (stands_at t y)) (members_of t.instance c) }
 
 -- the views of the table's categories, in order
-abbrev pub views_at : Summarized → List View
+abbrev pub views_at : Summarized → List (View ℕ ℕ)
 views_at t = map (view_at t) t.categories
 
 -- the categories of views, in order
-abbrev pub categories_in : List View → List ℕ
-categories_in views = map (λ v. v.category) views
+abbrev pub categories_in : List (View ℕ ℕ) → List ℕ
+categories_in views = map (λ v. v.target) views
 
 -- ---- within
 

@@ -76,11 +76,11 @@ pub record AreJoined (i : Instance) (x : ℕ) (s : Summary) (before after : Tabl
       → summary_at after y ≡ summary_at before y ⊕ when (reaches i x y) s
 
 -- the view of c with a summary or none at each member
-abbrev pub view_by : Instance → (ℕ → Option Summary) → ℕ → View
-view_by i at c = record { category = c; rows = filter_map (λ y. row_at y (at y)) (members_of i c) }
+abbrev pub view_by : Instance → (ℕ → Option Summary) → ℕ → View ℕ ℕ
+view_by i at c = record { target = c; rows = filter_map (λ y. row_at y (at y)) (members_of i c) }
 
 -- the view of c with the table's summaries
-abbrev pub view_in : Instance → Table → ℕ → View
+abbrev pub view_in : Instance → Table → ℕ → View ℕ ℕ
 view_in i t c = view_by i (summary_at t) c
 
 -- each of the first n members that is of the categories has one of the first k places

@@ -10,7 +10,7 @@ use olap_base::{CatId, MemberId};
 use olap_graph::Graph;
 use olap_instance::Instance;
 
-/// What a record of a printed store most likely names: the category of the one before it, and the member behind that
+/// What a record of a printed store most likely names: the category of the one before it, and the member after that
 /// one's. Where it names others, they are looked up.
 #[derive(Clone, Copy)]
 pub(crate) struct Guess {
@@ -47,7 +47,7 @@ impl Guess {
         }
     }
 
-    /// Of the record behind one that says this.
+    /// Of the record after one that says this.
     pub(crate) fn after(self, entry: Entry) -> Guess {
         match entry {
             Entry::Beginning(category) => Guess {

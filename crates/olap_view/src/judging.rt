@@ -28,7 +28,7 @@ pub(crate) enum Entry {
     Row(MemberId, Summary),
 }
 
-/// Whether the record that was read last begins a view: nothing stands behind the category.
+/// Whether the record that was read last begins a view: nothing stands after the category.
 fn is_beginning(rows: &Rows) -> bool
     ensures { result ≡ begins rows.now.row }
 {

@@ -3,7 +3,7 @@
 //! A contract sees a `View` as the definition's record (`view_of` of `specs/Seen.antt`). A `Tally` stands for a fact
 //! table, and gives the definition's `direct_view`; `direct` answers it too, and `from_views` its `rows_from_views`,
 //! on a legal instance. A `SummaryTable` has what stands at each member of some categories: stored views are read into
-//! it, changed member by member, and read out of it.
+//! it, changed member by member, and read out of it. Which views may be combined is decided elsewhere.
 #![tactic(auto)]
 
 mod columns;

@@ -13,7 +13,7 @@ use olap_instance::Instance;
 use olap_records::Printer;
 use std::alloc::Global;
 
-/// Prints a row behind what is printed; of a store with the category's name before it.
+/// Prints a row after what is printed; of a store with the category's name before it.
 fn print_row(out: &mut Printer, category: Option<&[u8]>, id: &[u8], row: &Row) -> Result<(), Memory>
     requires width { out.old.width ≡ width_behind (option_map (λ n. n.now) category) }
     ensures text { OnOk result (out.new.text ≡ out.old.text
@@ -34,7 +34,7 @@ fn print_row(out: &mut Printer, category: Option<&[u8]>, id: &[u8], row: &Row) -
     }
 }
 
-/// Prints a record, and behind it one for each row of the view; of a store with the category's name before each row.
+/// Prints a record, and after it one for each row of the view; of a store with the category's name before each row.
 pub(crate) fn print_rows(
     out: &mut Printer,
     instance: &Instance,
@@ -58,7 +58,7 @@ pub(crate) fn print_rows(
     Ok(())
 }
 
-/// The text of a view behind a text that is there, which isn't copied. `Memory`: out of memory.
+/// The text of a view after a text that is there, which isn't copied. `Memory`: out of memory.
 pub fn print_view_behind(text: Vec<u8>, instance: &Instance, view: &View) -> Result<Vec<u8>, Memory>
     requires at_members { All (λ r. r.member.0 < length instance.now) view.now.rows }
     ensures { IfOk result (λ bytes. bytes.items ≡ text.items ++ view_text instance.now (view_of view.now)) }

@@ -39,7 +39,7 @@ impl StoredRows {
         })
     }
 
-    /// Adds a category behind the others.
+    /// Adds a category after the others.
     pub(crate) fn begin(&mut self, c: CatId) -> Result<(), Memory>
         ensures categories { OnOk result (begun_in self.new ≡ begun_in self.old ++ c.0 ∷ []) }
         ensures places { self.new.places ≡ self.old.places }

@@ -21,7 +21,7 @@ use olap_instance::Instance;
 use olap_records::{Printer, Rows};
 use std::alloc::Global;
 
-/// Prints the header, and each view behind it: the record that begins it, and its rows.
+/// Prints the header, and each view after it: the record that begins it, and its rows.
 fn print_views(
     out: &mut Printer,
     graph: &Graph,
@@ -30,8 +30,8 @@ fn print_views(
 ) -> Result<(), Memory>
     requires width { out.old.width ≡ 6 }
     requires nothing { out.old.text ≡ [] }
-    requires categories { All (λ v. IsCategory graph.now v.category) (views_of store.now) }
-    requires at_members { All (λ v. All (λ r. r.member < length instance.now) v.rows) (views_of store.now) }
+    requires categories { All (λ v. IsCategory graph.now v.target) (views_of store.now) }
+    requires at_members { All (λ v. All (λ r. r.at < length instance.now) v.rows) (views_of store.now) }
     ensures { OnOk result (out.new.text ≡ store_text graph.now instance.now (views_of store.now)) }
 {
     out.row(&[
@@ -64,8 +64,8 @@ pub fn print_store(
     instance: &Instance,
     store: &Store,
 ) -> Result<Text, Memory>
-    requires categories { All (λ v. IsCategory graph.now v.category) (views_of store.now) }
-    requires at_members { All (λ v. All (λ r. r.member < length instance.now) v.rows) (views_of store.now) }
+    requires categories { All (λ v. IsCategory graph.now v.target) (views_of store.now) }
+    requires at_members { All (λ v. All (λ r. r.at < length instance.now) v.rows) (views_of store.now) }
 
     ensures text { IfOk result (λ text. text ≡ store_text graph.now instance.now (views_of store.now)) }
     ensures reads { IfOk result (λ text. records_of text
@@ -179,7 +179,7 @@ fn read_left(
 /// members, whatever their order in the text.
 ///
 /// Linear in the text: a record takes a look-up of a category's name and one of a member's id, or where it names the
-/// category of the record before and the member behind that one's, a comparison of each. It takes four bytes for each
+/// category of the record before and the member after that one's, a comparison of each. It takes four bytes for each
 /// member of the instance, and memory for each row. `Memory`: out of memory.
 pub fn read_store(
     alloc: Global,

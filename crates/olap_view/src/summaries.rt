@@ -1,4 +1,4 @@
-// What values come to: their number, sum, least and greatest.
+// The total of some values: their number, sum, least and greatest.
 ghost use Rattle.std.specs.Prelude.{◌≡◌, ◌^◌, IfSome, Some};
 ghost use Rattle.std.specs.Option.{option_map};
 ghost use Rattle.olap_base.specs.Summaries.{joined, of_value, ◌⊕◌};
@@ -7,7 +7,7 @@ ghost use Rattle.olap_view.specs.Seen.{columns_of, summary_of};
 
 use crate::Row;
 
-/// What some values come to.
+/// The total of some values: their number, sum, least and greatest.
 #[derive(Clone, Copy, PartialEq, Eq)]
 pub struct Summary {
     /// How many they are.
@@ -21,7 +21,7 @@ pub struct Summary {
 }
 
 impl Summary {
-    /// What one value comes to.
+    /// The total of one value.
     #[inline(always)]
     pub fn of_value(value: i64) -> Summary
         ensures { summary_of result ≡ of_value value }
@@ -34,7 +34,7 @@ impl Summary {
         }
     }
 
-    /// What two lots of values come to together.
+    /// The total of two lots of values together.
     #[inline(always)]
     pub fn joined(self, other: Summary) -> Summary
         requires this { IsJoinable (summary_of self) }

@@ -1,4 +1,4 @@
-// What values come to at each member of some categories.
+// Totals of values at each member of some categories.
 ghost use Rattle.std.specs.Prelude.{◌≡◌, ◌<◌, ◌≤◌, ◌^◌, ◌↔◌, ℕ, All, AllPairs, ◌≢◌, Contains, IfOk, IfSome, IsTrue, None, Some, length, map, set};
 ghost use Rattle.std.specs.Option.{option_map};
 ghost use Rattle.olap_base.specs.Limits.{most_members};
@@ -15,7 +15,7 @@ use olap_instance::Instance;
 use olap_legal::Legal;
 use std::alloc::Global;
 
-/// What some values come to at each member of some categories, where there are any.
+/// The total of some values at each member of some categories, if there are any.
 #[derive(Drop)]
 pub(crate) struct Table {
     /// The categories.

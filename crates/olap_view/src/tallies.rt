@@ -1,11 +1,11 @@
 // Tallies: facts are added one at a time, and give the direct views of some categories.
 //
-// Where the categories are few, a fact goes into the table of their members at once. Where they are more, what the facts
-// at each member come to waits at that member, and goes into the table once for each member and not for each fact.
+// If the categories are few, a fact goes into the table of their members at once. If they are more, the total of the
+// facts at each member is kept at that member, and goes into the table once for each member and not for each fact.
 ghost use Rattle.std.specs.Prelude.{◌≡◌, ◌≢◌, ◌+◌, ◌∷◌, ◌++◌, ◌<◌, ◌≤◌, ◌^◌, ℕ, All, AllPairs, Contains, IfOk, List as Items, None, [], length, map, slice_index_or};
 ghost use Rattle.olap_base.specs.Limits.{most_count, most_members};
 ghost use Rattle.olap_base.specs.Summaries.{◌⊕◌};
-ghost use Rattle.olap_base.specs.Views.{Fact as TheFact, direct_view};
+ghost use Rattle.olap_base.specs.Views.{Fact as TheFact, direct_view, members};
 ghost use Rattle.olap_facts.specs.Seen.{fact_of};
 ghost use Rattle.olap_view.specs.Seen.{each_view_of, ids, view_of};
 ghost use Rattle.olap_view.specs.Stores.{Fits};
@@ -20,14 +20,14 @@ use olap_legal::Legal;
 use std::alloc::Global;
 use std::marker::Model;
 
-/// So many categories are few: what a fact's member reaches in each is looked at for each fact.
+/// The most categories that count as few: for each fact, what its member reaches in each of them is looked up.
 const FEW_CATEGORIES: usize = 2;
 
-/// What the values of the facts that were added come to, at each member of some categories.
+/// The total of the values of the facts that were added, at each member of some categories.
 #[derive(Drop)]
 pub struct Tally<'a> {
     table: SummaryTable<'a>,
-    // For each member what the facts at it come to that aren't in the table; empty where each goes there at once.
+    // For each member the total of the facts at it that aren't in the table; empty if each goes there at once.
     waiting: Vec<Option<Summary>>,
     added: u64,
 }
@@ -42,7 +42,7 @@ impl<'a> Model for Tally<'a> {
     ghost invariant = { λ a. IsTally a.table a.waiting.items a.added };
 }
 
-/// Nothing waits: a place for each member where there are more categories than few, and none elsewhere.
+/// Nothing waits: a place for each member if there are more than a few categories, and no places otherwise.
 fn nothing_waiting(
     alloc: Global,
     members: u32,
@@ -101,15 +101,15 @@ impl<'a> Tally<'a> {
         self.added
     }
 
-    /// Adds a fact: a tally that stood for some facts stands for them and this one behind them. It takes one look at
-    /// a list for each of two categories or one, and one look for more.
+    /// Adds a fact: a tally that stood for some facts stands for them and this one after them. It takes one look at
+    /// a list for each of two categories or one, and one for more.
     pub fn add(&mut self, fact: &Fact)
         requires member { fact.now.member.0 < length self.old.instance }
         requires room { self.old.added < most_count }
         ensures instance { self.new.instance ≡ self.old.instance }
         ensures categories { self.new.categories ≡ self.old.categories }
         ensures added { self.new.added ≡ self.old.added + 1 }
-        ensures stands { (facts : Items TheFact) → StandsFor self.old facts
+        ensures stands { (facts : Items (TheFact ℕ)) → StandsFor self.old facts
             → StandsFor self.new (facts ++ fact_of fact.now ∷ []) }
     {
         let alone = Summary::of_value(fact.value);
@@ -130,7 +130,7 @@ impl<'a> Tally<'a> {
         ensures instance { self.new.instance ≡ self.old.instance }
         ensures categories { self.new.categories ≡ self.old.categories }
         ensures added { self.new.added ≡ self.old.added + 1 }
-        ensures stands { (facts : Items TheFact) → StandsFor self.old facts
+        ensures stands { (facts : Items (TheFact ℕ)) → StandsFor self.old facts
             → StandsFor self.new (facts ++ fact_of fact.now ∷ []) }
     {
         self.table.join(fact.member, Summary::of_value(fact.value));
@@ -144,7 +144,7 @@ impl<'a> Tally<'a> {
         ensures instance { self.new.instance ≡ self.old.instance }
         ensures categories { self.new.categories ≡ self.old.categories }
         ensures added { self.new.added ≡ self.old.added + length facts.now }
-        ensures stands { (before : Items TheFact) → StandsFor self.old before
+        ensures stands { (before : Items (TheFact ℕ)) → StandsFor self.old before
             → StandsFor self.new (before ++ map fact_of facts.now) }
     {
         'facts: for fact in facts {
@@ -159,7 +159,7 @@ impl<'a> Tally<'a> {
         ensures instance { self.new.instance ≡ self.old.instance }
         ensures categories { self.new.categories ≡ self.old.categories }
         ensures added { self.new.added ≡ self.old.added + length facts.now }
-        ensures stands { (before : Items TheFact) → StandsFor self.old before
+        ensures stands { (before : Items (TheFact ℕ)) → StandsFor self.old before
             → StandsFor self.new (before ++ map fact_of facts.now) }
     {
         if self.waiting.is_empty() {
@@ -185,8 +185,8 @@ impl<'a> Tally<'a> {
     pub(crate) fn into_view(self, c: CatId) -> Result<View, Memory>
         requires among { Contains self.categories c.0 }
         ensures view { IfOk result
-            (λ v. (facts : Items TheFact) → StandsFor self.entry facts
-            → view_of v ≡ direct_view self.entry.instance facts c.0) }
+            (λ v. (facts : Items (TheFact ℕ)) → StandsFor self.entry facts
+            → view_of v ≡ direct_view (members self.entry.instance) facts c.0) }
         ensures members { IfOk result (λ v. All (λ r. r.member.0 < length self.entry.instance) v.rows) }
         ensures fits { IfOk result (λ v. Fits (view_of v)) }
     {
@@ -196,8 +196,8 @@ impl<'a> Tally<'a> {
 
     /// The direct views of the categories, in their order. `Memory`: out of memory.
     pub fn into_views(self) -> Result<List<View>, Memory>
-        ensures views { IfOk result (λ v. (facts : Items TheFact) → StandsFor self.entry facts
-            → each_view_of v ≡ map (direct_view self.entry.instance facts) self.entry.categories) }
+        ensures views { IfOk result (λ v. (facts : Items (TheFact ℕ)) → StandsFor self.entry facts
+            → each_view_of v ≡ map (direct_view (members self.entry.instance) facts) self.entry.categories) }
         ensures members { IfOk result (λ v. All (λ w. All (λ r. r.member.0 < length self.entry.instance) w.rows) v) }
         ensures fit { IfOk result (λ v. All Fits (each_view_of v)) }
     {

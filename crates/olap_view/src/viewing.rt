@@ -1,8 +1,8 @@
 // The view of a category, from facts or from stored views.
 ghost use Rattle.std.specs.Int.{bit_at};
-ghost use Rattle.std.specs.Prelude.{◌≡◌, ◌==◌, ◌++◌, ◌<◌, ◌≤◌, ◌*◌, ◌^◌, All, IfOk, List as Items, length};
+ghost use Rattle.std.specs.Prelude.{◌≡◌, ℕ, ◌==◌, ◌++◌, ◌<◌, ◌≤◌, ◌*◌, ◌^◌, All, IfOk, List as Items, length};
 ghost use Rattle.olap_base.specs.Limits.{most_count, most_members};
-ghost use Rattle.olap_base.specs.Views.{Row as TheRow, direct_view, rows_from_views};
+ghost use Rattle.olap_base.specs.Views.{Row as TheRow, direct_view, members, rows_from_views};
 ghost use Rattle.olap_facts.specs.Seen.{facts_of};
 ghost use Rattle.olap_view.specs.Merging.{AreMerged, HoldsRows};
 ghost use Rattle.olap_view.specs.Seen.{rows_of, view_of, views_of};
@@ -22,7 +22,7 @@ pub fn direct(alloc: Global, legal: &Legal, facts: &Facts, c: CatId) -> Result<V
     requires at_members { All (λ f. f.member.0 < length legal.now) facts.now.rows }
     requires few { length facts.now.rows ≤ most_count }
 
-    ensures view { IfOk result (λ v. view_of v ≡ direct_view legal.now (facts_of facts.now) c.0) }
+    ensures view { IfOk result (λ v. view_of v ≡ direct_view (members legal.now) (facts_of facts.now) c.0) }
     ensures members { IfOk result (λ v. All (λ r. r.member.0 < length legal.now) v.rows) }
     ensures fits { IfOk result (λ v. Fits (view_of v)) }
 {
@@ -39,7 +39,7 @@ fn has_bit(mask: u16, k: usize) -> bool
     mask >> k & 1 == 1
 }
 
-/// Joins each row to what stands at the members that its member reaches. So many rows may have been joined before.
+/// Joins each row to what stands at the members that its member reaches. This many rows may have been joined before.
 fn join_rows(table: &mut SummaryTable, rows: &[Row])
     requires at_members { All (λ r. r.member.0 < length table.old.instance) rows.now }
     requires stored { All IsStored (rows_of rows.now) }
@@ -47,7 +47,7 @@ fn join_rows(table: &mut SummaryTable, rows: &[Row])
     requires few { HoldsRows (7 * most_members) table.old }
     ensures instance { table.new.instance ≡ table.old.instance }
     ensures categories { table.new.categories ≡ table.old.categories }
-    ensures merged { (earlier : Items TheRow) → AreMerged earlier table.old
+    ensures merged { (earlier : Items (TheRow ℕ)) → AreMerged earlier table.old
         → AreMerged (earlier ++ rows_of rows.now) table.new }
 {
     'rows: for row in rows {
@@ -69,11 +69,11 @@ pub fn from_views(
 ) -> Result<View, Memory>
     requires store { IsStore (views_of store.now) }
     requires fit { All Fits (views_of store.now) }
-    requires at_members { All (λ v. All (λ r. r.member < length legal.now) v.rows) (views_of store.now) }
+    requires at_members { All (λ v. All (λ r. r.at < length legal.now) v.rows) (views_of store.now) }
     requires bits { mask < 2 ^ length store.now.views }
 
     ensures view { IfOk result (λ v. view_of v
-        ≡ record { category = c.0; rows = rows_from_views legal.now c.0 (chosen (views_of store.now) mask) }) }
+        ≡ record { target = c.0; rows = rows_from_views (members legal.now) c.0 (chosen (views_of store.now) mask) }) }
     ensures members { IfOk result (λ v. All (λ r. r.member.0 < length legal.now) v.rows) }
 {
     let mut table = SummaryTable::new(alloc, legal, &[c])?;

@@ -1,7 +1,7 @@
 // Views, their rows, and stores of views.
 use olap_base::{CatId, List, MemberId};
 
-/// A member with what the values of the facts below it come to.
+/// A member with the total of the values of the facts below it.
 #[derive(Clone, Copy, PartialEq, Eq)]
 pub struct Row {
     /// The member.

@@ -1,4 +1,4 @@
--- The database's own totals. They are here to be compared with.
+-- The database's own totals. The answers are compared with them.
 create view own_total as
     select 'Store' as category, s as member, count(*) as count, sum(cents) as sum, min(cents) as least,
         max(cents) as greatest

@@ -1,4 +1,4 @@
--- The database's own totals, by going up from each place. They are here to be compared with.
+-- The database's own totals, by going up from each place. The answers are compared with them.
 create view above as
     with recursive up (place, ancestor) as (
         select id, id from place

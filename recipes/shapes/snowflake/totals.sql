@@ -1,4 +1,4 @@
--- The database's own totals, by joins that follow each way up. They are here to be compared with.
+-- The database's own totals, by joins that follow each way up. The answers are compared with them.
 create view sale_by_place as
     select
         sale.cents, store.id as store_id, city.id as city_id, city.state_id, city.province_id, region.id as region_id,

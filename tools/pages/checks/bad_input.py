@@ -1,4 +1,4 @@
-"""Bad input is told in one line with a status that isn't 0 and leaves nothing, and odd names come through unharmed."""
+"""Bad input is reported in one line with a status that isn't 0 and leaves nothing, and odd names come through unharmed."""
 
 import json
 import os

@@ -30,8 +30,8 @@ def of_tools(top: Path) -> set[str]:
     names = ("olap-tools", "check-certificate", "compare", "constants", "draw", "explain", "least", "made", "propose", "report")
     modules = [file for folder in ("designers", "pages") for file in (top / "tools" / folder).glob("*.py")]
     below = [*(f"tools/{name}" for name in names), *(str(file.relative_to(top)) for file in modules)]
-    read = ["man/olap.1", "examples/location/schema.txt", "version"]
-    return {"bin/olap-tools", "share/man/man1/olap-tools.1", *(f"share/olap/{name}" for name in [*below, *read])}
+    read = ["man/olap.1", "man/olap.5", "examples/location/schema.txt", "version"]
+    return {"bin/olap-tools", "share/man/man1/olap-tools.1", "share/man/man5/olap.5", *(f"share/olap/{name}" for name in [*below, *read])}
 
 
 def is_there(tool: str, package: str) -> bool:

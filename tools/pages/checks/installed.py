@@ -1,4 +1,4 @@
-"""tools/install puts the files of a list and takes exactly those away; the completions read schemas and run nothing of them."""
+"""tools/install puts the files of a list and removes exactly those; the completions read schemas and run nothing of them."""
 
 import hashlib
 import os
@@ -43,10 +43,10 @@ def told_faults(prefix: Path, lines: list[str]) -> Iterator[str]:
     if lines[:1] != [wanted] or (prefix / "share/olap/installed").read_text().splitlines()[:1] != [f"sources {sources}"]:
         yield f"of the sources it tells {lines[:1]}"
     words = [line.partition(": ")[2] for line in lines[1:]]
-    looks = ["command -v olap olap-tools", "complete -p olap", *(["man -w olap olap-tools"] if shutil.which("man") else [])]
+    looks = ["command -v olap olap-tools", "complete -p olap", *(["man -w 1 olap olap-tools", "man -w 5 olap"] if shutil.which("man") else [])]
     done = subprocess.run(["bash", "--norc", "-e", "-c", "\n".join([*words, *looks])], capture_output=True, text=True, check=False)
-    named = ("bin/olap", "bin/olap-tools", "share/man/man1/olap.1", "share/man/man1/olap-tools.1")
-    places = [str(prefix / name) for name in named][: 2 * (len(looks) - 1)]
+    named = ("bin/olap", "bin/olap-tools", "share/man/man1/olap.1", "share/man/man1/olap-tools.1", "share/man/man5/olap.5")
+    places = [str(prefix / name) for name in named][: 5 if len(looks) > 2 else 2]
     found = [line for line in done.stdout.splitlines() if not line.startswith("complete ")]
     if done.returncode != 0 or found != places:
         yield f"what it says to set finds {found}: {words} {done.stderr.strip()}"

@@ -1,4 +1,4 @@
-"""The reports on the examples are well-formed, load nothing, lead somewhere, and say what the program says when it is asked anew."""
+"""The reports on the examples are well-formed, load nothing, lead somewhere, and say what the program says when it is asked again."""
 
 import itertools
 import random
@@ -319,7 +319,7 @@ def limit_faults() -> Iterator[str]:
                 yield f"of {what}: it is made in {rest:.0f} s more than it may ask for"
             if len(done.stdout) > MOST_PAGE:
                 yield f"of {what}: the page has {len(done.stdout):,} characters"
-            if "<svg" not in done.stdout and "This picture wasn&#x27;t drawn in the time of this page" not in done.stdout:
+            if not any(text in done.stdout for text in ("<svg", "no time or room for this picture", "wasn&#x27;t drawn in the time")):
                 yield f"of {what}: it has no picture, and doesn't say why"
 
 

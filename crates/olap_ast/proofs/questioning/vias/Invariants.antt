@@ -1,4 +1,4 @@
--- The terms are those of the sources behind.
+-- The terms are those of the sources from this one on.
 use Rattle.std.proofs.Common.{◌≡◌, ◌≤◌, length, drop}
 use Rattle.olap_ast.specs.Summarizable.{vias}
 use Rattle.olap_ast.specs.Trees.{numbers_of, terms_of}

@@ -1,8 +1,7 @@
 -- A category is present as the root, or as an end of the edge that was looked at last.
 use Rattle.std.proofs.Common.{◌≡◌, ◌<◌, true, false, get_or, sym, ap, ◌∙◌, length, arith}
-use Rattle.olap_ast.proofs.Shape.{is_same}
 use Rattle.std.specs.Prelude.{◌==◌, ◌||◌}
-use Rattle.std.proofs.lemmas.Bool.{or_left, or_right}
+use Rattle.std.proofs.lemmas.Bool.{or_left, or_right, eq-eqb}
 use Rattle.olap_cex.proofs.PresentLemmas.{no_end_absent, seen_present}
 use Rattle.olap_cex.proofs.members.has_member.Goals as goal
 use Rattle.olap_cex.proofs.members.has_member.Goals.{then-child-c-via-then-child-c, then-child-c-via-else-child-c+then-parent-c}
@@ -17,8 +16,8 @@ returns-then-child-c c =
     let d = c.ends.result.0.0 in
     let p = c.ends.result.1.0 in
     let here : (d == x) || (p == x) ≡ true = elim c.then-child-c.branch [
-      | then-child-c-via-then-child-c w ↦ or_left (d == x) (p == x) (is_same d x w.if-child-c.true)
-      | then-child-c-via-else-child-c+then-parent-c w ↦ or_right (d == x) (p == x) (is_same p x w.if-parent-c.true)
+      | then-child-c-via-then-child-c w ↦ or_left (d == x) (p == x) (eq-eqb d x w.if-child-c.true)
+      | then-child-c-via-else-child-c+then-parent-c w ↦ or_right (d == x) (p == x) (eq-eqb p x w.if-parent-c.true)
     ] in
     sym (seen_present c.args.root.0 g.edges bits x c.edges.e d p inside bit c.ends.ensures.edge here)
 

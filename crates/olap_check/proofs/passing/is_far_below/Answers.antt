@@ -1,4 +1,4 @@
--- A member is far below another exactly where the table has that other for it.
+-- A member is far below another exactly if the table has that other for it.
 use Rattle.std.proofs.Common.{subst}
 use Rattle.olap_base.specs.Instance.{IsMemberOf, Reaches}
 use Rattle.olap_check.proofs.PassingLemmas.{far_same, far_some}

@@ -1,4 +1,4 @@
--- Of the literals so far only this one can be true, by so many of the trail.
+-- Of the literals so far only this one can be true, by this many of the trail.
 use Rattle.std.proofs.Common.{◌≤◌, length}
 use Rattle.olap_clauses.specs.Trails.{steps_of}
 use Rattle.olap_clauses.proofs.RetreatLemmas.{AreFalseFrom}

@@ -4,9 +4,10 @@ use Rattle.olap_clauses.specs.declared.trails.Step.{Step}
 use Rattle.olap_clauses.specs.declared.trails.Reason.TheVariants.{Above}
 use Rattle.olap_clauses.specs.Standing.{Agrees}
 use Rattle.olap_clauses.specs.Trails.{steps_of}
-use Rattle.olap_clauses.proofs.OutcomeLemmas.{false_is_not_true, true_is_not_false}
+use Rattle.olap_clauses.proofs.OutcomeLemmas.{true_is_not_false}
 use Rattle.olap_clauses.proofs.RetreatLemmas.{retreat_start, retreat_more, goes_on, goes_over, goes_off, left_cut, cut_more, front_is, front_kept}
 use Rattle.olap_clauses.proofs.retreating.retreat.Goals as goal
+use Rattle.std.proofs.lemmas.Bool.{false≢true}
 
 pub branches-init : goal.branches-init
 branches-init c = retreat_start c.args.pool.now c.args.floor c.args.trail.now c.requires
@@ -60,11 +61,11 @@ returns-in-None c =
     let b = c.in-None.ensures.back in
     let new = c.back.new.trail in
     record {
-      on = λ e. absurd (false_is_not_true e);
+      on = λ e. absurd (false≢true e);
       off = λ e v a n h. goes_off new r b.0 b.1 v a n
           (subst (λ ss. Agrees v ss) (sym (front_is new r b.0 b.1)) h);
       front = front_kept new r b.0 b.1;
       floor = let h = b.1 in omega arith;
       variables = c.in-None.ensures.variables ∙ r.variables;
-      less = λ e. absurd (false_is_not_true e);
+      less = λ e. absurd (false≢true e);
     }

@@ -4,6 +4,7 @@ use Rattle.olap_ast.specs.Trees.{formula_of}
 use Rattle.olap_frozen.specs.declared.founding.Found.{Found}
 use Rattle.olap_frozen.specs.LeastFound.{IsLeastFound}
 use Rattle.olap_cube_summ.specs.Ways.{IsInside}
+use Rattle.olap_ast.proofs.SourceLemmas.{no_more_constants}
 use Rattle.olap_schema.specs.Schemas.{schema_of}
 use Rattle.olap_cube_summ.proofs.SearchLemmas.{about_same, is_least, some_found}
 use Rattle.olap_cube_summ.proofs.asking.least_found.Goals as goal
@@ -12,6 +13,11 @@ use Rattle.olap_cube_summ.proofs.asking.least_found.Goals as goal
 none_else : (o : Option Found) → ((found : Found) → o ≡ Some found → ⊥) → IsNone o
 none_else None n = refl
 none_else (Some found) n = absurd (n found refl)
+
+pub find-requires-clause-few : goal.find-requires-clause-few
+find-requires-clause-few c =
+    no_more_constants (schema_of c.args.schema.now) (formula_of c.in_ok-formula.formula)
+    c.constraints-valid.ensures.valid c.in_ok-formula.ensures.free c.in_ok-formula.ensures.numberless
 
 pub unreachable-requires : goal.unreachable-requires
 unreachable-requires c =

@@ -2,9 +2,15 @@ use Rattle.std.proofs.lemmas.Option.{IfSome_then}
 use Rattle.std.proofs.lemmas.Result.{IfOk-weaker}
 use Rattle.olap_ast.specs.Trees.{formula_of}
 use Rattle.olap_cube_summ.specs.Ways.{IsOutside}
+use Rattle.olap_ast.proofs.SourceLemmas.{no_more_constants}
 use Rattle.olap_schema.specs.Schemas.{schema_of}
 use Rattle.olap_cube_summ.proofs.SearchLemmas.{about_same, all_known, is_other}
 use Rattle.olap_cube_summ.proofs.asking.other_found.Goals as goal
+
+pub find-requires-clause-few : goal.find-requires-clause-few
+find-requires-clause-few c =
+    no_more_constants (schema_of c.args.schema.now) (formula_of c.in_ok-formula.formula)
+    c.constraints-valid.ensures.valid c.in_ok-formula.ensures.free c.in_ok-formula.ensures.numberless
 
 pub returns-clause-none : goal.returns-clause-none
 returns-clause-none c =

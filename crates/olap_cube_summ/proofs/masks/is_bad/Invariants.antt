@@ -1,4 +1,4 @@
--- So many of the sources from this one on have their bits in the mask.
+-- This many of the sources from this one on have their bits in the mask.
 use Rattle.std.proofs.Common.{◌≡◌, ◌≤◌, ◌+◌, ◌-◌, ℕ}
 use Rattle.std.specs.List.{range_with_len}
 use Rattle.olap_base.specs.OneFact.{HoldsTimes}

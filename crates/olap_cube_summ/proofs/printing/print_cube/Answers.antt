@@ -1,4 +1,4 @@
--- The lines with the sum of so many ones are the text.
+-- The lines with the sum of this many ones are the text.
 use Rattle.std.proofs.Common.{◌≡◌, ℕ, List, ◌++◌, Some, map, pos, sym, subst, ap, ◌∙◌}
 use Rattle.std.specs.Option.{option_map}
 use Rattle.olap_ast.specs.Schema.{Schema}

@@ -11,16 +11,17 @@ use Rattle.olap_cube_summ.specs.Choices.{AreFamiliesOf, AreLeast, IsDimension, d
 use Rattle.olap_cube_summ.specs.Questions.{AreQuestionsOf}
 use Rattle.olap_cube_summ.proofs.AnswerLemmas.{dimensions, is_bad, is_counterexample}
 use Rattle.olap_cube_summ.proofs.DimensionLemmas.{of_length}
-use Rattle.olap_cube_summ.proofs.SettingLemmas.{all_ordered, are_questions_of, as_many, hierarchies, kinded, summarizable_is}
+use Rattle.olap_cube_summ.proofs.SettingLemmas.{all_ordered, are_questions_of, hierarchies, kinded, summarizable_is}
 use Rattle.olap_cube_summ.proofs.summarizing.counterexample.Goals as goal
+use Rattle.olap_cube_summ.proofs.PlaceLemmas.{category_count}
 
 pub questions-requires-clause-target : goal.questions-requires-clause-target
 questions-requires-clause-target c =
-    as_many (schemas_of c.args.cube.now) (tuple_of c.args.target.now) c.requires.target ∙ sym c.len.ensures.count
+    category_count (schemas_of c.args.cube.now) (tuple_of c.args.target.now) c.requires.target ∙ sym c.len.ensures.count
 
 pub questions-requires-clause-sources : goal.questions-requires-clause-sources
 questions-requires-clause-sources c = λ k d l.
-    as_many (schemas_of c.args.cube.now) _ (c.requires.sources k d l) ∙ sym c.len.ensures.count
+    category_count (schemas_of c.args.cube.now) _ (c.requires.sources k d l) ∙ sym c.len.ensures.count
 
 pub all_families-requires : goal.all_families-requires
 all_families-requires c =

@@ -8,8 +8,9 @@ use Rattle.olap_frozen.specs.LeastFound.{frozen_of}
 use Rattle.olap_names.specs.Names.{candidates_of}
 use Rattle.olap_schema.specs.Schemas.{schema_of}
 use Rattle.olap_cube_summ.specs.Patterns.{named_by}
-use Rattle.olap_cube_summ.proofs.WayLemmas.{candidates_for, way_is, whole_is}
+use Rattle.olap_cube_summ.proofs.WayLemmas.{candidates_for, way_is}
 use Rattle.olap_cube_summ.proofs.ways.reaches_by.Goals as goal
+use Rattle.olap_names.proofs.WholeLemmas.{whole_is}
 
 pub is_frozen-is_way-requires-clause-candidates : goal.is_frozen-is_way-requires-clause-candidates
 is_frozen-is_way-requires-clause-candidates c =

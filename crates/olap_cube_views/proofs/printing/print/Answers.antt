@@ -2,7 +2,7 @@
 use Rattle.std.proofs.Common.{◌≡◌, ◌++◌, ℕ, List, ap, length, subst, sym, ◌∙◌}
 use Rattle.std.specs.Prelude.{All}
 use Rattle.olap_base.specs.Instance.{Instance}
-use Rattle.olap_cube.specs.CubeViews.{CubeRow}
+use Rattle.olap_base.specs.Views.{Row}
 use Rattle.olap_records.specs.Texts.{text_of_row}
 use Rattle.olap_cube_views.specs.CubeTallies.{AreMembers}
 use Rattle.olap_cube_views.specs.CubeViewText.{fields_in, header}
@@ -14,10 +14,10 @@ use Rattle.olap_cube_views.proofs.printing.print.Goals as goal
 
 -- so do the rows that are lent
 lent_rows : (is : List Instance) (n : ℕ) (rows items : List told.CubeRow) → items ≡ rows
-    → All (λ (r : CubeRow). AreMembers is r.members) (cube_rows_of n rows)
-    → All (λ (r : CubeRow). AreMembers is r.members) (cube_rows_of n items)
+    → All (λ (r : Row (List ℕ)). AreMembers is r.at) (cube_rows_of n rows)
+    → All (λ (r : Row (List ℕ)). AreMembers is r.at) (cube_rows_of n items)
 lent_rows is n rows items e a =
-    subst (λ (rs : List told.CubeRow). All (λ (r : CubeRow). AreMembers is r.members) (cube_rows_of n rs)) (sym e) a
+    subst (λ (rs : List told.CubeRow). All (λ (r : Row (List ℕ)). AreMembers is r.at) (cube_rows_of n rs)) (sym e) a
 
 pub print_row-requires-clause-members : goal.print_row-requires-clause-members
 print_row-requires-clause-members c =

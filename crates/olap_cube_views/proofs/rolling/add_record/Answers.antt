@@ -1,10 +1,10 @@
 -- The header, a fact or a fault.
-use Rattle.std.proofs.Common.{◌≡◌, ◌↔◌, ◌∷◌, ◌++◌, [], IsTrue, List, length, take, sym, ap, subst, ◌∙◌, rules, w64}
+use Rattle.std.proofs.Common.{◌≡◌, ℕ, ◌↔◌, ◌∷◌, ◌++◌, [], IsTrue, List, length, take, sym, ap, subst, ◌∙◌, rules, w64}
 use mir.Val.{SFits}
 use Rattle.std.proofs.lemmas.Int.{to_z-of_z}
 use Rattle.std.proofs.lemmas.List.{length-map}
 use Rattle.olap_base.specs.Instance.{Instance}
-use Rattle.olap_cube.specs.CubeViews.{CubeFact}
+use Rattle.olap_base.specs.Views.{Fact}
 use Rattle.olap_cube.specs.Tuples.{IsBottomTuple}
 use Rattle.olap_view.specs.Columns.{Ascent}
 use Rattle.olap_cube_views.specs.CubeFactText.{cube_fact_read, header}
@@ -73,6 +73,6 @@ returns-in_ok-add-in-Ok-clause-counts c = λ done facts h s.
     record {
       facts = facts ++ fact ∷ [];
       counted = counted-fact (graphs_of c.args.graphs.now) is done facts c.args.row.now.row going fact says.0 says.1;
-      stands_for = subst (λ (f : CubeFact). CubeStandsFor c.add.new.self (facts ++ f ∷ [])) same
+      stands_for = subst (λ (f : Fact (List ℕ)). CubeStandsFor c.add.new.self (facts ++ f ∷ [])) same
           (c.in_ok-add-in-Ok.ensures.stands facts s);
     }

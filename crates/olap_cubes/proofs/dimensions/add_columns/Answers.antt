@@ -17,9 +17,10 @@ use Rattle.olap_view.specs.Seen.{ids}
 use Rattle.olap_cube_views.specs.Dimensions.{AreMadeFor, categories_in, instances_in}
 use Rattle.olap_cubes.specs.Cut.{legal_files_from}
 use Rattle.olap_cubes.specs.Steps.{numbered}
-use Rattle.olap_cubes.proofs.DimensionLemmas.{file_is, ids_more, legals_end, legals_from, made_all, made_more}
+use Rattle.olap_cubes.proofs.DimensionLemmas.{ids_more, legals_end, legals_from, made_all, made_more}
 use Rattle.olap_cubes.proofs.FilesLemmas.{AreReadTo, as_ended, as_read, ended_so, read_all, read_ends, read_more, read_none, read_wants}
 use Rattle.olap_cubes.proofs.dimensions.add_columns.Goals as goal
+use Rattle.olap_order.proofs.SourceLemmas.{word_is}
 
 -- the instances in the files that are left
 abbrev behind : List Schema → List (List ℕ) → ℕ → List Instance → Order (List Instance)
@@ -55,7 +56,7 @@ returns-in_err-column-clause-step g c =
     let stop = c.in_err-column.field-0.0 in
     let there : k < length c.args.files.now = omega (arith, c.requires.each, c.len-k-end.ensures.count) in
     let file : c.as_str-file.result.now ≡ get_or files k [] = c.as_str-file.ensures.value
-    ∙ file_is c.args.files.now k c.index-files-k.result there c.index-files-k.is in
+    ∙ word_is c.args.files.now k c.index-files-k.result there c.index-files-k.is in
     let here : k < length files = omega (arith, length-map c.args.files.now string_bytes) in
     let this : k < length schemas = omega (arith, c.len-k-end.ensures.count) in
     as_ended c.from_residual.result stop c.from_residual.ensures.1 (ended_so
@@ -87,7 +88,7 @@ files-preserved g c =
     let there : k < length c.args.files.now = omega (arith, c.requires.each, c.len-k-end.ensures.count) in
     let inside : k < length target = omega (arith, c.requires.target, c.len-k-end.ensures.count) in
     let file : c.as_str-file.result.now ≡ get_or files k [] = c.as_str-file.ensures.value
-    ∙ file_is c.args.files.now k c.index-files-k.result there c.index-files-k.is in
+    ∙ word_is c.args.files.now k c.index-files-k.result there c.index-files-k.is in
     let here : k < length files = omega (arith, length-map c.args.files.now string_bytes) in
     let this : k < length schemas = omega (arith, c.len-k-end.ensures.count) in
     let pushed : c.push.new.self ≡ old ++ column ∷ [] = c.in-Ok.ensures.ok in

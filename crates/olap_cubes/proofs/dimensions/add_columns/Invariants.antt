@@ -1,4 +1,4 @@
--- So many instances are read, and legal.
+-- This many instances are read, and legal.
 use Rattle.std.proofs.Common.{◌≡◌, ◌+◌, [], drop, length, take}
 use Rattle.olap_cube.specs.CubeSummarizable.{graphs_of}
 use Rattle.olap_cube_views.specs.Dimensions.{AreMadeFor, categories_in, instances_in}

@@ -10,9 +10,10 @@ use Rattle.olap_order.specs.Words.{texts}
 use Rattle.olap_schema.specs.Schemas.{schema_of}
 use Rattle.olap_cubes.specs.Cut.{schema_files_from}
 use Rattle.olap_cubes.specs.Steps.{numbered}
-use Rattle.olap_cubes.proofs.DimensionLemmas.{file_is, schemas_end, schemas_from}
+use Rattle.olap_cubes.proofs.DimensionLemmas.{schemas_end, schemas_from}
 use Rattle.olap_cubes.proofs.FilesLemmas.{as_ended, as_read, ended_so, read_all, read_ends, read_more, read_wants}
 use Rattle.olap_cubes.proofs.dimensions.schemas_in.Goals as goal
+use Rattle.olap_order.proofs.SourceLemmas.{word_is}
 
 -- the schemas in the files that are left
 abbrev behind : List (List ℕ) → ℕ → List Schema → Order (List Schema)
@@ -24,7 +25,7 @@ returns-in_err-schema-clause-step g c =
     let k = c.files.k in
     let stop = c.in_err-schema.field-0.0 in
     let file : c.as_str.result.now ≡ get_or files k [] = c.as_str.ensures.value
-    ∙ file_is c.args.files.now k c.index-files-k.result c.files-test.true c.index-files-k.is in
+    ∙ word_is c.args.files.now k c.index-files-k.result c.files-test.true c.index-files-k.is in
     let here : k < length files = omega (arith, length-map c.args.files.now string_bytes) in
     as_ended c.from_residual.result stop c.from_residual.ensures.1 (ended_so
     (read_ends g.L.Library c.args.lib.now (schema_files_from 1 [] files) (behind files) k c.files.lib
@@ -47,7 +48,7 @@ files-preserved g c =
     let k = c.files.k in
     let schema = c.in_ok-schema.schema in
     let file : c.as_str.result.now ≡ get_or files k [] = c.as_str.ensures.value
-    ∙ file_is c.args.files.now k c.index-files-k.result c.files-test.true c.index-files-k.is in
+    ∙ word_is c.args.files.now k c.index-files-k.result c.files-test.true c.index-files-k.is in
     let here : k < length files = omega (arith, length-map c.args.files.now string_bytes) in
     let more : schemas_of c.push.new.self ≡ schemas_of c.files.cube ++ schema_of schema ∷ [] = c.in-Ok.ensures.ok in
     record {

@@ -1,4 +1,4 @@
--- So many schemas are read.
+-- This many schemas are read.
 use Rattle.std.proofs.Common.{◌≡◌, ◌+◌, [], drop, length}
 use Rattle.olap_cube_summ.specs.Dimensions.{schemas_of}
 use Rattle.olap_order.specs.Words.{texts}

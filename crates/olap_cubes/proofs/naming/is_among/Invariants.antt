@@ -1,4 +1,4 @@
--- None of so many tuples has these categories.
+-- None of this many tuples has these categories.
 use Rattle.std.proofs.Common.{◌≡◌, drop, nat_eq}
 use Rattle.std.specs.Cmp.Lexicographic.{pointwise}
 use Rattle.std.specs.List.{list_any}

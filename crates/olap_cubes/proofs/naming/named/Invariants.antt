@@ -1,4 +1,4 @@
--- So many names are known.
+-- This many names are known.
 use Rattle.olap_cube_summ.specs.Dimensions.{schemas_of}
 use Rattle.olap_ast.specs.Trees.{numbers_of}
 use Rattle.olap_cubes.proofs.NameLemmas.{AreNamedTo}

@@ -12,9 +12,9 @@ use Rattle.olap_order.specs.Order.{Done}
 use Rattle.olap_order.specs.Taken.{NoAnswer}
 use Rattle.olap_order.specs.Words.{texts}
 use Rattle.olap_cubes.specs.Cut.{another_tuple}
-use Rattle.olap_cubes.proofs.DimensionLemmas.{file_is}
 use Rattle.olap_cubes.proofs.TupleLemmas.{ended_plain, word_ends, word_more}
 use Rattle.olap_cubes.proofs.naming.tuples_at.Goals as goal
+use Rattle.olap_order.proofs.SourceLemmas.{word_is}
 
 pub returns-in_err-tuple-clause-step : goal.returns-in_err-tuple-clause-step
 returns-in_err-tuple-clause-step c =
@@ -24,7 +24,7 @@ returns-in_err-tuple-clause-step c =
     let at = c.args.at + k in
     let stop = c.in_err-tuple.field-0.0 in
     let word : c.as_str.result.now ≡ get_or words k [] = c.as_str.ensures.value
-    ∙ file_is c.args.words.now k c.index-words-k.result c.words-test.true c.index-words-k.is in
+    ∙ word_is c.args.words.now k c.index-words-k.result c.words-test.true c.index-words-k.is in
     let here : k < length words = omega (arith, length-map c.args.words.now string_bytes) in
     ended_plain c.from_residual.result stop c.from_residual.ensures.1
     (word_ends schemas c.args.at words k (tuples_in c.words.tuples.items) stop here c.words.invariant
@@ -41,7 +41,7 @@ words-preserved c =
     let at = c.args.at + k in
     let tuple = tuple_of c.in_ok-tuple.tuple in
     let word : c.as_str.result.now ≡ get_or words k [] = c.as_str.ensures.value
-    ∙ file_is c.args.words.now k c.index-words-k.result c.words-test.true c.index-words-k.is in
+    ∙ word_is c.args.words.now k c.index-words-k.result c.words-test.true c.index-words-k.is in
     let here : k < length words = omega (arith, length-map c.args.words.now string_bytes) in
     word_more schemas c.args.at words k (tuples_in c.words.tuples.items) (tuples_in c.push.new.self.items) tuple here
     c.words.invariant

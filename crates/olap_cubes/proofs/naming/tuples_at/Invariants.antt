@@ -1,4 +1,4 @@
--- So many tuples are named.
+-- This many tuples are named.
 use Rattle.olap_cube.specs.Told.{tuples_in}
 use Rattle.olap_cube_summ.specs.Dimensions.{schemas_of}
 use Rattle.olap_order.specs.Words.{texts}

@@ -1,4 +1,4 @@
--- So many graphs are gathered.
+-- This many graphs are gathered.
 use Rattle.std.proofs.Common.{◌≡◌, take}
 use Rattle.olap_cube.specs.CubeSummarizable.{graphs_of}
 use Rattle.olap_cube_views.specs.Dimensions.{graphs_of as graphs_at}

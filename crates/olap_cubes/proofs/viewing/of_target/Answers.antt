@@ -1,5 +1,6 @@
 use Rattle.std.proofs.Common.{List, ℕ, subst}
-use Rattle.olap_cube.specs.CubeViews.{cube_direct_view}
+use Rattle.olap_base.specs.Views.{direct_view}
+use Rattle.olap_cube.specs.CubeViews.{tuples}
 use Rattle.olap_cube_views.specs.Dimensions.{instances_in}
 use Rattle.olap_cube_views.specs.CubeViewText.{cube_view_text}
 use Rattle.olap_cube_summ.specs.Dimensions.{schemas_of}
@@ -21,6 +22,6 @@ returns g c =
       judged = followed c.in_ok-columns.ensures.step _
           (subst (λ (cs : List ℕ). Judged IsAnswer g.L.Library c.columns_in.new.lib c.told.new.lib
           (and_then (cube_facts_file (schemas_of c.args.cube.now) is c.args.facts.now)
-          (λ table. Told Yes (cube_view_text is (cube_direct_view is table cs)))) c.told.result)
+          (λ table. Told Yes (cube_view_text is (direct_view (tuples is) table cs)))) c.told.result)
           c.in_ok-columns.ensures.categories c.told.ensures.judged);
     }

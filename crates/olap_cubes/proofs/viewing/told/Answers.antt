@@ -1,6 +1,7 @@
 -- The step of the facts, and then the text of their view.
 use Rattle.std.proofs.Common.{ap, ◌∙◌}
-use Rattle.olap_cube.specs.CubeViews.{cube_direct_view}
+use Rattle.olap_base.specs.Views.{direct_view}
+use Rattle.olap_cube.specs.CubeViews.{tuples}
 use Rattle.olap_cube_views.specs.CubeViewText.{cube_view_text}
 use Rattle.olap_cube_views.specs.Dimensions.{categories_in, instances_in}
 use Rattle.olap_order.specs.Order.{Told}
@@ -23,11 +24,11 @@ pub returns : goal.returns
 returns g c =
     let is = instances_in c.args.columns.now in
     let read = c.in_ok-view.ensures.step in
-    let direct = cube_direct_view is read.facts (categories_in c.args.columns.now) in
+    let direct = direct_view (tuples is) read.facts (categories_in c.args.columns.now) in
     let text = c.yes.ensures.bytes ∙ c.into_bytes.ensures ∙ c.in_ok-text.ensures.text
     ∙ ap (cube_view_text is) read.direct in
     record {
       judged = followed read.step
-          (λ table. Told Yes (cube_view_text is (cube_direct_view is table (categories_in c.args.columns.now))))
+          (λ table. Told Yes (cube_view_text is (direct_view (tuples is) table (categories_in c.args.columns.now))))
           (answered _ (told_shown (cube_view_text is direct) c.yes.result c.yes.ensures.status text));
     }

@@ -1,6 +1,6 @@
 -- What the lots make of the views is what their facts make of them, and the table's views are a store, in file order.
 use Rattle.std.proofs.Common.{◌≡◌, List, ap, sym, subst, ◌∙◌}
-use Rattle.std.specs.Prelude.{All, Ok}
+use Rattle.std.specs.Prelude.{ℕ, All, Ok}
 use Rattle.olap_base.specs.Instance.{Instance}
 use Rattle.olap_base.specs.Views.{View}
 use Rattle.olap_view.specs.Seen.{views_of}
@@ -34,16 +34,16 @@ returns-then-join_all c = λ facts s.
     record {
       ok = store_is (step_of by) legal stored facts
           ∙ ap (λ (n : Instance). facts_changed (step_of by) n stored facts) (sym e.instance)
-          ∙ ap (λ (vs : List View). facts_changed (step_of by) old.instance vs facts) (sym e.views)
+          ∙ ap (λ (vs : List (View ℕ ℕ)). facts_changed (step_of by) old.instance vs facts) (sym e.views)
           ∙ table_changed by facts c.args.lots old new j.instance j.categories
           (subst (λ (n : Instance). StandFor n facts c.args.lots) (sym e.instance) s)
           (subst (λ (ls : List Lot). AreJoined by ls old new) c.deref.ensures.value (j.joined c.if-join_all.true))
-          ∙ ap (λ (vs : List View). Ok vs) is;
-      sound = λ g q. subst (λ (vs : List View). IsSoundStore g legal vs) is
+          ∙ ap (λ (vs : List (View ℕ ℕ)). Ok vs) is;
+      sound = λ g q. subst (λ (vs : List (View ℕ ℕ)). IsSoundStore g legal vs) is
           (subst (λ (n : Instance). IsSoundStore g n (views_at new)) i
           (table_sound g new stored (j.categories ∙ e.categories) j.storable
           (subst (λ (n : Instance). IsSoundStore g n stored) (sym i) q)));
-      order = subst (λ (vs : List View). All (IsInFileOrder legal) vs) is
+      order = subst (λ (vs : List (View ℕ ℕ)). All (IsInFileOrder legal) vs) is
           (subst (λ (n : Instance). All (IsInFileOrder n) (views_at new)) i (table_order new));
       err = tt;
     }

@@ -1,5 +1,5 @@
 -- One fact more, and all of them.
-use Rattle.std.proofs.Common.{List, sym, subst, ◌∙◌}
+use Rattle.std.proofs.Common.{ℕ, List, sym, subst, ◌∙◌}
 use Rattle.olap_base.specs.Views.{Fact}
 use Rattle.olap_facts.specs.Seen.{facts_of}
 use Rattle.olap_delta.specs.Lots.{StandFor}
@@ -30,7 +30,7 @@ facts-preserved c =
     record {
       places = e.places ∙ c.facts.invariant.places;
       lots = e.lots;
-      stand = subst (λ (fs : List Fact). StandFor i fs c.take.new.self) (sym (one_more read k _ c.facts-test.true))
+      stand = subst (λ (fs : List (Fact ℕ)). StandFor i fs c.take.new.self) (sym (one_more read k _ c.facts-test.true))
           (e.stand i (so_far read k) c.facts.invariant.stand);
     }
 
@@ -40,7 +40,7 @@ returns-in-Some c =
     let all = all_far c.args.facts.now.rows c.items-fact-items.result.now c.facts.fact-index c.items-fact-items.ensures
     c.facts-test.false in
     after (facts_of c.args.facts.now)
-    (subst (λ (fs : List Fact). StandFor c.args.legal.now fs c.facts.lots) all c.facts.invariant.stand)
+    (subst (λ (fs : List (Fact ℕ)). StandFor c.args.legal.now fs c.facts.lots) all c.facts.invariant.stand)
 
 pub returns-in-None : goal.returns-in-None
 returns-in-None c = c.one_by_one.ensures

@@ -4,8 +4,8 @@ use Rattle.olap_frozen.specs.Leaves.{chosen_of}
 use Rattle.olap_dimsat.specs.Asking.{task_of}
 use Rattle.olap_dimsat.specs.Branches.{IsRefuted}
 use Rattle.olap_dimsat.proofs.BranchLemmas.{topped}
-use Rattle.olap_dimsat.proofs.SettleLemmas.{at_or_below}
 use Rattle.olap_dimsat.proofs.branching.is_topped.Goals as goal
+use Rattle.olap_base.proofs.GeneralLemmas.{below_or_same}
 
 pub numbers-init : goal.numbers-init
 numbers-init c = λ x l h. absurd (omega arith)
@@ -15,7 +15,7 @@ is_refuted-requires-clause-number c =
     let h = c.numbers-test.true in c.most_at-most.ensures.in_range (c.numbers.x + 1) (omega arith)
 
 pub numbers-preserved : goal.numbers-preserved
-numbers-preserved c = λ x l h. elim (at_or_below x (c.numbers.x + 1) (omega arith)) [
+numbers-preserved c = λ x l h. elim (below_or_same x (c.numbers.x + 1) (omega arith)) [
   | inl b ↦ c.numbers.invariant x l (omega arith)
   | inr e ↦ subst (λ n. IsRefuted (task_of c.args.a.now) c.args.trail.now c.args.p n) (sym e)
       (c.is_refuted.ensures c.if-not-is_refuted.false)

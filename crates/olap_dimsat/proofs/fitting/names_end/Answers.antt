@@ -2,9 +2,9 @@ use Rattle.std.proofs.Common.{◌<◌, ◌≤◌, inl, inr, sym, subst, arith}
 use Rattle.olap_dimsat.specs.Asking.{task_of}
 use Rattle.olap_encoding.specs.Layouts.{name_variable}
 use Rattle.olap_dimsat.specs.Tasks.{constant_count}
-use Rattle.olap_dimsat.proofs.SettleLemmas.{at_or_below}
 use Rattle.olap_dimsat.proofs.fitting.names_end.Goals as goal
 use Rattle.olap_dimsat.proofs.fitting.names_end.Goals.{then-own-end, else-own-end}
+use Rattle.olap_base.proofs.GeneralLemmas.{below_or_same}
 
 pub categories-preserved : goal.categories-preserved
 categories-preserved c = λ d j h t.
@@ -17,7 +17,7 @@ categories-preserved c = λ d j h t.
       | then-own-end w ↦ let is = w.end-is in omega arith
       | else-own-end w ↦ let is = w.end-is in let less = w.if-own-end.false in omega arith
     ] in
-    elim (at_or_below d c.categories.c h) [
+    elim (below_or_same d c.categories.c h) [
       | inl l ↦ let b = c.categories.invariant d j l t in omega (arith, old, b)
       | inr q ↦
           let b = c.end_of-own.ensures j (subst (λ k. j < constant_count (task_of a) k) q t) in

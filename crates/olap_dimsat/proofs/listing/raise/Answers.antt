@@ -6,9 +6,9 @@ use Rattle.olap_frozen.specs.declared.frozen.Frozen.{Frozen}
 use Rattle.olap_frozen.specs.Leaves.{chosen_of}
 use Rattle.olap_dimsat.specs.Asking.{IsFor, task_of}
 use Rattle.olap_dimsat.specs.Pinned.{IsLonger, IsPinned, IsReplaced}
-use Rattle.olap_dimsat.proofs.SettleLemmas.{at_or_below}
 use Rattle.olap_dimsat.proofs.FollowingLemmas.{none_more, raised}
 use Rattle.olap_dimsat.proofs.listing.raise.Goals as goal
+use Rattle.olap_base.proofs.GeneralLemmas.{below_or_same}
 
 pub replace-requires : goal.replace-requires
 replace-requires c =
@@ -32,7 +32,7 @@ numbers-preserved c =
     let s = c.if-replace.ensures in record {
       trail = s.trail refl ∙ i.trail;
       best = s.stays refl ∙ i.best;
-      none = λ k l h f v one r a q. elim (at_or_below k (c.numbers.x + 1) (omega arith)) [
+      none = λ k l h f v one r a q. elim (below_or_same k (c.numbers.x + 1) (omega arith)) [
         | inl b ↦ i.none k l (omega arith) f v one r a q
         | inr z ↦ s.no refl f v one r (subst (λ (ss : List Step). AgreesDecisions v ss) (sym i.trail) a) (q ∙ z)
       ];

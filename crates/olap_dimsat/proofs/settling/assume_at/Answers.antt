@@ -1,4 +1,4 @@
--- At an edge's place the literal is the edge's; behind the edges it is the category's name that is decided.
+-- At an edge's place the literal is the edge's; after the edges it is the category's name that is decided.
 use Rattle.std.proofs.Common.{◌≡◌, ◌+◌, ◌-◌, ◌<◌, length, ap, sym, subst, ◌∙◌, arith}
 use Rattle.olap_pool.specs.declared.literals.Lit.{Lit}
 use Rattle.olap_clauses.specs.Engines.{trail_of}

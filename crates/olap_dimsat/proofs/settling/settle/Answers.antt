@@ -7,8 +7,9 @@ use Rattle.olap_frozen.specs.Leaves.{chosen_of}
 use Rattle.olap_dimsat.specs.Asking.{IsFor, task_of}
 use Rattle.olap_dimsat.specs.Pinned.{IsLonger, IsPinned, IsReplaced, IsSame, NoneLess}
 use Rattle.olap_dimsat.proofs.MadeLemmas.{suited_still}
-use Rattle.olap_dimsat.proofs.SettleLemmas.{at_or_below, none_less}
+use Rattle.olap_dimsat.proofs.SettleLemmas.{none_less}
 use Rattle.olap_dimsat.proofs.settling.settle.Goals as goal
+use Rattle.olap_base.proofs.GeneralLemmas.{below_or_same}
 
 pub replace-requires : goal.replace-requires
 replace-requires c =
@@ -51,7 +52,7 @@ numbers-preserved c =
     let s = c.if-replace.ensures in record {
       trail = s.trail refl ∙ i.trail;
       best = s.stays refl ∙ i.best;
-      none = λ k h f v one r a q. elim (at_or_below k c.numbers.x h) [
+      none = λ k h f v one r a q. elim (below_or_same k c.numbers.x h) [
         | inl l ↦ i.none k l f v one r a q
         | inr z ↦ s.no refl f v one r (subst (λ (ss : List Step). AgreesDecisions v ss) (sym i.trail) a) (q ∙ z)
       ];

@@ -3,8 +3,10 @@ use Rattle.olap_clauses.specs.Engines.{trail_of}
 use Rattle.olap_frozen.specs.Leaves.{chosen_of}
 use Rattle.olap_dimsat.specs.Asking.{task_of}
 use Rattle.olap_dimsat.specs.Pinned.{NoneLess}
-use Rattle.olap_dimsat.proofs.SettleLemmas.{at_or_below, below, longer_again, none_less_still}
+use Rattle.olap_dimsat.proofs.SettleLemmas.{longer_again, none_less_still}
 use Rattle.olap_dimsat.proofs.settling.settle_from.Goals as goal
+use Rattle.std.proofs.lemmas.Bool.{cases_lt}
+use Rattle.olap_base.proofs.GeneralLemmas.{below_or_same}
 
 pub settle_next-known-requires-clause-place : goal.settle_next-known-requires-clause-place
 settle_next-known-requires-clause-place c = (c.places-end.ensures c.places.p).0 c.places-test.true
@@ -22,7 +24,7 @@ places-preserved c =
       longer = longer_again (trail_of c.args.engine.now) (trail_of c.places.engine)
           (trail_of c.settle_next-known.new.engine) i.longer s.longer;
       same = λ q h. s.same q (let f = c.places.auto.p in omega arith) ∙ i.same q h;
-      least = λ q f h. elim (at_or_below q c.places.p h) [
+      least = λ q f h. elim (below_or_same q c.places.p h) [
         | inl l ↦ none_less_still t c.places.p q w y l s.same (i.least q f l)
         | inr e ↦ subst (λ m. NoneLess t m y) (sym e) s.least
       ];
@@ -44,7 +46,7 @@ pub returns-then-known-end-clause-least : goal.returns-then-known-end-clause-lea
 returns-then-known-end-clause-least c = λ p f h.
     let l = (c.places-end.ensures p).1 h in
     let b = c.if-known-end.true in
-    elim (below p c.places.p) [
+    elim (cases_lt p c.places.p) [
       | inl s ↦ c.places.invariant.least p f s
       | inr s ↦ c.places.invariant.known p s (omega arith)
     ]

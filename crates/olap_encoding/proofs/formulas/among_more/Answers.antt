@@ -8,9 +8,9 @@ use Rattle.olap_encoding.specs.EncoderInside.{encoding_of}
 use Rattle.olap_encoding.specs.Encoding.{IsNext, Says}
 use Rattle.olap_encoding.specs.Formulas.{AmongIs, AnyIs, Wants}
 use Rattle.olap_encoding.proofs.Growing.{says_still}
-use Rattle.olap_encoding.proofs.PartLemmas.{both_ok}
 use Rattle.olap_encoding.proofs.NumberLemmas.{says_more, says_other}
 use Rattle.olap_encoding.proofs.formulas.among_more.Goals as goal
+use Rattle.olap_base.proofs.GeneralLemmas.{both_ok}
 
 pub returns-then-not-is_wanted-clause-says : goal.returns-then-not-is_wanted-clause-says
 returns-then-not-is_wanted-clause-says c =

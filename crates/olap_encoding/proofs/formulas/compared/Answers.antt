@@ -8,9 +8,9 @@ use Rattle.olap_encoding.specs.Encoding.{IsNext, Says, BothAre}
 use Rattle.olap_encoding.specs.Formulas.{TellsAt}
 use Rattle.olap_encoding.proofs.Growing.{says_still, next_on, next_after}
 use Rattle.olap_encoding.proofs.OutLemmas.{category_still}
-use Rattle.olap_encoding.proofs.PartLemmas.{both_ok}
 use Rattle.olap_encoding.proofs.TellingLemmas.{tell_compared, tell_unreached}
 use Rattle.olap_encoding.proofs.formulas.compared.Goals as goal
+use Rattle.olap_base.proofs.GeneralLemmas.{both_ok}
 
 pub returns-then-eq-clause-says : goal.returns-then-eq-clause-says
 returns-then-eq-clause-says c =

@@ -4,9 +4,9 @@ use Rattle.olap_encoding.specs.EncoderInside.{encoding_of}
 use Rattle.olap_encoding.specs.Encoding.{IsNext, Says, BothAre}
 use Rattle.olap_encoding.specs.Formulas.{TellsAt}
 use Rattle.olap_encoding.proofs.Growing.{says_still, next_on, next_after}
-use Rattle.olap_encoding.proofs.PartLemmas.{both_ok}
 use Rattle.olap_encoding.proofs.TellingLemmas.{tell_via}
 use Rattle.olap_encoding.proofs.formulas.via.Goals as goal
+use Rattle.olap_base.proofs.GeneralLemmas.{both_ok}
 
 pub returns-clause-next : goal.returns-clause-next
 returns-clause-next c =

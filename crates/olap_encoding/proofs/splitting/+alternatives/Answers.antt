@@ -10,9 +10,10 @@ use Rattle.olap_encoding.specs.Formulas.{IsWidened, signed}
 use Rattle.olap_encoding.proofs.Growing.{next_after}
 use Rattle.olap_encoding.proofs.OutLemmas.{category_still}
 use Rattle.olap_encoding.proofs.TellingLemmas.{spoken_still}
-use Rattle.olap_encoding.proofs.PartLemmas.{both_ok, part_spoken}
+use Rattle.olap_encoding.proofs.PartLemmas.{part_spoken}
 use Rattle.olap_encoding.proofs.SplittingLemmas.{counted, spoken_as, widened_still, widened_as, widened_turned, widened_some}
 use Rattle.olap_encoding.proofs.splitting.+alternatives.Goals as goal
+use Rattle.olap_base.proofs.GeneralLemmas.{both_ok}
 
 pub alternatives-requires : goal.alternatives-requires
 alternatives-requires t c =

@@ -1,4 +1,4 @@
--- The whole path is there exactly where it goes on from the category reached so far along the rest of the list.
+-- The whole path is there exactly if it goes on from the category reached so far along the rest of the list.
 use Rattle.std.proofs.Common.{drop}
 use Rattle.olap_ast.specs.Formula.{HasPath}
 use Rattle.olap_eval.proofs.ShapeLemmas.{IsFollowed, numbers}

@@ -1,5 +1,5 @@
 -- One record more, which is a fact or has a fault.
-use Rattle.std.proofs.Common.{◌≡◌, ◌<◌, ◌+◌, ◌∷◌, ◌++◌, ◌∙◌, true, [], List, length, map, take, get_or, sym, ap, subst, append_assoc, length-append, arith}
+use Rattle.std.proofs.Common.{◌≡◌, ℕ, ◌<◌, ◌+◌, ◌∷◌, ◌++◌, ◌∙◌, true, [], List, length, map, take, get_or, sym, ap, subst, append_assoc, length-append, arith}
 use Rattle.std.proofs.lemmas.List.{map-append}
 use Rattle.olap_base.specs.Views.{Fact, IsFactTable}
 use Rattle.olap_facts.specs.Feeding.{Counted}
@@ -35,14 +35,14 @@ records-preserved c =
     record {
       more = omega (arith, ap length items, length-append old (f ∷ []), inv.more);
       few = omega (arith, few);
-      table = λ t. subst (λ (fs : List Fact). IsFactTable s.graph.now s.instance.now fs) (sym told)
+      table = λ t. subst (λ (fs : List (Fact ℕ)). IsFactTable s.graph.now s.instance.now fs) (sym told)
           (table-more s.graph.now s.instance.now (map fact_of old) (fact_of f) (inv.table t) c.in-Ok.ensures.member
           c.in-Ok.ensures.bottom);
       counts = λ rows done facts are h.
           let inside : k < length rows = let n = as-many-rows rows p are in omega (arith, n, within) in
           let more : (facts ++ map fact_of old) ++ fact_of f ∷ [] ≡ facts ++ map fact_of c.push.new.self.items =
           append_assoc facts (map fact_of old) (fact_of f ∷ []) ∙ ap (λ xs. facts ++ xs) (sym told) in
-          subst (λ (fs : List Fact). Counted s.most s.graph.now s.instance.now (c.args.handed + (k + 1)) true
+          subst (λ (fs : List (Fact ℕ)). Counted s.most s.graph.now s.instance.now (c.args.handed + (k + 1)) true
           (done ++ take (k + 1) rows) fs) more
           (settled-more s.most s.graph.now s.instance.now c.args.handed k rows done (facts ++ map fact_of old)
           (inv.counts rows done facts are h) inside (fact_of f) (λ earlier n.

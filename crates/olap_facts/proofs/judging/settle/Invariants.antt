@@ -12,7 +12,7 @@ invariant-records l = record {
   few : l.handed + l.k ≤ l.setting.most;
   table : IsFactTable l.setting.graph.now l.setting.instance.now (map fact_of l.fn.batch.items)
       → IsFactTable l.setting.graph.now l.setting.instance.now (map fact_of l.batch.items);
-  counts : (rows done : List (List (List ℕ))) (facts : List Fact) → ArePending rows l.pending
+  counts : (rows done : List (List (List ℕ))) (facts : List (Fact ℕ)) → ArePending rows l.pending
       → Counted l.setting.most l.setting.graph.now l.setting.instance.now l.handed true done
       (facts ++ map fact_of l.fn.batch.items)
       → Counted l.setting.most l.setting.graph.now l.setting.instance.now (l.handed + l.k) true (done ++ take l.k rows)

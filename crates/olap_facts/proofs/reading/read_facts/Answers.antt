@@ -1,6 +1,6 @@
 -- The facts of the one piece and the last, or what refuses the text.
 use Rattle.std.proofs.Common.{◌≡◌, ◌∙◌, [], List, Option, map, ap, sym, subst}
-use Rattle.std.specs.Prelude.{Ok, Result, Some}
+use Rattle.std.specs.Prelude.{ℕ, Ok, Result, Some}
 use Rattle.std.proofs.lemmas.Result.{err_from_is_err_and}
 use Rattle.olap_base.specs.Views.{Fact, IsFactTable}
 use Rattle.olap_base.specs.declared.refusals.Fault.{Fault}
@@ -27,7 +27,7 @@ returns-in_err-last-clause-read c =
     let new = c.take.new.self in
     let same = c.in_ok-take.ensures.same in
     let stop = err_from_is_err_and c.from_residual-in_err-last.result c.from_residual-in_err-last.ensures.1 in
-    rw (stop.1, stop.2) (subst (λ (t : Result (List Fact) (Fault FactKind)). IsRefusedBy c.in_err-last.field-0.0 t)
+    rw (stop.1, stop.2) (subst (λ (t : Result (List (Fact ℕ)) (Fault FactKind)). IsRefusedBy c.in_err-last.field-0.0 t)
     (read-by c.records_are_those_at_the_end.ensures c.args.graph.now c.args.instance.now new (same.graph ∙ f.graph)
     (same.instance ∙ f.instance) (same.most ∙ f.most) c.args.text.now piece c.without_mark.ensures)
     (c.in_err-last.ensures.reads piece (map fact_of c.take.new.batch.items) (c.in_ok-take.ensures.feeds [] [] f.fed)))

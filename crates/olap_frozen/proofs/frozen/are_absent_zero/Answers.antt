@@ -1,13 +1,11 @@
-use Rattle.std.proofs.Common.{◌≡◌, ◌<◌, ◌+◌, ◌⊎◌, ℕ, true, false, inl, inr, ap, sym, ◌∙◌, arith}
+use Rattle.std.proofs.Common.{◌≡◌, ◌+◌, true, false, inl, inr, ap, sym, ◌∙◌, arith}
 use Rattle.std.specs.Prelude.{slice_index}
 use Rattle.std.specs.FinSet as set
 use Rattle.olap_graph.specs.Rows.{row}
 use Rattle.olap_frozen.proofs.SoundLemmas.{present_is}
 use Rattle.olap_frozen.proofs.frozen.are_absent_zero.Goals as goal
 use Rattle.olap_frozen.proofs.frozen.are_absent_zero.Goals.{else-not-row_has-via-then-not-row_has+else-names-from-ne0, else-not-row_has-via-else-not-row_has}
-
-newest : (d c : ℕ) → d < c + 1 → (d < c) ⊎ (d ≡ c)
-newest d c h = grind arith
+use Rattle.olap_base.proofs.GeneralLemmas.{below_or_same}
 
 pub returns-then-names-from-ne0 : goal.returns-then-names-from-ne0
 returns-then-names-from-ne0 c = (
@@ -22,7 +20,7 @@ returns-then-names-from-ne0 c = (
 )
 
 pub categories-preserved : goal.categories-preserved
-categories-preserved c = λ x h p. elim (newest x c.categories.c h) [
+categories-preserved c = λ x h p. elim (below_or_same x c.categories.c h) [
   | inl l ↦ c.categories.invariant x l p
   | inr q ↦ elim c.else-not-row_has.branch [
     | else-not-row_has-via-then-not-row_has+else-names-from-ne0 w ↦

@@ -1,9 +1,8 @@
 use Rattle.std.proofs.Common.{◌≡◌, true, false, get_or, ap, sym, ◌∙◌, inl, inr, arith}
 use Rattle.std.specs.Prelude.{◌==◌, not}
 use Rattle.std.specs.FinSet as set
-use Rattle.std.proofs.lemmas.Bool.{cases_Bool}
+use Rattle.std.proofs.lemmas.Bool.{cases_Bool, eqb-true, eq-eqb}
 use Rattle.olap_base.specs.Graph.{Edge}
-use Rattle.olap_ast.proofs.Shape.{is_same, same_is}
 use Rattle.olap_graph.specs.Rows.{row}
 use Rattle.olap_frozen.proofs.PassedLemmas.{none_more, not_passed, passed_by}
 use Rattle.olap_frozen.proofs.sound.is_passed.Goals as goal
@@ -16,7 +15,7 @@ returns-then-row_has c =
           c.args.d.0 c.edges.e-index c.parents-e-items.ensures.list c.edges-test.true (record {
             chosen = ap (λ n. get_or c.args.edges.now n false) (sym c.from.ensures) ∙ c.if-edges-from.true;
             other = λ s.
-                let same = is_same c.ends.result.1.0 c.args.d.0 (sym parent ∙ s) in
+                let same = eq-eqb c.ends.result.1.0 c.args.d.0 (sym parent ∙ s) in
                 let z : true ≡ false = sym c.if-ne.true ∙ c.ne.ensures ∙ ap not same in cc;
             reaches = ap (λ z. set.contains (row c.args.rows.now z) c.args.d.0) parent
                 ∙ sym c.row_has.ensures ∙ c.if-row_has.true;
@@ -34,7 +33,7 @@ edges-preserved c =
           ∙ ap (λ z. set.contains (row c.args.rows.now z) c.args.d.0) parent ∙ sym w.row_has.ensures
           ∙ w.if-row_has.false in cc
       | else-edges-from-via-then-edges-from+else-ne w ↦ elim (cases_Bool (c.ends.result.1.0 == c.args.d.0)) [
-        | inl y ↦ past.other (parent ∙ same_is c.ends.result.1.0 c.args.d.0 y)
+        | inl y ↦ past.other (parent ∙ eqb-true c.ends.result.1.0 c.args.d.0 y)
         | inr n ↦ let z : true ≡ false = sym (ap not n) ∙ sym w.ne.ensures ∙ w.if-ne.false in cc
       ]
       | else-edges-from-via-else-edges-from w ↦

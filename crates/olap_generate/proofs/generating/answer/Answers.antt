@@ -37,4 +37,4 @@ returns-in-Ok-clause-fit c =
 pub returns-in-Ok-clause-few : goal.returns-in-Ok-clause-few
 returns-in-Ok-clause-few c =
     few_rows c.args.legal.now region (chosen (views_of c.args.store.now) c.in-Ok.answer.0.mask) c.in-Ok.answer.1.rows
-    (ap (λ (v : View). v.rows) c.in-Ok.ensures.view)
+    (ap (λ (v : View ℕ ℕ). v.rows) c.in-Ok.ensures.view)

@@ -17,7 +17,7 @@ print_store-requires-clause-categories c =
 
 pub print_store-requires-clause-at_members : goal.print_store-requires-clause-at_members
 print_store-requires-clause-at_members c =
-    subst (λ (i : Instance). All (λ v. All (λ r. r.member < length i) v.rows) (each_view_of c.in_ok-views.views))
+    subst (λ (i : Instance). All (λ v. All (λ r. r.at < length i) v.rows) (each_view_of c.in_ok-views.views))
     (sym c.instance.ensures) (views_members (length c.args.legal.now) c.in_ok-views.views c.in_ok-views.ensures.members)
 
 pub returns-in-Ok-clause-views : goal.returns-in-Ok-clause-views

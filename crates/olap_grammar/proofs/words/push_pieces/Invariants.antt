@@ -1,4 +1,4 @@
--- The parts so far stand behind the earlier ones, in front of those of what is left.
+-- The parts so far stand after the earlier ones, in front of those of what is left.
 use Rattle.std.proofs.Common.{◌≡◌, ◌++◌}
 use Rattle.olap_grammar.specs.Words.{pieces_behind, pieces_of}
 use Rattle.olap_base.proofs.PiecesLeft.{size_left}

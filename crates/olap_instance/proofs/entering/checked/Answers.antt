@@ -6,14 +6,14 @@ use Rattle.olap_base.specs.Naming.{place_of}
 use Rattle.olap_graph.specs.Lookups.{category_named}
 use Rattle.olap_instance.specs.InstanceText.{category_field, id_field, is_bad_id, is_bad_number, is_no_text, is_too_long, name_field}
 use Rattle.olap_instance.specs.Passes.{ids_in}
-use Rattle.olap_instance.proofs.Checks.{missing}
 use Rattle.olap_instance.proofs.EnteringLemmas.{entered}
 use Rattle.olap_instance.proofs.entering.checked.Goals as goal
+use Rattle.olap_base.proofs.GeneralLemmas.{none_from_is_some}
 
 pub returns-clause-absent : goal.returns-clause-absent
 returns-clause-absent c =
     ap (λ t. place_of t (ids_in c.args.roster.now)) (sym c.field-id.ensures)
-    ∙ (sym c.find.ensures ∙ missing c.find.result (sym c.is_some.ensures ∙ c.if-is_some.false))
+    ∙ (sym c.find.ensures ∙ none_from_is_some c.find.result (sym c.is_some.ensures ∙ c.if-is_some.false))
 
 pub returns-clause-room : goal.returns-clause-room
 returns-clause-room c = let a = c.if-len.false in let n = c.len-2.ensures in omega arith

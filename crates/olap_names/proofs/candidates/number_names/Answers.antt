@@ -1,9 +1,9 @@
 use Rattle.std.proofs.Common.{◌≡◌, ◌∷◌, ◌∙◌, ◌<◌, ◌≤◌, ◌*◌, length, map, ap, sym, subst}
 use Rattle.std.specs.Prelude.{Contains}
 use Rattle.std.proofs.lemmas.Result.{IfOk-weaker}
-use Rattle.olap_ast.specs.Constants.{numbers_on}
+use Rattle.olap_ast.specs.Atoms.{numbers_on}
+use Rattle.olap_ast.specs.Pairs.{distinct_numbers}
 use Rattle.olap_ast.specs.Trees.{constraint_of, formula_of}
-use Rattle.olap_ast.specs.Valid.{distinct_numbers}
 use Rattle.olap_numerals.specs.Numerals.{canonical}
 use Rattle.olap_numerals.specs.Representatives.{AreNumberNames, AreRepresentatives, AreSmall}
 use Rattle.olap_names.specs.Names.{number_atoms}

@@ -6,8 +6,7 @@ use Rattle.std.proofs.lemmas.List.Filters.{dedup_is}
 use Rattle.std.proofs.lemmas.List.Kept.{Contains-dedup, Contains-from_dedup, IsStrictlySortedBy-dedup}
 use Rattle.std.proofs.lemmas.List.Sorted.{Contains-permutation, IsPermutation-sym}
 use Rattle.olap_numerals.proofs.OrderLemmas.{in_order, same_number}
-use Rattle.olap_ast.specs.Constants.{numbers_on}
-use Rattle.olap_ast.specs.Formula.{comparisons}
+use Rattle.olap_ast.specs.Atoms.{comparisons, numbers_on}
 use Rattle.olap_ast.specs.Trees.{constraint_of, formula_of}
 use Rattle.olap_ast.proofs.TextLemmas.{numbers_on-append}
 use Rattle.olap_ast.specs.Schema.{Constraint}

@@ -1,6 +1,6 @@
 use Rattle.std.proofs.Common.{◌∙◌, ap, sym, subst}
 use Rattle.std.specs.Prelude.{◌↔◌, IfOk, IsTrue}
-use Rattle.olap_ast.specs.Formula.{comparisons, equalities}
+use Rattle.olap_ast.specs.Atoms.{comparisons, equalities}
 use Rattle.olap_ast.specs.Questions.{IsImplied}
 use Rattle.olap_ast.specs.Trees.{formula_of, numbers_of}
 use Rattle.olap_ast.specs.Valid.{IsFormulaAt}

@@ -1,4 +1,4 @@
--- So many bytes were taken, and they stand in the piece.
+-- This many bytes were taken, and they stand in the piece.
 use Rattle.std.proofs.Common.{◌≡◌, ◌<◌, ◌≤◌, ◌+◌, ◌-◌, ◌^◌, true, length, take}
 use Rattle.std.specs.Io.KnownBytes.{Consumes}
 use Rattle.olap_outside.specs.Pieces.{IsKept}

@@ -1,8 +1,9 @@
 use Rattle.std.proofs.Common.{◌≡◌, ◌-◌, suc, arith, inl, inr, eq-eqb, sym, ◌∙◌}
 use Rattle.olap_base.specs.Instance.{IsBelow}
 use Rattle.olap_plain.specs.Plain.{instance_of}
-use Rattle.olap_plain.proofs.PlainLemmas.{to_zero, from_zero, to_suc, from_suc, refuted}
+use Rattle.olap_plain.proofs.PlainLemmas.{to_zero, from_zero, to_suc, from_suc}
 use Rattle.olap_plain.proofs.viewing.+through.Goals as goal
+use Rattle.olap_base.proofs.GeneralLemmas.{refuted}
 
 pub returns-then-x-y : goal.returns-then-x-y
 returns-then-x-y t c = (

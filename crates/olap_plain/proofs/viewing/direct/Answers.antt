@@ -1,7 +1,7 @@
 use Rattle.std.proofs.Common.{ℕ, ◌∷◌, [], get_or, true, false, Some, None, refl, ap, sym, ◌∙◌}
 use Rattle.std.specs.Prelude.{◌==◌}
 use Rattle.olap_base.specs.Instance.{category_of}
-use Rattle.olap_base.specs.Views.{row_at, total_of_facts}
+use Rattle.olap_base.specs.Views.{members, row_at, total_of_facts}
 use Rattle.olap_plain.specs.Plain.{instance_of, facts_of, rows_of, row_of, as_row}
 use Rattle.olap_plain.proofs.PlainLemmas.{rows_step, category_is, passes, fails, none_of}
 use Rattle.std.proofs.lemmas.List.{map-append}
@@ -11,7 +11,7 @@ use Rattle.olap_plain.proofs.viewing.direct.Goals.{then-members-y+in-Some+in_ok-
 pub loop-y-preserved : goal.loop-y-preserved
 loop-y-preserved c =
     let i = instance_of c.args.members.now in
-    let h = λ (y : ℕ). row_at y (total_of_facts i (facts_of c.args.facts.now) y) in
+    let h = λ (y : ℕ). row_at y (total_of_facts (members i) (facts_of c.args.facts.now) y) in
     let p = λ (y : ℕ). category_of i y == c.args.c in
     let y = c.loop-y.y in
     let m = get_or c.args.members.now y c.index-members-y.result in

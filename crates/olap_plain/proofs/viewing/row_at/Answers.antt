@@ -1,7 +1,7 @@
 use Rattle.std.proofs.Common.{ℕ, ◌+◌, ◌≤◌, arith, rules, get_or, take, true, false, Option, Some, None, IfSome, pos, ap, sym, ◌∙◌, w64}
 use mir.Val.{SFits}
 use Rattle.std.proofs.lemmas.Int.{to_z-of_z}
-use Rattle.olap_base.specs.Views.{row_at, total_of_facts}
+use Rattle.olap_base.specs.Views.{members, row_at, total_of_facts}
 use Rattle.olap_plain.specs.Plain.{instance_of, facts_of, as_row, extended, IsBounded}
 use Rattle.olap_plain.specs.declared.viewing.PlainRow.{PlainRow}
 use Rattle.olap_plain.specs.declared.viewing.PlainFact.{PlainFact}
@@ -23,7 +23,8 @@ loop-f-preserved c =
     let i = instance_of c.args.members.now in
     let f = get_or c.args.facts.now c.loop-f.f-index none in
     let step = row_step i c.args.facts.now c.loop-f.f-index c.args.y none c.loop-f-test.true in
-    let old = row_at c.args.y (total_of_facts i (facts_of (take c.loop-f.f-index c.args.facts.now)) c.args.y) in
+    let old = row_at c.args.y
+    (total_of_facts (members i) (facts_of (take c.loop-f.f-index c.args.facts.now)) c.args.y) in
     elim c.if-reaches.branch [
       | then-reaches w ↦
           let t = test_of i f.member c.args.y c.reaches.result true c.reaches.ensures w.if-reaches.true in

@@ -4,9 +4,7 @@ use mir.Val.{SFits}
 use mir.Syntax.{w128}
 use Rattle.std.proofs.lemmas.Int.{ints, to_z-of_z}
 use Rattle.olap_plain.proofs.viewing.with_value.Goals as goal
-
-same : (g : ℤ → ℤ → ℤ) (x y : ℤ) → SFits w64 x → SFits w64 y → g (to_z w64 (of_z w64 x)) (to_z w64 (of_z w64 y)) ≡ g x y
-same g x y p q = rw (to_z-of_z w64 x p, to_z-of_z w64 y q)
+use Rattle.olap_base.proofs.GeneralLemmas.{in_64_bits}
 
 pub returns-in-Some-clause-bounded : goal.returns-in-Some-clause-bounded
 returns-in-Some-clause-bounded c = let h = rw c.in-Some.is at c.requires in let r = c.ranges.value in
@@ -25,7 +23,7 @@ returns-in-Some-clause-row c =
     (to_z w128 (of_z w128 c.in-Some.r.sum) +ℤ to_z w128 (of_z w128 c.from-in-Some.result))) ≡ c.in-Some.r.sum +ℤ
     c.args.value = omega (arith, ints) in
     let a : to_z w64 (of_z w64 c.min.result) ≡ int_min c.in-Some.r.least c.args.value = to_z-of_z w64 c.min.result mf
-    ∙ c.min.ensures.value ∙ same int_min c.in-Some.r.least c.args.value lf vf in
+    ∙ c.min.ensures.value ∙ in_64_bits int_min c.in-Some.r.least c.args.value lf vf in
     let b : to_z w64 (of_z w64 c.max.result) ≡ int_max c.in-Some.r.greatest c.args.value =
-    to_z-of_z w64 c.max.result xf ∙ c.max.ensures.value ∙ same int_max c.in-Some.r.greatest c.args.value gf vf in
+    to_z-of_z w64 c.max.result xf ∙ c.max.ensures.value ∙ in_64_bits int_max c.in-Some.r.greatest c.args.value gf vf in
     rw (c.in-Some.is, s, a, b)

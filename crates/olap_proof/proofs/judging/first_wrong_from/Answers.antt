@@ -19,15 +19,12 @@ lines-init c =
 pub returns-then-not-branch-clause-some : goal.returns-then-not-branch-clause-some
 returns-then-not-branch-clause-some c =
     let a = c.args.asked.now in
-    let x = c.in-Some.line.now in (
-      c.lines.count,
-      refl,
-      wrong_here c.args.form a c.args.text.now c.lines.rest.now x c.in-Some.others.now c.lines.count c.lines.stage
-          c.requires.asked.hierarchy c.requires.few c.lines.invariant.reached c.in-Some.ensures.some
-          c.in-Some.ensures.whole
-          (subst (λ b. StepsTo c.args.form a c.lines.stage x (if_done b c.step.new.stage)) c.if-not-branch.true
-          c.in_ok-step.ensures),
-    )
+    let x = c.in-Some.line.now in
+    wrong_here c.args.form a c.args.text.now c.lines.rest.now x c.in-Some.others.now c.lines.count c.lines.stage
+    c.requires.asked.hierarchy c.requires.few c.lines.invariant.reached c.in-Some.ensures.some
+    c.in-Some.ensures.whole
+    (subst (λ b. StepsTo c.args.form a c.lines.stage x (if_done b c.step.new.stage)) c.if-not-branch.true
+    c.in_ok-step.ensures)
 
 pub lines-preserved : goal.lines-preserved
 lines-preserved c =

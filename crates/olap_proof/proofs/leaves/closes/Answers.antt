@@ -3,8 +3,7 @@ use Rattle.std.proofs.lemmas.List.{get_or-map, length-map}
 use Rattle.olap_ast.specs.Schema.{Constraint}
 use Rattle.olap_ast.specs.Trees.{constraint_of, formula_of}
 use Rattle.olap_names.specs.Names.{candidates_of, with_graph}
-use Rattle.olap_proof.specs.Lines.{IsUnmet}
-use Rattle.olap_proof.specs.Closing.{Closes, IsAbout}
+use Rattle.olap_proof.specs.Closing.{Closes, IsAbout, IsUnmet}
 use Rattle.olap_proof.specs.Reading.{meaning}
 use Rattle.olap_proof.specs.declared.lines.Line.{Line}
 use Rattle.olap_proof.proofs.UnmetLemmas.{unmet_at}

@@ -1,13 +1,14 @@
 use Rattle.std.proofs.Common.{refl}
 use Rattle.olap_graph.specs.Lookups.{edge_at}
-use Rattle.olap_proof.proofs.LineLemmas.{edge_spelled, edge_there, edge_unspelled}
+use Rattle.olap_proof.proofs.LineLemmas.{edge_spelled, edge_unspelled}
 use Rattle.olap_proof.proofs.lines.edge.Goals as goal
+use Rattle.olap_graph.proofs.TableLemmas.{has_edge_at}
 
 pub returns-in_err-child-clause-none : goal.returns-in_err-child-clause-none
 returns-in_err-child-clause-none c = λ u e l s.
     let g = c.args.graph.now in
     let ends = c.categories-graph.ensures.hierarchy.categories (edge_at g e).child (edge_at g e).parent
-    (edge_there g e l) in
+    (has_edge_at g e l) in
     c.in_err-child.ensures.none refl (edge_at g e).child (edge_at g e).parent ends.0 ends.1 s
 
 pub returns-clause-some : goal.returns-clause-some

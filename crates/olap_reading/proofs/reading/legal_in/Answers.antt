@@ -15,6 +15,7 @@ use Rattle.olap_order.specs.Order.{and_then}
 use Rattle.olap_order.specs.Refusals.{part_text}
 use Rattle.olap_order.specs.Steps.{meaning_or_fault}
 use Rattle.olap_records.specs.Records.{records_of}
+use Rattle.olap_records.specs.Tables.{named}
 use Rattle.olap_schema.specs.Schemas.{schema_of}
 use Rattle.olap_reading.specs.Steps.{legal_or_violation}
 use Rattle.olap_reading.proofs.ReadingLemmas.{fault_told}
@@ -34,10 +35,10 @@ returns-in-Err-Kind-clause-step g c =
     c.read_instance-read.ensures.read in
     let read = rw (c.graph.ensures, c.deref.ensures.value) at given in
     fault_told label c.args.file.now most_instance_bytes
-    (λ t. and_then (meaning_or_fault label (codes "record") name_of_kind (instance_read s.graph (records_of t)))
+    (λ t. and_then (meaning_or_fault label (codes "record") (named name_of_kind (instance_read s.graph (records_of t))))
     (λ i. legal_or_violation label s i (first_violation s i)))
     c.in-Some.text.items (part_text label (codes "record") e.fault.at (name_of_kind e.fault.kind))
-    (ap (λ r. and_then (meaning_or_fault label (codes "record") name_of_kind r)
+    (ap (λ r. and_then (meaning_or_fault label (codes "record") (named name_of_kind r))
     (λ i. legal_or_violation label s i (first_violation s i))) read)
     (rw c.in-Some.is at c.in_ok-text.ensures.within) (rw c.in-Some.is at c.in_ok-text.ensures.read)
     c.in_ok-text.ensures.later c.in_ok-text.ensures.contents c.refuse_part.result

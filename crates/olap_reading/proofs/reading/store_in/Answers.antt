@@ -5,6 +5,7 @@ use Rattle.olap_base.specs.Limits.{most_store_bytes}
 use Rattle.olap_order.specs.Refusals.{part_text}
 use Rattle.olap_order.specs.Steps.{meaning_or_fault}
 use Rattle.olap_records.specs.Records.{records_of}
+use Rattle.olap_records.specs.Tables.{named}
 use Rattle.olap_schema.specs.Schemas.{schema_of}
 use Rattle.olap_view.specs.Kinds.{name_of_kind}
 use Rattle.olap_view.specs.Seen.{views_of}
@@ -23,10 +24,10 @@ returns-in-Err-Kind-clause-step g c =
     let e = c.in-Err-Kind in
     let read = rw (e.field-0-is, c.graph.ensures, c.instance.ensures, c.deref.ensures.value) at e.ensures.read in
     fault_told label c.args.file.now most_store_bytes
-    (λ t. meaning_or_fault label (codes "record") name_of_kind (store_read (schema_of c.args.schema.now).graph
-    c.args.legal.now (records_of t)))
+    (λ t. meaning_or_fault label (codes "record") (named name_of_kind (store_read (schema_of c.args.schema.now).graph
+    c.args.legal.now (records_of t))))
     c.in-Some.text.items (part_text label (codes "record") e.fault.at (name_of_kind e.fault.kind))
-    (ap (meaning_or_fault label (codes "record") name_of_kind) read)
+    (ap (λ r. meaning_or_fault label (codes "record") (named name_of_kind r)) read)
     (rw c.in-Some.is at c.in_ok-text.ensures.within) (rw c.in-Some.is at c.in_ok-text.ensures.read)
     c.in_ok-text.ensures.later c.in_ok-text.ensures.contents c.refuse_part.result
     (rw c.name.ensures at c.refuse_part.ensures.refused)

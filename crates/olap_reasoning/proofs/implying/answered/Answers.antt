@@ -1,12 +1,20 @@
-use Rattle.std.proofs.Common.{subst}
+use Rattle.std.proofs.Common.{◌≤◌, subst}
 use Rattle.std.specs.Prelude.{IfSome}
 use Rattle.olap_ast.specs.Formula.{Formula.Not}
 use Rattle.olap_ast.specs.Trees.{formula_of}
+use Rattle.olap_ast.proofs.ComparedLemmas.{constants_counted}
+use Rattle.olap_base.specs.Limits.{most_constants}
 use Rattle.olap_frozen.specs.LeastFound.{IsLeastFound}
 use Rattle.olap_schema.specs.Schemas.{schema_of}
 use Rattle.olap_reasoning.proofs.CertificateLemmas.{all_texts, found_for, unmet_shown}
 use Rattle.olap_reasoning.proofs.ReplyLemmas.{replies_or_memory}
 use Rattle.olap_reasoning.proofs.implying.answered.Goals as goal
+
+pub implies-requires-clause-few : goal.implies-requires-clause-few
+implies-requires-clause-few c =
+    let s = schema_of c.args.schema.now in
+    subst (λ n. n ≤ most_constants) (constants_counted s.constraints (formula_of c.args.formula.now))
+    c.requires.question.constants_fit
 
 pub shown-requires : goal.shown-requires
 shown-requires c =

@@ -1,7 +1,8 @@
 -- The candidates are those of the search, and its root is the root.
-use Rattle.std.proofs.Common.{◌≡◌, map, sym, subst, ◌∙◌}
+use Rattle.std.proofs.Common.{◌≡◌, map, refl, sym, subst, ◌∙◌}
 use Rattle.std.specs.Prelude.{All, IfErr, IfOk}
 use Rattle.olap_ast.specs.Formula.{Formula.Truth}
+use Rattle.olap_ast.proofs.SourceLemmas.{no_more_constants}
 use Rattle.olap_base.specs.Limits.{most_frozen}
 use Rattle.olap_base.specs.Refusing.{IsFor}
 use Rattle.olap_dimsat.specs.Listed.{AreAllFrozen, AreMoreThan}
@@ -11,6 +12,10 @@ use Rattle.olap_frozen.specs.Leaves.{IsSized}
 use Rattle.olap_names.specs.Names.{Named, candidates_of}
 use Rattle.olap_schema.specs.Schemas.{schema_of}
 use Rattle.olap_reasoning.proofs.listing.answered.Goals as goal
+
+pub new-requires-clause-few : goal.new-requires-clause-few
+new-requires-clause-few c =
+    no_more_constants (schema_of c.args.schema.now) Truth c.constraints-constraints.ensures.valid refl refl
 
 pub told-requires-clause-all : goal.told-requires-clause-all
 told-requires-clause-all c =

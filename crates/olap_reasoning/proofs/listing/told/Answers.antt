@@ -1,5 +1,5 @@
 -- What is listed is all that was found.
-use Rattle.std.proofs.Common.{◌≡◌, ◌≤◌, ◌++◌, Err, List, length, map, codes, decimal, ap, inr, refl, sym, subst, ◌∙◌}
+use Rattle.std.proofs.Common.{◌≡◌, ◌≤◌, ◌++◌, Err, List, length, map, codes, decimal, ap, sym, subst, ◌∙◌}
 use Rattle.std.specs.Prelude.{All, IfErr, IfOk, flat_map}
 use Rattle.std.proofs.lemmas.List.{length-map}
 use Rattle.olap_ast.specs.Formula.{Formula.Truth}
@@ -63,5 +63,5 @@ returns-in-Err-Kind c =
     (subst (λ o. IfErr o (IsFor (λ t. AreMoreThan most_frozen s Truth c.args.root.0 k))) is c.requires.too_many) in
     record {
       replies = refusing (ByFrozen s c.args.root.0) (codes "frozen TooMany")
-          (λ bytes is. inr (refl, (k, many), is)) c.refuse.result c.refuse.ensures.refused;
+          (λ bytes is. ((k, many), is)) c.refuse.result c.refuse.ensures.refused;
     }

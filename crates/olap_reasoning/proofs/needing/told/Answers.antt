@@ -1,4 +1,4 @@
-use Rattle.std.proofs.Common.{◌≡◌, ◌∙◌, List, length, codes, flat_map, map, true, false, true≢false, ap, inr, refl, subst, sym}
+use Rattle.std.proofs.Common.{◌≡◌, ◌∙◌, List, length, codes, flat_map, map, true, false, true≢false, ap, subst, sym}
 use Rattle.std.specs.Prelude.{◌==◌, All}
 use Rattle.std.proofs.lemmas.List.{length-map}
 use Rattle.olap_ast.specs.Trees.{constraint_of, numbers_of}
@@ -33,11 +33,10 @@ returns-then-not-has_room c =
     let room = c.has_room.ensures t sources bottoms so many in
     record {
       replies = refusing (ByNeeds s t sources) (codes "needs TooMany")
-          (λ bytes is. inr (inr (
-            refl,
+          (λ bytes is. (
             (bottoms, c.requires.are, λ r. true≢false (sym (room.1 r) ∙ c.if-not-has_room.true)),
             is,
-          ))) c.refuse.result c.refuse.ensures.refused;
+          )) c.refuse.result c.refuse.ensures.refused;
     }
 
 pub returns-then-is_empty : goal.returns-then-is_empty

@@ -1,4 +1,4 @@
-use Rattle.std.proofs.Common.{inr, sym, subst, ◌∙◌}
+use Rattle.std.proofs.Common.{sym, subst, ◌∙◌}
 use Rattle.std.specs.Prelude.{◌↔◌}
 use Rattle.olap_ast.specs.Summarizable.{IsSummarizable}
 use Rattle.olap_proof.specs.Verifying.{IsCertificateFor}
@@ -32,5 +32,5 @@ returns-in-Ok-No c =
     record {
       replies = replies_or_memory c.shown.result c.shown.ensures.status c.shown.ensures.text c.shown.ensures.memory
           (difference_shown (ByProof c.args.form s target sources) s target sources c.in-Ok-No.found found
-          (λ status bytes is shows. inr (is, shows)));
+          (λ bytes shows. shows));
     }

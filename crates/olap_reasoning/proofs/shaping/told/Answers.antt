@@ -1,5 +1,5 @@
 -- What is listed is what was found.
-use Rattle.std.proofs.Common.{◌≡◌, ◌≤◌, ◌++◌, Err, List, length, map, codes, decimal, ap, inr, refl, sym, subst, ◌∙◌}
+use Rattle.std.proofs.Common.{◌≡◌, ◌≤◌, ◌++◌, Err, List, length, map, codes, decimal, ap, sym, subst, ◌∙◌}
 use Rattle.std.specs.Prelude.{All, IfErr, IfOk, flat_map}
 use Rattle.std.proofs.lemmas.List.{length-map}
 use Rattle.olap_ast.specs.Formula.{Formula.Truth}
@@ -63,5 +63,5 @@ returns-in-Err-Kind c =
     (subst (λ o. IfErr o (IsFor (λ t. AreMoreShapes most_frozen s Truth c.args.root.0 k))) is c.requires.too_many) in
     record {
       replies = refusing (ByShapes s c.args.root.0) (codes "shapes TooMany")
-          (λ bytes is. inr (refl, (k, many), is)) c.refuse.result c.refuse.ensures.refused;
+          (λ bytes is. ((k, many), is)) c.refuse.result c.refuse.ensures.refused;
     }

@@ -1,4 +1,4 @@
-use Rattle.std.proofs.Common.{inr, subst}
+use Rattle.std.proofs.Common.{subst}
 use Rattle.std.specs.Prelude.{IfSome}
 use Rattle.olap_schema.specs.Schemas.{schema_of}
 use Rattle.olap_summ.specs.Counterexamples.{IsCounterexampleFound}
@@ -17,5 +17,5 @@ returns-in-Ok-Some c =
     record {
       replies = replies_or_memory c.shown.result c.shown.ensures.status c.shown.ensures.text c.shown.ensures.memory
           (difference_shown (BySummarizable s c.args.target.0 sources) s c.args.target.0 sources
-          c.in-Ok-Some.found f (λ status bytes is shows. inr (is, shows)));
+          c.in-Ok-Some.found f (λ bytes shows. shows));
     }

@@ -1,4 +1,4 @@
--- So many bytes stand before what is left, none of them a LF.
+-- This many bytes stand before what is left, none of them a LF.
 use Rattle.std.proofs.Common.{◌≡◌, ◌+◌, length}
 use Rattle.olap_schema_text.specs.Lines.{line_length}
 use Rattle.olap_schema_text.proofs.lines.line_end.Given as goal

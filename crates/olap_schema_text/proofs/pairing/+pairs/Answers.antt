@@ -1,8 +1,9 @@
 -- Each kind of formula that has parts, or atoms.
 use Rattle.std.proofs.Common.{◌≡◌, ◌+◌, ◌++◌, ◌∙◌, map, refl, ap, sym, arith}
-use Rattle.olap_ast.specs.Formula.{comparisons, equalities}
+use Rattle.olap_ast.specs.Atoms.{comparisons, equalities}
+use Rattle.olap_ast.specs.Pairs.{with_number, with_pair}
 use Rattle.olap_ast.specs.Trees.{formula_of, terms_of}
-use Rattle.olap_ast.specs.Valid.{node_count, node_count_of_terms, with_number, with_pair}
+use Rattle.olap_ast.specs.Valid.{node_count, node_count_of_terms}
 use Rattle.olap_ast.specs.declared.formulas.Formula.{Formula}
 use Rattle.olap_schema_text.specs.Reading.{number_pair_of, pair_of}
 use Rattle.olap_schema_text.proofs.JointLemmas.{counted, joined_by, joint_comparisons, joint_equalities, joint_nodes}

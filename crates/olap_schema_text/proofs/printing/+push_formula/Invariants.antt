@@ -1,4 +1,4 @@
--- The texts of the parts so far stand behind the earlier bytes. The measure is the size of what is printed.
+-- The texts of the parts so far stand after the earlier bytes. The measure is the size of what is printed.
 use Rattle.std.proofs.Common.{◌≡◌, ◌≤◌, ◌+◌, ◌*◌, ◌++◌}
 use Rattle.olap_ast.specs.Trees.{formula_of, terms_of}
 use Rattle.olap_ast.specs.Valid.{node_count, node_count_of_terms}

@@ -1,12 +1,13 @@
--- The lines so far stand behind the earlier bytes.
-use Rattle.std.proofs.Common.{◌≡◌, ◌≤◌, ◌++◌, ◌-◌, drop, length}
-use Rattle.olap_schema_text.specs.Printing.{category_texts, text_of_lines}
+-- The lines so far stand after the earlier bytes.
+use Rattle.std.proofs.Common.{◌≡◌, ◌≤◌, ◌++◌, ◌-◌, drop, length, map}
+use Rattle.std.specs.Prelude.{zip}
+use Rattle.olap_schema_text.specs.Printing.{category_text, text_of_lines}
 use Rattle.olap_schema_text.proofs.printing.push_categories.Given as goal
 
 abbrev pub invariant-categories : goal.invariant-categories
 invariant-categories l = record {
-  written : l.out.items ++ text_of_lines (category_texts (drop l.done l.graph.names) (drop l.done l.graph.numbers))
-      ≡ l.initial.out.items ++ text_of_lines (category_texts l.graph.names l.graph.numbers);
+  written : l.out.items ++ text_of_lines (map category_text (drop l.done (zip l.graph.names l.graph.numbers)))
+      ≡ l.initial.out.items ++ text_of_lines (map category_text (zip l.graph.names l.graph.numbers));
   within : l.done ≤ length l.graph.names;
 }
 

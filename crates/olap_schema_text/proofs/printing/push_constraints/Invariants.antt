@@ -1,4 +1,4 @@
--- The lines so far stand behind the earlier bytes.
+-- The lines so far stand after the earlier bytes.
 use Rattle.std.proofs.Common.{◌≡◌, ◌++◌, length, map}
 use Rattle.olap_ast.specs.Trees.{constraint_of}
 use Rattle.olap_schema_text.specs.Printing.{constraint_text, text_of_lines}

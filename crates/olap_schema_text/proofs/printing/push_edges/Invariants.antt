@@ -1,4 +1,4 @@
--- The lines so far stand behind the earlier bytes.
+-- The lines so far stand after the earlier bytes.
 use Rattle.std.proofs.Common.{◌≡◌, ◌≤◌, ◌++◌, ◌-◌, drop, length, map}
 use Rattle.olap_schema_text.specs.Printing.{edge_text, text_of_lines}
 use Rattle.olap_schema_text.proofs.printing.push_edges.Given as goal

@@ -1,4 +1,4 @@
--- The names so far stand behind the earlier bytes.
+-- The names so far stand after the earlier bytes.
 use Rattle.std.proofs.Common.{◌≡◌, ◌++◌, length, map}
 use Rattle.olap_schema_text.specs.Printing.{names_after}
 use Rattle.olap_schema_text.proofs.printing.push_names.Given as goal

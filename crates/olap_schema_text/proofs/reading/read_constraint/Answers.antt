@@ -4,14 +4,14 @@ use Rattle.olap_schema_text.specs.Judging.{constraint_added}
 use Rattle.olap_schema_text.specs.Reading.{above_of}
 use Rattle.olap_schema_text.proofs.reading.read_constraint.Goals as goal
 
-pub returns-in_err-root : goal.returns-in_err-root
-returns-in_err-root c =
+pub returns-in_err-root-clause-read : goal.returns-in_err-root-clause-read
+returns-in_err-root-clause-read c =
     let above = above_of c.args.reading.now in
     let why = c.in_err-root.ensures (λ root. constraint_added above c.args.version root c.args.tokens.now) in
     search rules
 
-pub returns : goal.returns
-returns c =
+pub returns-clause-read : goal.returns-clause-read
+returns-clause-read c =
     let above = above_of c.args.reading.now in
     let read = c.in_ok-root.ensures (λ root. constraint_added above c.args.version root c.args.tokens.now) in
     search rules

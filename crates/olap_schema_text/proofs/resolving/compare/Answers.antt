@@ -7,7 +7,8 @@ use Rattle.olap_base.specs.Graph.{is_number}
 use Rattle.olap_numerals.specs.Numerals.{number_of}
 use Rattle.olap_schema_text.specs.Kinds.{IsRefusedAs}
 use Rattle.olap_schema_text.specs.Known.{graph_seen}
-use Rattle.olap_schema_text.specs.Resolving.{ends_read, given}
+use Rattle.olap_base.specs.Following.{given}
+use Rattle.olap_schema_text.specs.Resolving.{ends_read}
 use Rattle.olap_schema_text.proofs.resolving.compare.Goals as goal
 
 pub returns-in_err-d : goal.returns-in_err-d

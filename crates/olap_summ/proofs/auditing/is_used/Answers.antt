@@ -1,9 +1,11 @@
-use Rattle.std.proofs.Common.{◌≡◌, ◌↔◌, false, sym, subst}
+use Rattle.std.proofs.Common.{◌≡◌, ◌↔◌, false, map, refl, sym, subst}
 use Rattle.std.proofs.lemmas.Result.{IfOk-weaker}
+use Rattle.olap_base.specs.declared.ids.CatId.{CatId}
 use Rattle.olap_ast.specs.Formula.{Formula.Path}
 use Rattle.olap_ast.specs.Valid.{IsFormulaAt}
 use Rattle.olap_schema.specs.Schemas.{schema_of}
 use Rattle.olap_summ.specs.Answers.{IsNowhere}
+use Rattle.olap_ast.proofs.SourceLemmas.{no_more_constants}
 use Rattle.olap_summ.proofs.AuditLemmas.{edge_at_child, path_of, unused_is}
 use Rattle.olap_summ.proofs.auditing.is_used.Goals as goal
 
@@ -18,6 +20,11 @@ ask-requires-clause-question c =
     c.from_vec.ensures c.in_ok-push.ensures.items c.new-path.ensures.items in
     subst (λ cs. IsFormulaAt g c.args.child.0 (Path cs)) (sym path)
     (edge_at_child g c.args.child.0 c.args.parent.0 c.constraints-valid.ensures.valid.hierarchy c.requires.edge)
+
+pub ask-requires-clause-few : goal.ask-requires-clause-few
+ask-requires-clause-few c =
+    no_more_constants (schema_of c.args.schema.now) (Path (map (λ (d : CatId). d.0) c.from_vec.result))
+    c.constraints-valid.ensures.valid refl refl
 
 pub returns-clause-no : goal.returns-clause-no
 returns-clause-no c =

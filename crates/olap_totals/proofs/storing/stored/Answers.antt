@@ -1,7 +1,7 @@
 use Rattle.std.proofs.Common.{length, subst, sym}
-use Rattle.std.specs.Prelude.{All}
+use Rattle.std.specs.Prelude.{ℕ, All}
 use Rattle.olap_base.specs.Graph.{IsCategory}
-use Rattle.olap_base.specs.Views.{View, direct_views}
+use Rattle.olap_base.specs.Views.{View, direct_views, members}
 use Rattle.olap_schema.specs.Schemas.{schema_of}
 use Rattle.olap_view.specs.Seen.{ids}
 use Rattle.olap_order.specs.Judged.{Replies}
@@ -17,14 +17,15 @@ returns-in_err-views g c =
     let graph = (schema_of c.args.schema.now).graph in
     record {
       judged = ended c.in_err-views.ensures.step
-          (λ table. store_told graph i (direct_views i table (ids c.args.categories.now))) c.from_residual.ensures.1;
+          (λ table. store_told graph i
+          (direct_views (members i) table (ids c.args.categories.now))) c.from_residual.ensures.1;
     }
 
 pub told-requires-clause-categories : goal.told-requires-clause-categories
 told-requires-clause-categories g c =
     let read = c.in_ok-views.ensures.step in
     let graph = (schema_of c.args.schema.now).graph in
-    subst (All (λ (v : View). IsCategory graph v.category)) (sym read.direct)
+    subst (All (λ (v : View ℕ ℕ). IsCategory graph v.target)) (sym read.direct)
     (direct_categories graph c.args.legal.now read.facts (ids c.args.categories.now) c.requires.categories)
 
 pub told-requires-clause-at_members : goal.told-requires-clause-at_members
@@ -37,7 +38,8 @@ returns g c =
     let graph = (schema_of c.args.schema.now).graph in
     let read = c.in_ok-views.ensures.step in
     record {
-      judged = followed read.step (λ table. store_told graph i (direct_views i table (ids c.args.categories.now)))
+      judged = followed read.step
+          (λ table. store_told graph i (direct_views (members i) table (ids c.args.categories.now)))
           (answered c.told.result (subst (λ views. Replies IsAnswer (store_told graph i views) c.told.result)
           read.direct c.told.ensures.replies));
     }

@@ -11,12 +11,12 @@ use Rattle.olap_totals.proofs.storing.told.Goals as goal
 
 pub print_store-requires-clause-categories : goal.print_store-requires-clause-categories
 print_store-requires-clause-categories c =
-    subst (λ (h : Graph). All (λ v. IsCategory h v.category) (views_of c.args.store.now)) (sym c.graph.ensures)
+    subst (λ (h : Graph). All (λ v. IsCategory h v.target) (views_of c.args.store.now)) (sym c.graph.ensures)
     c.requires.categories
 
 pub print_store-requires-clause-at_members : goal.print_store-requires-clause-at_members
 print_store-requires-clause-at_members c =
-    subst (λ (j : Instance). All (λ v. All (λ r. r.member < length j) v.rows) (views_of c.args.store.now))
+    subst (λ (j : Instance). All (λ v. All (λ r. r.at < length j) v.rows) (views_of c.args.store.now))
     (sym c.instance.ensures) c.requires.at_members
 
 pub returns-then-len-gt-MOST_STORE_BYTES : goal.returns-then-len-gt-MOST_STORE_BYTES

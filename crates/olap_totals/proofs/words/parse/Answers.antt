@@ -1,4 +1,4 @@
--- The name is one of those of the family, and the words behind it one by one are those by their numbers.
+-- The name is one of those of the family, and the words after it one by one are those by their numbers.
 use Rattle.std.proofs.Common.{ap, sym, ◌∙◌}
 use Rattle.olap_order.specs.Words.{texts}
 use Rattle.olap_order.proofs.BehindLemmas.{four_is, three_or_more_is, two_is}

@@ -8,20 +8,18 @@ use Rattle.olap_view.specs.Stores.{IsStored}
 use Rattle.olap_view.specs.declared.views.Row as told
 use Rattle.olap_view.proofs.SeenLemmas.{each_row, rows_more_is}
 use Rattle.olap_view.proofs.fitting.rows_fit.Goals as goal
+use Rattle.std.proofs.lemmas.Bool.{false≢true}
 
 nothing : told.Row
 nothing = record { member = record { 0 = 0 }; count = 0; sum = pos 0; least = pos 0; greatest = pos 0 }
-
-never : false ≡ true → ⊥
-never e = cc
 
 pub returns-then-not-row_fits : goal.returns-then-not-row_fits
 unfolding nothing
 returns-then-not-row_fits c =
     let rows = c.args.rows.now in
     let k = c.rows.row-index in (
-      λ e. absurd (never e),
-      λ a. absurd (never
+      λ e. absurd (false≢true e),
+      λ a. absurd (false≢true
           (sym c.if-not-row_fits.true ∙ c.row_fits.ensures.1 (each_row IsStored rows k nothing c.rows-test.true a))),
     )
 

@@ -1,4 +1,4 @@
--- All fields behind the category are empty where those that are left are.
+-- All fields after the category are empty where those that are left are.
 use Rattle.std.proofs.Common.{◌≡◌, drop, length}
 use Rattle.std.specs.Prelude.{◌==◌}
 use Rattle.std.specs.List.{list_all}

@@ -1,22 +1,20 @@
 -- A row's checks.
-use Rattle.std.proofs.Common.{◌≡◌, ◌==◌, ◌∙◌, ℕ, Bool, Option, false, true, is_some, ap, sym, arith}
-use Rattle.std.proofs.lemmas.Bool.Decides.{nat_tests}
+use Rattle.std.proofs.Common.{◌≡◌, ◌∙◌, Bool, Option, false, true, is_some, ap, sym, arith}
 use Rattle.std.specs.Option.{option_map}
 use Rattle.olap_base.specs.Instance.{category_of}
 use Rattle.olap_base.specs.Summaries.{Summary}
 use Rattle.olap_view.specs.Seen.{summary_of}
 use Rattle.olap_view.specs.StoredRows.{stored_at}
-use Rattle.olap_view.proofs.JudgingLemmas.{no-view, none-there, row-is, row-twice, some-seen}
+use Rattle.olap_view.proofs.JudgingLemmas.{no-view, row-is, row-twice, some-seen}
 use Rattle.olap_view.specs.declared.summaries.Summary as told
 use Rattle.olap_view.proofs.judging.row.Goals as goal
+use Rattle.olap_view.proofs.ViewingLemmas.{passes}
+use Rattle.olap_base.proofs.GeneralLemmas.{none_from_is_some}
 
 -- whether a row of the member is there, as the table tells it
 there : (found : Option told.Summary) (stored : Option Summary) (b d : Bool) → option_map summary_of found ≡ stored
     → b ≡ is_some found → b ≡ d → is_some stored ≡ d
 there found stored b d e f g = ap is_some (sym e) ∙ some-seen summary_of found ∙ sym f ∙ g
-
-same : (x y c : ℕ) → x ≡ y → x ≡ c → (y == c) ≡ true
-same x y c e f = grind (arith, nat_tests)
 
 pub returns-then-not-is_among-clause-judged : goal.returns-then-not-is_among-clause-judged
 returns-then-not-is_among-clause-judged c = λ g earlier t named n.
@@ -30,7 +28,7 @@ returns-then-is_some-clause-judged c = λ g earlier t named n.
     (rw c.deref.ensures.value at c.is_among.ensures)
     c.if-not-is_among.false c.in-Some.member.0
     (rw c.field.ensures at c.in-Some.ensures.place) c.in-Some.ensures.inside
-    (same c.category.result.0 (category_of c.args.instance.now c.in-Some.member.0) c.args.c.0 c.category.ensures
+    (passes c.category.result.0 (category_of c.args.instance.now c.in-Some.member.0) c.args.c.0 c.category.ensures
     c.if-category-c.false) (summary_of c.in-Some-summary.summary)
     c.in-Some-summary.ensures.read (there c.at.result (stored_at c.args.table.now c.in-Some.member.0) c.is_some.result
     true c.at.ensures c.is_some.ensures c.if-is_some.true)
@@ -40,7 +38,7 @@ returns-clause-new c =
     let e = c.requires.members in
     let h = c.in-Some.ensures.inside in (
       omega arith,
-      none-there (stored_at c.args.table.now c.in-Some.member.0)
+      none_from_is_some (stored_at c.args.table.now c.in-Some.member.0)
           (there c.at.result (stored_at c.args.table.now c.in-Some.member.0) c.is_some.result false c.at.ensures
           c.is_some.ensures c.if-is_some.false),
     )
@@ -51,7 +49,7 @@ returns-clause-judged c = λ g earlier t named n.
     (rw c.deref.ensures.value at c.is_among.ensures)
     c.if-not-is_among.false c.in-Some.member.0
     (rw c.field.ensures at c.in-Some.ensures.place) c.in-Some.ensures.inside
-    (same c.category.result.0 (category_of c.args.instance.now c.in-Some.member.0) c.args.c.0 c.category.ensures
+    (passes c.category.result.0 (category_of c.args.instance.now c.in-Some.member.0) c.args.c.0 c.category.ensures
     c.if-category-c.false) (summary_of c.in-Some-summary.summary)
     c.in-Some-summary.ensures.read n (c.in-Some-summary.ensures.stored c.in-Some.member.0)
     (there c.at.result (stored_at c.args.table.now c.in-Some.member.0) c.is_some.result false c.at.ensures

@@ -21,7 +21,7 @@ name-requires c =
     let read = c.items-view-items.result.now in
     let k = c.views.view-index in
     let same = c.items-view-items.ensures in
-    each_view (λ v. IsCategory c.args.graph.now v.category) views k c.view-item.result
+    each_view (λ v. IsCategory c.args.graph.now v.target) views k c.view-item.result
     (inside views read k same c.views-test.true) (here views read k c.view-item.result same c.view-item.is)
     c.requires.categories
 
@@ -33,7 +33,7 @@ print_rows-requires-clause-at_members c =
     let k = c.views.view-index in
     let v = c.view-item.result in
     let same = c.items-view-items.ensures in
-    told-members n v.rows (each_view (λ w. All (λ r. r.member < n) w.rows) views k v
+    told-members n v.rows (each_view (λ w. All (λ r. r.at < n) w.rows) views k v
     (inside views read k same c.views-test.true) (here views read k v same c.view-item.is) c.requires.at_members)
 
 pub views-preserved : goal.views-preserved

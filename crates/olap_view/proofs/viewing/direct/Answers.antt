@@ -2,15 +2,15 @@
 use Rattle.std.proofs.Common.{◌≡◌, ◌<◌, ℕ, [], List, length, map, ap, sym, subst, ◌∙◌, arith}
 use Rattle.std.specs.Prelude.{All, Contains, IfOk}
 use Rattle.olap_base.specs.Instance.{Instance}
-use Rattle.olap_base.specs.Views.{Fact, direct_view}
+use Rattle.olap_base.specs.Views.{Fact, direct_view, members}
 use Rattle.olap_base.proofs.ListLemmas.{contains_head}
 use Rattle.olap_facts.specs.Seen.{fact_of, facts_of}
 use Rattle.olap_facts.specs.declared.tables.Fact as told_fact
 use Rattle.olap_view.specs.Seen.{view_of}
 use Rattle.olap_view.specs.Tallies.{StandsFor}
 use Rattle.olap_view.specs.declared.views.View as told
-use Rattle.olap_view.proofs.ViewingLemmas.{if_ok_more}
 use Rattle.olap_view.proofs.viewing.direct.Goals as goal
+use Rattle.olap_base.proofs.GeneralLemmas.{if_ok}
 
 pub add_all-requires-clause-members : goal.add_all-requires-clause-members
 add_all-requires-clause-members c =
@@ -38,11 +38,12 @@ returns-clause-view c =
     let stands : StandsFor t facts =
     subst (λ (l : List told_fact.Fact). StandsFor t (map fact_of l)) c.items.ensures
     (c.add_all.ensures.stands [] c.in_ok-tally.ensures.stands) in
-    if_ok_more c.into_view.result
-    (λ (v : told.View). (fs : List Fact) → StandsFor t fs → view_of v ≡ direct_view t.instance fs d)
-    (λ (v : told.View). view_of v ≡ direct_view i facts d)
+    if_ok c.into_view.result
+    (λ (v : told.View). (fs : List (Fact ℕ)) → StandsFor t fs → view_of v ≡ direct_view (members t.instance) fs d)
+    (λ (v : told.View). view_of v ≡ direct_view (members i) facts d)
     (λ v e. e facts stands
-    ∙ ap (λ (j : Instance). direct_view j facts d) (c.add_all.ensures.instance ∙ c.in_ok-tally.ensures.instance))
+    ∙ ap (λ (j : Instance). direct_view (members j) facts d)
+    (c.add_all.ensures.instance ∙ c.in_ok-tally.ensures.instance))
     c.into_view.ensures.view
 
 pub returns-clause-members : goal.returns-clause-members

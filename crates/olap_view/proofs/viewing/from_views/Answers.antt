@@ -5,7 +5,7 @@ use Rattle.std.proofs.lemmas.List.{length-map, take_all}
 use Rattle.std.proofs.lemmas.List.Elements.{All-append, All-nil}
 use Rattle.olap_base.specs.Instance.{Instance}
 use Rattle.olap_base.specs.Limits.{most_members}
-use Rattle.olap_base.specs.Views.{Row, row_at, rows_from_views}
+use Rattle.olap_base.specs.Views.{Row, members, row_at, rows_from_views}
 use Rattle.olap_base.proofs.ListLemmas.{contains_head}
 use Rattle.olap_view.specs.Merging.{AreMerged, total_of_rows}
 use Rattle.olap_view.specs.Seen.{each_view_of, row_of, rows_of, view_of, views_of}
@@ -16,9 +16,10 @@ use Rattle.olap_view.specs.declared.views.View as told
 use Rattle.olap_view.proofs.SeenLemmas.{each_row, each_view}
 use Rattle.olap_view.proofs.MergingLemmas.{merged_start}
 use Rattle.olap_view.proofs.StoresLemmas.{few_rows, rows_chosen, rows_chosen_more, rows_chosen_same}
-use Rattle.olap_view.proofs.ViewingLemmas.{if_ok_more, rows_same}
+use Rattle.olap_view.proofs.ViewingLemmas.{rows_same}
 use Rattle.olap_view.proofs.viewing.from_views.Goals as goal
 use Rattle.olap_view.proofs.viewing.from_views.Goals.{then-has_bit, else-has_bit}
+use Rattle.olap_base.proofs.GeneralLemmas.{if_ok}
 
 module _ (views read : List told.View) (k : ℕ) (v : told.View) (same : read ≡ views) where
   inside : k < length read → k < length views
@@ -32,12 +33,12 @@ ended views read k e h = take_all k views (subst (λ (l : List told.View). lengt
 
 -- a view of an instance has no more rows than the instance may have members
 short : (i : Instance) (views : List told.View) (k : ℕ) (v : told.View) (rows : List row.Row) → k < length views
-    → v ≡ get_or views k v → All (λ w. AllPairs ◌≢◌ (map (λ r. r.member) w.rows)) (each_view_of views)
-    → All (λ w. All (λ r. r.member < length i) w.rows) (each_view_of views) → length i ≤ most_members → rows ≡ v.rows
+    → v ≡ get_or views k v → All (λ w. AllPairs ◌≢◌ (map (λ r. r.at) w.rows)) (each_view_of views)
+    → All (λ w. All (λ r. r.at < length i) w.rows) (each_view_of views) → length i ≤ most_members → rows ≡ v.rows
     → length rows ≤ most_members
 short i views k v rows h e differ inside few q =
-    let d = each_view (λ w. AllPairs ◌≢◌ (map (λ r. r.member) w.rows)) views k v h e differ in
-    let a = each_view (λ w. All (λ r. r.member < length i) w.rows) views k v h e inside in
+    let d = each_view (λ w. AllPairs ◌≢◌ (map (λ r. r.at) w.rows)) views k v h e differ in
+    let a = each_view (λ w. All (λ r. r.at < length i) w.rows) views k v h e inside in
     let t : length (rows_of v.rows) ≤ length i = few_rows (length i) (rows_of v.rows) d a in
     let l : length (rows_of v.rows) ≡ length v.rows = length-map v.rows row_of in
     let n : length rows ≡ length v.rows = ap length q in
@@ -70,12 +71,12 @@ join_rows-requires-clause-at_members c = λ k d h.
     let views = c.args.store.now.views in
     let v = c.view-item.result in
     let same = c.items-view-items.ensures in
-    let at = each_view (λ w. All (λ r. r.member < n) w.rows) views c.views.k v
+    let at = each_view (λ w. All (λ r. r.at < n) w.rows) views c.views.k v
     (inside views c.items-view-items.result.now c.views.k v same c.views-test.true)
     (here views c.items-view-items.result.now c.views.k v same c.view-item.is) c.requires.at_members in
     subst (λ (i : Instance). (get_or c.items.result.now k d).member.0 < length i) (sym c.views.invariant.instance)
     (subst (λ (l : List row.Row). (get_or l k d).member.0 < n) (sym c.items.ensures)
-    (each_row (λ r. r.member < n) v.rows k d (subst (λ (l : List row.Row). k < length l) c.items.ensures h) at))
+    (each_row (λ r. r.at < n) v.rows k d (subst (λ (l : List row.Row). k < length l) c.items.ensures h) at))
 
 pub join_rows-requires-clause-stored : goal.join_rows-requires-clause-stored
 join_rows-requires-clause-stored c =
@@ -125,10 +126,10 @@ views-preserved c =
             instance = ap (λ t. t.instance) w.table-is ∙ j.instance ∙ inv.instance;
             categories = ap (λ t. t.categories) w.table-is ∙ j.categories ∙ inv.categories;
             merged = subst (AreMerged next) (sym w.table-is)
-                (subst (λ (l : List Row). AreMerged l u) (sym more)
+                (subst (λ (l : List (Row ℕ)). AreMerged l u) (sym more)
                 (subst (λ (l : List row.Row). AreMerged (rows ++ rows_of l) u) w.items.ensures
                 (j.merged rows inv.merged)));
-            few = subst (λ (l : List Row). length l ≤ (k + 1) * most_members) (sym more)
+            few = subst (λ (l : List (Row ℕ)). length l ≤ (k + 1) * most_members) (sym more)
                 (let a = length-append rows (rows_of v.rows) in let b = length-map v.rows row_of in omega arith);
             stored = subst (All IsStored) (sym more) (All-append IsStored rows (rows_of v.rows) inv.stored stored);
           }
@@ -139,8 +140,8 @@ views-preserved c =
             instance = ap (λ t. t.instance) w.table-is ∙ inv.instance;
             categories = ap (λ t. t.categories) w.table-is ∙ inv.categories;
             merged = subst (AreMerged next) (sym w.table-is)
-                (subst (λ (l : List Row). AreMerged l c.views.table) (sym kept) inv.merged);
-            few = subst (λ (l : List Row). length l ≤ (k + 1) * most_members) (sym kept) (omega arith);
+                (subst (λ (l : List (Row ℕ)). AreMerged l c.views.table) (sym kept) inv.merged);
+            few = subst (λ (l : List (Row ℕ)). length l ≤ (k + 1) * most_members) (sym kept) (omega arith);
             stored = subst (All IsStored) (sym kept) inv.stored;
           }
     ]
@@ -170,12 +171,13 @@ returns-clause-view c =
     subst (λ (l : List told.View). AreMerged (rows_chosen (each_view_of l) c.args.mask) t) all inv.merged in
     let among : Contains t.categories d =
     subst (λ (l : List ℕ). Contains l d) (sym inv.categories) (contains_head d []) in
-    if_ok_more c.view.result (λ (v : told.View). view_of v ≡ view_at t d)
+    if_ok c.view.result (λ (v : told.View). view_of v ≡ view_at t d)
     (λ (v : told.View). view_of v
-    ≡ record { category = d; rows = rows_from_views i d (chosen (views_of c.args.store.now) c.args.mask) })
-    (λ v e. e ∙ ap (λ (r : List Row). record { category = d; rows = r })
+    ≡ record { target = d; rows = rows_from_views (members i) d (chosen (views_of c.args.store.now) c.args.mask) })
+    (λ v e. e ∙ ap (λ (r : List (Row ℕ)). record { target = d; rows = r })
     (rows_same t.instance d (λ y. row_at y (stands_at t y)) (λ y. row_at y (total_of_rows t.instance rows y))
     (λ y m. ap (row_at y) (merged.at y
     (record { member = m.0; category = subst (Contains t.categories) (sym m.1) among })))
-    ∙ ap (λ (j : Instance). rows_from_views j d (chosen (views_of c.args.store.now) c.args.mask)) inv.instance))
+    ∙ ap (λ (j : Instance). rows_from_views (members j) d
+    (chosen (views_of c.args.store.now) c.args.mask)) inv.instance))
     c.view.ensures.view

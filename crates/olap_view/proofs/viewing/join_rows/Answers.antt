@@ -1,6 +1,6 @@
 -- One row more.
 use Rattle.std.proofs.Common.{◌≤◌, ◌<◌, ◌*◌, ◌++◌, ◌∷◌, [], List, length, get_or, take, ap, sym, subst, ◌∙◌, arith, pos, append_assoc, length-append}
-use Rattle.std.specs.Prelude.{All}
+use Rattle.std.specs.Prelude.{ℕ, All}
 use Rattle.std.proofs.lemmas.List.Elements.{All-append, All-take}
 use Rattle.olap_base.specs.Instance.{Instance}
 use Rattle.olap_base.specs.Limits.{most_members, most_views}
@@ -66,11 +66,11 @@ rows-preserved c =
       categories = j.categories ∙ inv.categories;
       merged = λ earlier m.
           let old = rows_of (take k rows) in
-          subst (λ (l : List Row). AreMerged l u)
+          subst (λ (l : List (Row ℕ)). AreMerged l u)
           (append_assoc earlier old (r ∷ [])
-          ∙ ap (λ (l : List Row). earlier ++ l) (sym (rows_more_is rows k nothing c.rows-test.true)))
+          ∙ ap (λ (l : List (Row ℕ)). earlier ++ l) (sym (rows_more_is rows k nothing c.rows-test.true)))
           (merged_more (earlier ++ old) r t u j.instance j.categories
           (λ y h. j.at y h
-          ∙ ap (λ s. stands_at t y ⊕ when (reaches t.instance r.member y) s) c.summary.ensures)
+          ∙ ap (λ s. stands_at t y ⊕ when (reaches t.instance r.at y) s) c.summary.ensures)
           (inv.merged earlier m));
     }

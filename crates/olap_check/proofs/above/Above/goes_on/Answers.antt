@@ -4,8 +4,8 @@ use Rattle.std.specs.Prelude.{IsTrue}
 use Rattle.olap_check.specs.Seen.{GoesOn}
 use Rattle.olap_check.proofs.AboveLemmas.{via_by_row}
 use Rattle.olap_check.proofs.WayLemmas.{edge_by_row}
-use Rattle.olap_eval.proofs.ShapeLemmas.{iff_trans}
 use Rattle.olap_check.proofs.above.Above.goes_on.Goals as goal
+use Rattle.olap_base.proofs.GeneralLemmas.{iff_trans}
 
 pub returns-in-Reaches : goal.returns-in-Reaches
 returns-in-Reaches c =

@@ -6,8 +6,8 @@ use Rattle.std.specs.Prelude.{IsTrue}
 use Rattle.olap_check.specs.Seen.{IsSo}
 use Rattle.olap_ast.specs.Trees.{op_of}
 use Rattle.olap_check.proofs.AboveLemmas.{named_by_row, numbered_by_row}
-use Rattle.olap_eval.proofs.ShapeLemmas.{iff_trans}
 use Rattle.olap_check.proofs.above.Above.is_so.Goals as goal
+use Rattle.olap_base.proofs.GeneralLemmas.{iff_trans}
 
 pub returns-in-GoesOn : goal.returns-in-GoesOn
 returns-in-GoesOn c =

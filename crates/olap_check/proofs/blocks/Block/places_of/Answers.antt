@@ -4,9 +4,9 @@ use Rattle.olap_bits.specs.Sets.{members}
 use Rattle.olap_check.specs.Blocks.{Collects}
 use Rattle.olap_check.specs.Seen.{IsSo}
 use Rattle.olap_check.proofs.BlockLemmas.{collect_start, collect_more, collect_skip, select_collected}
-use Rattle.olap_check.proofs.PassingLemmas.{refuted}
 use Rattle.olap_check.proofs.blocks.Block.places_of.Goals as goal
 use Rattle.olap_check.proofs.blocks.Block.places_of.Goals.{then-is_so_at, else-is_so_at}
+use Rattle.olap_base.proofs.GeneralLemmas.{refuted}
 
 pub places-init : goal.places-init
 places-init c =

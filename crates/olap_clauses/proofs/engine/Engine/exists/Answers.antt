@@ -2,15 +2,16 @@
 use Rattle.std.proofs.Common.{ℕ, List, ◌++◌, refl, sym, ◌∙◌, subst}
 use Rattle.olap_clauses.specs.declared.trails.Step.{Step}
 use Rattle.olap_clauses.specs.Standing.{AgreesDecisions}
-use Rattle.olap_clauses.proofs.OutcomeLemmas.{false_is_not_true, true_is_not_false}
+use Rattle.olap_clauses.proofs.OutcomeLemmas.{true_is_not_false}
 use Rattle.olap_clauses.proofs.engine.Engine.exists.Goals as goal
+use Rattle.std.proofs.lemmas.Bool.{false≢true}
 
 pub returns-then-not-derive : goal.returns-then-not-derive
 returns-then-not-derive g c =
     let i = c.rounds.invariant in
     let d = c.derive.ensures in
     record {
-      found = λ e. absurd (false_is_not_true e);
+      found = λ e. absurd (false≢true e);
       nothing = λ _ v m a h. c.if-not-derive.ensures.none refl v (i.admits v m a);
       trail = d.trail ∙ i.trail;
       variables = d.variables ∙ i.variables;
@@ -42,7 +43,7 @@ returns-in-Nothing g c =
     let s = c.take_round.ensures in
     let suits = λ (n : ℕ). g.J.Judge.Suits c.args.judge.now c.take_round.new.state n in
     record {
-      found = λ e. absurd (false_is_not_true e);
+      found = λ e. absurd (false≢true e);
       nothing = λ _ v m a h. c.in-Nothing.ensures.nothing refl v m (d.admits v (i.admits v m a))
           (subst (λ (ss : List Step). AgreesDecisions v ss) (sym (d.trail ∙ i.trail)) h);
       trail = s.trail ∙ d.trail ∙ i.trail;
@@ -101,7 +102,7 @@ returns-in-Nothing-search g c =
     let s = c.search.ensures in
     let suits = λ (n : ℕ). g.J.Judge.Suits c.args.judge.now c.search.new.state n in
     record {
-      found = λ e. absurd (false_is_not_true e);
+      found = λ e. absurd (false≢true e);
       nothing = λ _ v m a h. c.in-Nothing-search.ensures.nothing refl v m (i.admits v m a)
           (subst (λ (ss : List Step). AgreesDecisions v ss) (sym i.trail) h);
       trail = s.trail ∙ i.trail;
@@ -116,8 +117,8 @@ returns-in-Stop-search g c =
     let s = c.search.ensures in
     let suits = λ (n : ℕ). g.J.Judge.Suits c.args.judge.now c.search.new.state n in
     record {
-      found = λ e. absurd (false_is_not_true e);
-      nothing = λ _ v m a h. absurd (false_is_not_true (c.in-Stop-search.ensures.stop refl));
+      found = λ e. absurd (false≢true e);
+      nothing = λ _ v m a h. absurd (false≢true (c.in-Stop-search.ensures.stop refl));
       trail = s.trail ∙ i.trail;
       variables = s.variables ∙ i.variables;
       admits = λ v m a. s.admits v m (i.admits v m a);

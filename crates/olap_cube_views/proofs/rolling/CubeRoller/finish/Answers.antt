@@ -3,7 +3,8 @@ use Rattle.std.proofs.Common.{List, ap, sym, subst, ◌∙◌}
 use Rattle.std.proofs.lemmas.Result.{err_from_is_err_and}
 use Rattle.olap_base.specs.Instance.{Instance}
 use Rattle.olap_base.specs.Refusing.{IsRefusedBy}
-use Rattle.olap_cube.specs.CubeViews.{cube_direct_view}
+use Rattle.olap_base.specs.Views.{direct_view}
+use Rattle.olap_cube.specs.CubeViews.{tuples}
 use Rattle.olap_records.specs.Standing.{records_fed}
 use Rattle.olap_view.specs.Seen.{ids}
 use Rattle.olap_cube_views.specs.CubeFeeding.{HasTakenFacts, cube_fed_read, cube_rolling}
@@ -46,7 +47,7 @@ returns-clause-view c = λ gs is target fed h.
       facts = t.facts;
       read = t.read;
       direct = c.in_ok-view.ensures.view t.facts t.stands
-          ∙ ap (λ (us : List Instance). cube_direct_view us t.facts (ids c.deref.result.now))
+          ∙ ap (λ (us : List Instance). direct_view (tuples us) t.facts (ids c.deref.result.now))
           (c.finish.ensures.instances ∙ c.self.invariant.same)
-          ∙ ap (cube_direct_view js t.facts) named;
+          ∙ ap (direct_view (tuples js) t.facts) named;
     })

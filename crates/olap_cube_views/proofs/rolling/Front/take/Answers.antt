@@ -11,8 +11,9 @@ use Rattle.olap_records.proofs.JoinLemmas.{begins}
 use Rattle.olap_cube_views.specs.CubeFactText.{cube_facts_read_within}
 use Rattle.olap_cube_views.specs.CubeFeeding.{cube_rolling}
 use Rattle.olap_cube_views.specs.Dimensions.{graphs_of, instances_in}
-use Rattle.olap_cube_views.proofs.CubeFeedLemmas.{no-cut, one-cut, stands-on, taken-none, taken-one, whole-is}
+use Rattle.olap_cube_views.proofs.CubeFeedLemmas.{no-cut, one-cut, taken-none, taken-one}
 use Rattle.olap_cube_views.proofs.rolling.Front.take.Goals as goal
+use Rattle.olap_facts.proofs.FeedLemmas.{stands-on, whole-is}
 
 pub returns-then-not-cut-clause-takes : goal.returns-then-not-cut-clause-takes
 returns-then-not-cut-clause-takes c = λ target fed h.

@@ -3,7 +3,7 @@ use Rattle.std.proofs.Common.{◌≡◌, ◌+◌, ◌≤◌, ◌∷◌, ◌++◌
 use mir.Val.{SFits}
 use Rattle.std.proofs.lemmas.Int.{to_z-of_z}
 use Rattle.olap_base.specs.Limits.{most_count}
-use Rattle.olap_cube.specs.CubeViews.{CubeFact}
+use Rattle.olap_base.specs.Views.{Fact}
 use Rattle.olap_view.specs.Columns.{Ascent}
 use Rattle.olap_cube_views.specs.CubeTallies.{CubeStandsFor, CubeTallied, entries_of, tallied}
 use Rattle.olap_cube_views.specs.Seen.{fact_at}
@@ -20,8 +20,8 @@ add_fact-requires-clause-within c =
 
 -- where the columns and the value are those of the tally and the fact
 given_back : (columns old : List Ascent) (ms : List MemberId) (v w : ℤ) (before after : List told.CubeRow)
-    (n : ℕ) (facts : List CubeFact) → columns ≡ old → v ≡ w
-    → ((m : ℕ) (fs : List CubeFact) → CubeStandsFor (tallied columns before m) fs
+    (n : ℕ) (facts : List (Fact (List ℕ))) → columns ≡ old → v ≡ w
+    → ((m : ℕ) (fs : List (Fact (List ℕ))) → CubeStandsFor (tallied columns before m) fs
     → CubeStandsFor (tallied columns after (m + 1)) (fs ++ fact_at ms v ∷ []))
     → CubeStandsFor (tallied old before n) facts
     → CubeStandsFor (tallied old after (n + 1)) (facts ++ fact_at ms w ∷ [])

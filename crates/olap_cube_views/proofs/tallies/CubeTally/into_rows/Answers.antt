@@ -1,8 +1,9 @@
 -- The joined rows are those of the direct view.
 use Rattle.std.proofs.Common.{◌≡◌, List, length, subst}
-use Rattle.std.specs.Prelude.{All}
+use Rattle.std.specs.Prelude.{ℕ, All}
 use Rattle.olap_base.specs.Limits.{most_count}
-use Rattle.olap_cube.specs.CubeViews.{CubeFact, cube_direct_rows}
+use Rattle.olap_base.specs.Views.{Fact, direct_rows}
+use Rattle.olap_cube.specs.CubeViews.{tuples}
 use Rattle.olap_cube_views.specs.CubeTallies.{AreMembers, CubeStandsFor, CubeTallied, entries_of, tallied}
 use Rattle.olap_cube_views.specs.Seen.{cube_rows_of}
 use Rattle.olap_cube_views.proofs.CubeTallyLemmas.{direct_members, told_rows}
@@ -19,8 +20,8 @@ returns-clause-rows c =
     let a = c.self.inside in
     let t = tallied a.columns.items a.sums.rows.items a.added in
     let rows = c.join_rows.new.rows.items in
-    subst (λ (u : CubeTallied). (facts : List CubeFact) → CubeStandsFor u facts
-    → cube_rows_of (length u.instances) rows ≡ cube_direct_rows u.instances u.target facts) c.self.view_is
+    subst (λ (u : CubeTallied). (facts : List (Fact (List ℕ))) → CubeStandsFor u facts
+    → cube_rows_of (length u.instances) rows ≡ direct_rows (tuples u.instances) u.target facts) c.self.view_is
     (λ facts s. told_rows t facts rows c.self.invariant.dimensions s c.join_rows.ensures.same
     c.join_rows.ensures.order)
 
@@ -29,7 +30,7 @@ returns-clause-members c =
     let a = c.self.inside in
     let t = tallied a.columns.items a.sums.rows.items a.added in
     let rows = c.join_rows.new.rows.items in
-    subst (λ (u : CubeTallied). All (λ r. AreMembers u.instances r.members) (cube_rows_of (length u.instances) rows))
+    subst (λ (u : CubeTallied). All (λ r. AreMembers u.instances r.at) (cube_rows_of (length u.instances) rows))
     c.self.view_is
     (direct_members t.instances t.target c.self.invariant.facts (cube_rows_of (length t.instances) rows)
     (told_rows t c.self.invariant.facts rows c.self.invariant.dimensions c.self.invariant.stands

@@ -1,6 +1,6 @@
 -- The views of the table are a store, in file order.
 use Rattle.std.proofs.Common.{◌≡◌, List, ap, sym, subst, ◌∙◌}
-use Rattle.std.specs.Prelude.{All}
+use Rattle.std.specs.Prelude.{ℕ, All}
 use Rattle.olap_base.specs.Instance.{Instance}
 use Rattle.olap_base.specs.Views.{View}
 use Rattle.olap_view.specs.Stores.{IsInFileOrder, IsSoundStore}
@@ -14,7 +14,7 @@ returns-clause-sound c = λ g before e s.
     let t = c.self.inside.table in
     let i : t.instance ≡ c.args.self.instance = ap (λ (d : Delta). d.instance) c.self.view_is in
     let k : t.categories ≡ c.args.self.categories = ap (λ (d : Delta). d.categories) c.self.view_is in
-    subst (λ (vs : List View). IsSoundStore g c.args.self.instance vs) (sym c.in_ok-views.ensures.views)
+    subst (λ (vs : List (View ℕ ℕ)). IsSoundStore g c.args.self.instance vs) (sym c.in_ok-views.ensures.views)
     (subst (λ (j : Instance). IsSoundStore g j (views_at t)) i
     (table_sound g t before (k ∙ e) c.self.invariant (subst (λ (j : Instance). IsSoundStore g j before) (sym i) s)))
 
@@ -22,5 +22,5 @@ pub returns-clause-order : goal.returns-clause-order
 returns-clause-order c =
     let t = c.self.inside.table in
     let i : t.instance ≡ c.args.self.instance = ap (λ (d : Delta). d.instance) c.self.view_is in
-    subst (λ (vs : List View). All (IsInFileOrder c.args.self.instance) vs) (sym c.in_ok-views.ensures.views)
+    subst (λ (vs : List (View ℕ ℕ)). All (IsInFileOrder c.args.self.instance) vs) (sym c.in_ok-views.ensures.views)
     (subst (λ (j : Instance). All (IsInFileOrder j) (views_at t)) i (table_order t))

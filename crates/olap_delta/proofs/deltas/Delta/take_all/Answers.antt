@@ -1,5 +1,5 @@
 -- One fact more.
-use Rattle.std.proofs.Common.{List, length, pos, take, refl, sym, ap, subst, arith}
+use Rattle.std.proofs.Common.{ℕ, List, length, pos, take, refl, sym, ap, subst, arith}
 use Rattle.std.proofs.lemmas.List.{length-map, length-take-le}
 use Rattle.olap_base.specs.Views.{Fact}
 use Rattle.olap_facts.specs.Seen.{fact_of}
@@ -36,7 +36,7 @@ facts-preserved c =
     let xs = c.args.facts.now in
     let k = c.facts.fact-index in
     let e = c.take.ensures in
-    subst (λ (fs : List Fact). AreTaken fs c.args.self.now c.take.new.self)
+    subst (λ (fs : List (Fact ℕ)). AreTaken fs c.args.self.now c.take.new.self)
     (sym (one_more xs k nothing c.facts-test.true))
     (are_taken_more (so_far xs k) _ c.args.self.now c.facts.self c.take.new.self c.facts.invariant e.change e.instance
     e.categories e.taken e.views)

@@ -3,14 +3,16 @@ use Rattle.std.proofs.Common.{refl, sym, subst, map}
 use Rattle.std.specs.Prelude.{◌≤◌}
 use Rattle.olap_base.specs.Graph.{Graph, IsCategory}
 use Rattle.olap_base.specs.Limits.{most_constants}
-use Rattle.olap_ast.specs.Constants.{all_comparisons, all_equalities}
+use Rattle.olap_ast.specs.Atoms.{all_comparisons, all_equalities}
+use Rattle.olap_ast.specs.Pairs.{pair_count}
 use Rattle.olap_ast.specs.Schema.{Schema}
 use Rattle.olap_ast.specs.Trees.{constraint_of, formula_of}
-use Rattle.olap_ast.specs.Valid.{IsFormulaAt, IsValidSchema, pair_count}
+use Rattle.olap_ast.specs.Valid.{IsFormulaAt, IsValidSchema}
 use Rattle.olap_schema.specs.Schemas.{schema_of}
 use Rattle.olap_dimsat.specs.Posed.{IsPosed}
-use Rattle.olap_dimsat.proofs.MadeLemmas.{blank_for, made_first, whole}
+use Rattle.olap_dimsat.proofs.MadeLemmas.{blank_for, made_first}
 use Rattle.olap_dimsat.proofs.searching.Search.new.Goals as goal
+use Rattle.olap_names.proofs.WholeLemmas.{whole_is}
 
 pub pose-requires-clause-root : goal.pose-requires-clause-root
 pose-requires-clause-root c =
@@ -19,7 +21,7 @@ pose-requires-clause-root c =
 pub pose-requires-clause-valid : goal.pose-requires-clause-valid
 pose-requires-clause-valid c =
     subst (λ (s : Schema). IsValidSchema s)
-    (sym (whole (schema_of c.args.schema.now) c.graph-graph.result.now
+    (sym (whole_is (schema_of c.args.schema.now) c.graph-graph.result.now
     (map constraint_of c.constraints-constraints.result.now)
     c.graph-graph.ensures c.constraints-constraints.ensures.list)) c.constraints-constraints.ensures.valid
 
@@ -32,7 +34,7 @@ pub pose-requires-clause-few : goal.pose-requires-clause-few
 pose-requires-clause-few c =
     subst (λ (s : Schema). pair_count (all_equalities s (formula_of c.args.question.now))
     (all_comparisons s (formula_of c.args.question.now)) ≤ most_constants)
-    (sym (whole (schema_of c.args.schema.now) c.graph-graph.result.now
+    (sym (whole_is (schema_of c.args.schema.now) c.graph-graph.result.now
     (map constraint_of c.constraints-constraints.result.now)
     c.graph-graph.ensures c.constraints-constraints.ensures.list)) c.requires.few
 
@@ -45,7 +47,7 @@ returns-clause-made c =
     let s = schema_of c.args.schema.now in
     let q = formula_of c.args.question.now in
     let g = c.graph-graph.result.now in
-    let w = whole s g (map constraint_of c.constraints-constraints.result.now)
+    let w = whole_is s g (map constraint_of c.constraints-constraints.result.now)
     c.graph-graph.ensures c.constraints-constraints.ensures.list in
     let l = c.in_ok-leaf.ensures in
     let b = c.in_ok-best.ensures in

@@ -1,9 +1,9 @@
 -- The variable's meaning says it.
 use Rattle.std.proofs.Common.{◌<◌, length, arith}
-use Rattle.olap_ast.proofs.Shape.{same_is}
 use Rattle.olap_encoding.specs.EncoderInside.{encoding_of}
 use Rattle.olap_encoding.proofs.GivenLemmas.{reaching_says}
 use Rattle.olap_encoding.proofs.encoders.Encoder.is_reaching.Goals as goal
+use Rattle.std.proofs.lemmas.Bool.{eqb-true}
 
 pub returns-then-a-c : goal.returns-then-a-c
 returns-then-a-c c =
@@ -12,5 +12,5 @@ returns-then-a-c c =
     λ h. (
       n,
       reaching_says (encoding_of c.args.self.now) c.args.x c.in-Reaching.a c.in-Reaching.b c.args.c.0 c.args.d.0
-          c.index.result.now n c.index.ensures c.in-Reaching.is c.if-a-c.true (same_is c.in-Reaching.b c.args.d.0 h),
+          c.index.result.now n c.index.ensures c.in-Reaching.is c.if-a-c.true (eqb-true c.in-Reaching.b c.args.d.0 h),
     )

@@ -1,9 +1,9 @@
 -- The variable's meaning says it.
 use Rattle.std.proofs.Common.{◌<◌, length, arith}
-use Rattle.olap_ast.proofs.Shape.{same_is}
 use Rattle.olap_encoding.specs.EncoderInside.{encoding_of}
 use Rattle.olap_encoding.proofs.GivenLemmas.{rung_says}
 use Rattle.olap_encoding.proofs.encoders.Encoder.is_rung.Goals as goal
+use Rattle.std.proofs.lemmas.Bool.{eqb-true}
 
 pub returns-then-d-c : goal.returns-then-d-c
 returns-then-d-c c =
@@ -12,5 +12,5 @@ returns-then-d-c c =
     λ h. (
       n,
       rung_says (encoding_of c.args.self.now) c.args.x c.in-UpTo.d c.in-UpTo.j c.args.c.0 c.args.k
-          c.index.result.now n c.index.ensures c.in-UpTo.is c.if-d-c.true (same_is c.in-UpTo.j c.args.k h),
+          c.index.result.now n c.index.ensures c.in-UpTo.is c.if-d-c.true (eqb-true c.in-UpTo.j c.args.k h),
     )

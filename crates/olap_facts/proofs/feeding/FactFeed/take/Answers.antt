@@ -13,7 +13,7 @@ returns-clause-feeds c =
     let front = c.take.new.self in
     let new = feeding_in c.self.inside.setting front.splitter front.handed front.begun in
     let piece = c.args.piece.now in
-    subst (λ (q : Feeding). (fed : List ℕ) (facts : List Fact) → Fed q fed facts → MatchResult c.take.result
+    subst (λ (q : Feeding). (fed : List ℕ) (facts : List (Fact ℕ)) → Fed q fed facts → MatchResult c.take.result
     (λ _. Fed new (fed ++ piece) (facts ++ map fact_of c.take.new.batch.items))
     (λ e. (more : List ℕ) → IsRefusedBy e (fed_read q ((fed ++ piece) ++ more))))
     c.self.view_is c.take.ensures.feeds

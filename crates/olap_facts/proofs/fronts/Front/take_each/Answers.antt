@@ -83,7 +83,7 @@ records-preserved-in-Some c =
       at = omega (arith, part, same_size, size, inv.at);
       handed = omega (arith, ap length items, length-append old (f ∷ []), inv.handed);
       few = omega (arith, few);
-      table = subst (λ (fs : List Fact). IsFactTable setting.graph.now setting.instance.now fs) (sym told)
+      table = subst (λ (fs : List (Fact ℕ)). IsFactTable setting.graph.now setting.instance.now fs) (sym told)
           (table-more setting.graph.now setting.instance.now (map fact_of old) (fact_of f) inv.table member bottom);
       fed = λ fed facts h.
           let g = inv.fed fed facts h in
@@ -94,7 +94,7 @@ records-preserved-in-Some c =
           record {
             done = g.done ++ row ∷ [];
             stands = stands-on fed piece at n g.done (row ∷ []) s new.stands g.stands one;
-            counted = subst (λ (fs : List Fact). Counted setting.most setting.graph.now setting.instance.now
+            counted = subst (λ (fs : List (Fact ℕ)). Counted setting.most setting.graph.now setting.instance.now
                 (c.records.self.handed + 1) true (g.done ++ row ∷ []) fs)
                 more counted;
           };

@@ -11,7 +11,7 @@ invariant-records l = record {
   handed : l.self.handed ≡ l.fn.self.handed + length l.batch.items;
   few : l.self.handed ≤ l.setting.most;
   table : IsFactTable l.setting.graph.now l.setting.instance.now (map fact_of l.batch.items);
-  fed : (fed : List ℕ) (facts : List Fact)
+  fed : (fed : List ℕ) (facts : List (Fact ℕ))
       → Fed (feeding_in l.setting l.fn.self.splitter l.fn.self.handed l.fn.self.begun) fed facts
       → Fed (feeding_in l.setting l.self.splitter l.self.handed l.self.begun) (fed ++ take l.at l.piece)
       (facts ++ map fact_of l.batch.items);

@@ -12,7 +12,7 @@ invariant-pieces l = record {
   few : l.self.handed ≤ l.setting.most;
   begun : l.self.begun ≡ true;
   table : IsFactTable l.setting.graph.now l.setting.instance.now (map fact_of l.batch.items);
-  fed : (fed : List ℕ) (facts : List Fact)
+  fed : (fed : List ℕ) (facts : List (Fact ℕ))
       → Fed (feeding_in l.setting l.fn.self.splitter l.fn.self.handed l.fn.self.begun) fed facts
       → Fed (feeding_in l.setting l.self.splitter l.self.handed l.self.begun) (fed ++ take l.at l.piece)
       (facts ++ map fact_of l.batch.items);

@@ -1,4 +1,4 @@
--- One decision more, or none where there is no memory.
+-- One decision more, or none if there is no memory.
 use Rattle.std.proofs.Common.{◌≡◌, List, None, ap, map, subst, sym}
 use Rattle.olap_proof.specs.KeptTables.{AreTables}
 use Rattle.olap_proof.specs.KeptWays.{way_kept}

@@ -1,5 +1,5 @@
 -- The views of the tally are those of the text, or its first fault.
-use Rattle.std.proofs.Common.{◌≡◌, ◌∷◌, [], List, ap, subst, sym}
+use Rattle.std.proofs.Common.{◌≡◌, ℕ, ◌∷◌, [], List, ap, subst, sym}
 use Rattle.std.proofs.lemmas.Result.{err_from_is_err_and}
 use Rattle.olap_base.specs.Views.{Fact}
 use Rattle.olap_facts.specs.Feeding.{facts_if}
@@ -31,7 +31,7 @@ returns-clause-views c = λ g i categories fed h.
           let f = w.in-Some.fact in
           let same : w.add.new.self ≡ after = cc in
           let one : fact_of f ∷ [] ≡ facts_if last = sym (ap facts_if w.in-Some.is) in
-          subst (λ (fs : List Fact). IsAdded tally after k.facts fs) one
+          subst (λ (fs : List (Fact ℕ)). IsAdded tally after k.facts fs) one
           (subst (λ (t : Tallied). IsAdded tally t k.facts (fact_of f ∷ [])) same (record {
             instance = w.add.ensures.instance;
             categories = w.add.ensures.categories;
@@ -39,7 +39,7 @@ returns-clause-views c = λ g i categories fed h.
           }))
       | in_default w ↦
           let same : tally ≡ after = cc in
-          subst (λ (fs : List Fact). IsAdded tally after k.facts fs) (no-fact last w.in_default.not-Some)
+          subst (λ (fs : List (Fact ℕ)). IsAdded tally after k.facts fs) (no-fact last w.in_default.not-Some)
           (subst (λ (t : Tallied). IsAdded tally t k.facts []) same (none-added tally k.facts k.stands))
     ] in
     rolled-up g i categories fed feed tally c.self.invariant k (facts_if last) after

@@ -4,8 +4,8 @@ use Rattle.std.specs.Int.{int_min, int_max}
 use mir.Val.{SFits}
 use mir.Syntax.{w128}
 use Rattle.std.proofs.lemmas.Int.{ints, to_z-of_z}
-use Rattle.olap_view.proofs.SummaryLemmas.{in_64_bits}
 use Rattle.olap_view.proofs.summaries.Summary.joined.Goals as goal
+use Rattle.olap_base.proofs.GeneralLemmas.{in_64_bits}
 
 pub returns : goal.returns
 returns c =

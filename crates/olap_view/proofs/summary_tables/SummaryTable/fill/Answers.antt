@@ -24,8 +24,8 @@ module _ (v : told_view.View) (read : List told_row.Row) (k : ℕ) (d : told_row
     (o : IsInFileOrder i (view_of v)) (same : read ≡ v.rows) (h : k < length read) where
   -- the k-th row stands at a member of the view's category
   at_member : IsMemberOf i v.category.0 (get_or read k d).member.0
-  at_member = each_row (λ r. IsMemberOf i v.category.0 r.member) read k d h
-      (subst (λ (l : List told_row.Row). All (λ r. IsMemberOf i v.category.0 r.member) (rows_of l)) (sym same)
+  at_member = each_row (λ r. IsMemberOf i v.category.0 r.at) read k d h
+      (subst (λ (l : List told_row.Row). All (λ r. IsMemberOf i v.category.0 r.at) (rows_of l)) (sym same)
       o.members)
 
   -- and none before it does at that one
@@ -33,10 +33,10 @@ module _ (v : told_view.View) (read : List told_row.Row) (k : ℕ) (d : told_row
   none_before =
       let long = length-map read row_of in
       let first = not_before (rows_of read) k (row_of d)
-      (subst (λ (l : List told_row.Row). AllPairs ◌<◌ (map (λ r. r.member) (rows_of l))) (sym same) o.ascend)
+      (subst (λ (l : List told_row.Row). AllPairs ◌<◌ (map (λ r. r.at) (rows_of l))) (sym same) o.ascend)
       (omega arith) in
       subst (λ l. summary_in l (get_or read k d).member.0 ≡ None) (take-map row_of k read)
-      (subst (λ (r : Row). summary_in (take k (rows_of read)) r.member ≡ None)
+      (subst (λ (r : Row ℕ). summary_in (take k (rows_of read)) r.at ≡ None)
       (get_or-map row_of read k d (row_of d) h) first)
 
 pub put-requires : goal.put-requires
@@ -63,7 +63,7 @@ rows-preserved c =
       instance = c.put.ensures.instance ∙ inv.instance;
       categories = c.put.ensures.categories ∙ inv.categories;
       at = λ y m. subst
-          (λ (l : List Row). stands_at c.put.new.self y ≡ option_or (summary_in l y) (stands_at c.args.self.now y))
+          (λ (l : List (Row ℕ)). stands_at c.put.new.self y ≡ option_or (summary_in l y) (stands_at c.args.self.now y))
           (sym (rows_more_is read k nobody c.rows-test.true))
           (filled_more (rows_of (take k read)) (row_of row) y (stands_at c.args.self.now y) (stands_at c.rows.self y)
           (stands_at c.put.new.self y)

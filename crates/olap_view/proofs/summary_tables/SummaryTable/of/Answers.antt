@@ -28,7 +28,7 @@ module _ (views read : List told.View) (k : ℕ) (v : told.View) (same : read �
   here_each = ap view_of here ∙ sym (get_or-map view_of views k v (view_of v) inside)
 
   among : Contains (categories_in (each_view_of views)) v.category.0
-  among = Contains-map (λ (w : View). w.category) (each_view_of views) (view_of v)
+  among = Contains-map (λ (w : View ℕ ℕ). w.target) (each_view_of views) (view_of v)
       (Contains-map view_of views v (k, inside, sym here))
 
 pub views-init : goal.views-init

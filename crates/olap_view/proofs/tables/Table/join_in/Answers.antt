@@ -10,8 +10,8 @@ use Rattle.olap_view.specs.Seen.{summary_of}
 use Rattle.olap_view.specs.Tables.{IsAmong, categories_of, place_in}
 use Rattle.std.specs.Prelude.{Contains}
 use Rattle.olap_view.proofs.TableLemmas.{joined_none, joined_some}
-use Rattle.olap_view.proofs.ViewingLemmas.{none_of}
 use Rattle.olap_view.proofs.tables.Table.join_in.Goals as goal
+use Rattle.olap_base.proofs.GeneralLemmas.{none_from_never}
 
 pub ancestor-requires : goal.ancestor-requires
 ancestor-requires c = subst (λ (w : Ascent). c.args.x.0 < length w.instance) (sym c.requires.column) c.requires.member
@@ -43,7 +43,7 @@ returns-in-Some c =
 
 pub returns-in_default : goal.returns-in_default
 returns-in_default c =
-    let n : c.ancestor.result ≡ None = none_of c.ancestor.result c.in_default.not-Some in
+    let n : c.ancestor.result ≡ None = none_from_never c.ancestor.result c.in_default.not-Some in
     let none : IsNone c.ancestor.result = rw n (search rules) in
     joined_none c.args.legal.now c.args.c.0 c.args.x.0 (summary_of c.args.summary) c.args.self.now c.requires.places
     c.requires.among

@@ -9,15 +9,16 @@ use Rattle.olap_base.specs.Views.{Row, row_at}
 use Rattle.olap_view.specs.Seen.{row_of, rows_of}
 use Rattle.olap_view.specs.Tables.{summary_at}
 use Rattle.olap_view.specs.declared.views.Row as told
-use Rattle.olap_view.proofs.ViewingLemmas.{fails, list_step, none_of, passes}
+use Rattle.olap_view.proofs.ViewingLemmas.{fails, list_step, passes}
 use Rattle.olap_view.proofs.tables.Table.view.Goals as goal
 use Rattle.olap_view.proofs.tables.Table.view.Goals.{then-category-c+in-Some+in_ok-push, then-category-c+in_default, else-category-c}
+use Rattle.olap_base.proofs.GeneralLemmas.{none_from_never}
 
 pub rows-preserved : goal.rows-preserved
 rows-preserved c =
     let i = c.args.instance.now in
     let t = c.args.self.now in
-    let h : ℕ → Option Row = λ y. row_at y (summary_at t y) in
+    let h : ℕ → Option (Row ℕ) = λ y. row_at y (summary_at t y) in
     let p = λ (y : ℕ). category_of i y == c.args.c.0 in
     let y = c.rows.y in
     let old = rows_of c.rows.rows.items in
@@ -44,7 +45,7 @@ rows-preserved c =
         so_far = ap (λ v. rows_of v.items) w.rows-is
             ∙ list_step h p y true None old c.rows.invariant.so_far
             (passes c.category.result.0 (category_of i y) c.args.c.0 c.category.ensures w.if-category-c.true)
-            (sym (ap (option_map row_of) (none_of w.row.result w.in_default.not-Some)) ∙ w.row.ensures.row
+            (sym (ap (option_map row_of) (none_from_never w.row.result w.in_default.not-Some)) ∙ w.row.ensures.row
             ∙ ap (row_at y) w.at.ensures);
         members = subst (λ (l : List told.Row). All (λ r. r.member.0 < length i) l)
             (sym (ap (λ v. v.items) w.rows-is)) members;

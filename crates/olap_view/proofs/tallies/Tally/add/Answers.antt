@@ -36,7 +36,7 @@ invariant_of-self c =
             instance = w.join.ensures.instance;
             categories = w.join.ensures.categories;
             at = λ y m. w.join.ensures.at y m
-                ∙ ap (λ s. stands_at a.table y ⊕ when (reaches a.table.instance f.member y) s) alone;
+                ∙ ap (λ s. stands_at a.table y ⊕ when (reaches a.table.instance f.at y) s) alone;
           }) few fits c.self.invariant)
     ]
 
@@ -65,6 +65,6 @@ returns-clause-stands c = λ facts before.
             instance = w.join.ensures.instance;
             categories = w.join.ensures.categories;
             at = λ y m. w.join.ensures.at y m
-                ∙ ap (λ s. stands_at a.table y ⊕ when (reaches a.table.instance f.member y) s) alone;
+                ∙ ap (λ s. stands_at a.table y ⊕ when (reaches a.table.instance f.at y) s) alone;
           })) stood)
     ]

@@ -1,5 +1,5 @@
 -- One fact more.
-use Rattle.std.proofs.Common.{◌∷◌, ◌++◌, ◌∙◌, [], List, append_assoc, get_or, map, take, ap, sym, subst, pos, arith}
+use Rattle.std.proofs.Common.{ℕ, ◌∷◌, ◌++◌, ◌∙◌, [], List, append_assoc, get_or, map, take, ap, sym, subst, pos, arith}
 use Rattle.std.proofs.lemmas.List.{map-append, take_more}
 use Rattle.olap_base.specs.Views.{Fact}
 use Rattle.olap_facts.specs.Seen.{fact_of}
@@ -25,7 +25,7 @@ facts-preserved c =
       added = omega (arith, c.add.ensures.added, inv.added);
       stands = λ before s.
           let whole = append_assoc before (map fact_of (take k xs)) (f ∷ [])
-          ∙ ap (λ (t : List Fact). before ++ t) (sym more) in
-          subst (λ (fs : List Fact). StandsFor c.add.new.self fs) whole
+          ∙ ap (λ (t : List (Fact ℕ)). before ++ t) (sym more) in
+          subst (λ (fs : List (Fact ℕ)). StandsFor c.add.new.self fs) whole
           (c.add.ensures.stands (before ++ map fact_of (take k xs)) (inv.stands before s));
     }

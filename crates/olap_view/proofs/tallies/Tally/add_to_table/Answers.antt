@@ -23,7 +23,7 @@ invariant_of-self c =
       instance = c.join.ensures.instance;
       categories = c.join.ensures.categories;
       at = λ y m. c.join.ensures.at y m
-          ∙ ap (λ s. stands_at a.table y ⊕ when (reaches a.table.instance f.member y) s)
+          ∙ ap (λ s. stands_at a.table y ⊕ when (reaches a.table.instance f.at y) s)
           (c.of_value.ensures ∙ ap of_value (to_z-of_z w64 c.args.fact.now.value fits));
     }) few fits c.self.invariant
 
@@ -37,6 +37,6 @@ returns-clause-stands c = λ facts s.
       instance = c.join.ensures.instance;
       categories = c.join.ensures.categories;
       at = λ y m. c.join.ensures.at y m
-          ∙ ap (λ s. stands_at a.table y ⊕ when (reaches a.table.instance f.member y) s)
+          ∙ ap (λ s. stands_at a.table y ⊕ when (reaches a.table.instance f.at y) s)
           (c.of_value.ensures ∙ ap of_value (to_z-of_z w64 c.args.fact.now.value fits));
     })) (subst (λ (t : Tallied). StandsFor t facts) (sym c.self.view_is) s)
