@@ -14,3 +14,4 @@ mod TextLemmas
 mod ListedLemmas
 mod JoiningLemmas
 mod JoinedTableLemmas
+pub mod NamedLemmas

@@ -1,8 +1,9 @@
 -- Stores after facts came or were withdrawn.
---     appended, retracted   what a fact's value makes of a row's summary, or its fault
+--     append, retract       what a fact's value makes of a row's summary, or its fault
 --     view_after            what a fact makes of a view
 --     store_after           what facts make of stored views, one after another, or the first fault
-use Rattle.std.specs.Prelude.{◌==◌, ◌||◌, ◌+◌, ◌-◌, ℕ, ℤ, ◌+ℤ◌, ◌-ℤ◌, int_lt, nat_le, not, List, [], ◌∷◌, filter_map, find, Option, None, Some, Result, Ok, Err, if◌then◌else◌}
+--     appended, retracted   a step as it is done
+use Rattle.std.specs.Prelude.{codes, ◌==◌, ◌||◌, ◌+◌, ◌-◌, ℕ, ℤ, ◌+ℤ◌, ◌-ℤ◌, int_lt, nat_le, not, List, [], ◌∷◌, filter_map, find, Option, None, Some, Result, Ok, Err, if◌then◌else◌}
 use Rattle.std.specs.Ordering.{int_eq}
 use Rattle.std.specs.Result.{result_map_both}
 use Rattle.olap_base.specs.Instance.{Instance}
@@ -19,30 +20,30 @@ use Rattle.olap_delta.specs.declared.kinds.DeltaKind.TheVariants as kind
 
 -- ---- a row
 
--- what a value makes of the summary at a member, if there is one
-abbrev pub Step : Type 0
-Step = Option Summary → ℤ → Result Summary DeltaKind
+-- what a value makes of the summary at a member, if there is one, or why it can't be taken
+abbrev pub StepOr : Type 0 → Type 0
+StepOr K = Option Summary → ℤ → Result Summary K
 
--- a value that came: it is joined to those that are there
-abbrev pub appended : Step
-appended None v = Ok (of_value v)
-appended (Some s) v =
-    if s.count == most_count then Err kind.Full
-    else if not (is_sum (s.sum +ℤ v)) then Err kind.Bound
+-- a value that comes: it is joined to those that are there
+abbrev pub append : StepOr (List ℕ)
+append None v = Ok (of_value v)
+append (Some s) v =
+    if s.count == most_count then Err (codes "Full")
+    else if not (is_sum (s.sum +ℤ v)) then Err (codes "Bound")
     else Ok (joined s (of_value v))
 
 -- without one value, which is neither the least nor the greatest
 abbrev pub without : Summary → ℤ → Summary
 without s v = record s { count = s.count - 1; sum = s.sum -ℤ v }
 
--- a value that was withdrawn: the least and the greatest of the others must be known, so they stay as they are
-abbrev pub retracted : Step
-retracted None v = Err kind.NoRow
-retracted (Some s) v =
-    if int_lt v s.least || int_lt s.greatest v then Err kind.Outside
-    else if int_eq v s.least || int_eq v s.greatest then Err kind.Extreme
-    else if nat_le s.count 2 then Err kind.Short
-    else if not (is_sum (s.sum -ℤ v)) then Err kind.Bound
+-- a value that is withdrawn: the least and the greatest of the others must be known, so they stay as they are
+abbrev pub retract : StepOr (List ℕ)
+retract None v = Err (codes "NoRow")
+retract (Some s) v =
+    if int_lt v s.least || int_lt s.greatest v then Err (codes "Outside")
+    else if int_eq v s.least || int_eq v s.greatest then Err (codes "Extreme")
+    else if nat_le s.count 2 then Err (codes "Short")
+    else if not (is_sum (s.sum -ℤ v)) then Err (codes "Bound")
     else Ok (without s v)
 
 -- ---- a view
@@ -54,7 +55,7 @@ view_with i v y s = record v {
 }
 
 -- the view after the step at the member of its category that the fact's member reaches, of which there is one at most
-abbrev pub view_after : Step → Instance → View ℕ ℕ → Fact ℕ → Result (View ℕ ℕ) DeltaKind
+abbrev pub view_after : {K : Type 0} → StepOr K → Instance → View ℕ ℕ → Fact ℕ → Result (View ℕ ℕ) K
 view_after step i v f = elim (find (λ y. reaches i f.at y) (members_of i v.target)) [
   | None ↦ Ok v
   | Some y ↦ result_map_both (λ s. view_with i v y s) (λ k. k) (step (summary_in v.rows y) f.value)
@@ -63,8 +64,8 @@ view_after step i v f = elim (find (λ y. reaches i f.at y) (members_of i v.targ
 -- ---- a store
 
 -- the views after the facts, in order, or the first fault, at its fact's record; the first fact's record is this one
-abbrev pub store_after : Step → Instance → ℕ → List (View ℕ ℕ) → List (Fact ℕ)
-    → Result (List (View ℕ ℕ)) (Fault DeltaKind)
+abbrev pub store_after : {K : Type 0} → StepOr K → Instance → ℕ → List (View ℕ ℕ) → List (Fact ℕ)
+    → Result (List (View ℕ ℕ)) (Fault K)
 store_after step i at views [] = Ok views
 store_after step i at views (f ∷ facts) = elim (all_read (λ before v. view_after step i v f) [] views) [
   | Ok changed ↦ store_after step i (at + 1) changed facts
@@ -72,6 +73,28 @@ store_after step i at views (f ∷ facts) = elim (all_read (λ before v. view_af
 ]
 
 -- ---- as it is done
+
+-- a step with the kind of a fault in place of its name
+abbrev pub Step : Type 0
+Step = StepOr DeltaKind
+
+-- a value that came
+abbrev pub appended : Step
+appended None v = Ok (of_value v)
+appended (Some s) v =
+    if s.count == most_count then Err kind.Full
+    else if not (is_sum (s.sum +ℤ v)) then Err kind.Bound
+    else Ok (joined s (of_value v))
+
+-- a value that was withdrawn
+abbrev pub retracted : Step
+retracted None v = Err kind.NoRow
+retracted (Some s) v =
+    if int_lt v s.least || int_lt s.greatest v then Err kind.Outside
+    else if int_eq v s.least || int_eq v s.greatest then Err kind.Extreme
+    else if nat_le s.count 2 then Err kind.Short
+    else if not (is_sum (s.sum -ℤ v)) then Err kind.Bound
+    else Ok (without s v)
 
 -- each view after the fact, in order, or the first fault, with its view's place
 abbrev pub views_after : Step → Instance → List (View ℕ ℕ) → Fact ℕ → Result (List (View ℕ ℕ)) (ℕ × DeltaKind)

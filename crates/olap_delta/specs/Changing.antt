@@ -1,5 +1,6 @@
 -- A summary table while it is changed.
 --     step_of       what a change makes of a row
+--     step_named    the same by the names of faults
 --     IsStorable    a summary that a row may store
 --     AreStorable   what stands in a table may be stored
 --     Delta         what stored views are while they are changed
@@ -12,7 +13,7 @@ use Rattle.olap_base.specs.Views.{View}
 use Rattle.olap_view.specs.StoreReading.{IsStoredAt}
 use Rattle.olap_view.specs.SummaryTables.{Summarized, stands_at, views_at}
 use Rattle.olap_view.specs.Tables.{IsAmong}
-use Rattle.olap_delta.specs.Changes.{Step, appended, retracted}
+use Rattle.olap_delta.specs.Changes.{Step, StepOr, append, appended, retract, retracted}
 use Rattle.olap_delta.specs.declared.changes.Change.{Change}
 use Rattle.olap_delta.specs.declared.changes.Change.TheVariants as by
 use Rattle.olap_delta.specs.declared.kinds.DeltaKind.{DeltaKind}
@@ -21,6 +22,11 @@ use Rattle.olap_delta.specs.declared.kinds.DeltaKind.{DeltaKind}
 abbrev pub step_of : Change → Step
 step_of by.Append = appended
 step_of by.Retract = retracted
+
+-- the same by the names of faults
+abbrev pub step_named : Change → StepOr (List ℕ)
+step_named by.Append = append
+step_named by.Retract = retract
 
 -- a summary that a row of any member may store
 abbrev pub IsStorable : Summary → Type 0

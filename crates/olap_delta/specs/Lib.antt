@@ -3,9 +3,10 @@
 -- What a reader of the claims believes.
 pub mod Changes
 pub mod Laws
+-- The inside: the program's kinds by their names, and a summary table while it is changed, fact by fact or by facts that
+-- are joined by member.
 pub mod Kinds
 pub mod Reading
--- The inside: a summary table while it is changed, fact by fact or by facts that are joined by member.
 pub mod FactByFact
 pub mod Changing
 pub mod Lots

@@ -19,6 +19,6 @@ mod texts;
 pub use changes::Change;
 pub use deltas::Delta;
 pub use kinds::{ChangeKind, DeltaKind};
-pub use laws::{append_gives_direct_views, retract_gives_direct_views};
+pub use laws::{append_gives_direct_views, changes_are_named, retract_gives_direct_views};
 pub use storing::{append, retract};
 pub use texts::{Changer, change_by_text};

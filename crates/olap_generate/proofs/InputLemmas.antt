@@ -1,10 +1,12 @@
 -- The texts of the made input have no fault and stand for the made schema, members and facts.
 use Rattle.std.proofs.Common.{◌≤◌, ℕ}
 use Rattle.olap_base.specs.Limits.{most_generated}
+use Rattle.olap_instance.proofs.MeaningLemmas.{meant-instance}
 use Rattle.olap_generate.specs.Inputs.{IsMade}
+use Rattle.olap_generate.specs.Members.{member_rows}
 use Rattle.olap_generate.proofs.FactRows.{fact_rows_stand}
 use Rattle.olap_generate.proofs.Legal.{made_is_legal}
-use Rattle.olap_generate.proofs.Location.{location_schema}
+use Rattle.olap_generate.proofs.Location.{location_graph, location_schema}
 use Rattle.olap_generate.proofs.LocationGraph.{location_is_hierarchy}
 use Rattle.olap_generate.proofs.LocationText.{location_is_read}
 use Rattle.olap_generate.proofs.Made.{made, made_facts}
@@ -15,7 +17,8 @@ pub input_is_made : (seed size : ℕ) → size ≤ most_generated
     → IsMade seed size location_schema (made seed size) (made_facts seed size)
 input_is_made seed size few = record {
   schema_text = location_is_read;
-  member_text = rows_stand seed size few location_is_hierarchy;
+  member_text = meant-instance location_graph (member_rows seed size) (made seed size)
+      (rows_stand seed size few location_is_hierarchy);
   legal = made_is_legal seed size few;
   fact_text = fact_rows_stand seed size few;
 }

@@ -26,8 +26,12 @@ use Rattle.olap_facts.specs.FactText.{facts_read_within}
 use Rattle.olap_facts.specs.Kinds.{name_of_kind}
 use Rattle.olap_facts.specs.declared.kinds.FactKind.{FactKind}
 use Rattle.olap_facts.proofs.MeaningLemmas.{facts-named, meant-facts}
+use Rattle.olap_instance.specs.InstanceMeaning.{instance_meant}
 use Rattle.olap_instance.specs.InstanceText.{instance_read}
+use Rattle.olap_instance.specs.Kinds.{name_of_kind as instance_kind}
 use Rattle.olap_instance.specs.Made.{IsMadeFor}
+use Rattle.olap_instance.specs.declared.refusals.InstanceKind.{InstanceKind}
+use Rattle.olap_instance.proofs.MeaningLemmas.{instance-named, meant-instance}
 use Rattle.olap_records.specs.Records.{records_of}
 use Rattle.olap_records.specs.Tables.{named}
 use Rattle.olap_records.specs.Texts.{text_of_rows}
@@ -64,30 +68,31 @@ schema_is s e = only_one (schema_read location_text) s location_schema e locatio
 module _ (seed size : ℕ) (few : size ≤ most_generated) (s : Schema) (read : schema_read location_text ≡ Ok s) where
   -- ---- the members
 
-  members_stand : instance_read s.graph (member_rows seed size) ≡ Ok (made seed size)
-  members_stand = subst (λ (t : Schema). instance_read t.graph (member_rows seed size) ≡ Ok (made seed size))
+  members_stand : instance_meant s.graph (member_rows seed size) ≡ Ok (made seed size)
+  members_stand = subst (λ (t : Schema). instance_meant t.graph (member_rows seed size) ≡ Ok (made seed size))
       (sym (schema_is s read)) (input_is_made seed size few).member_text
 
-  members_are : (i : Instance) → instance_read s.graph (member_rows seed size) ≡ Ok i → i ≡ made seed size
-  members_are i e = only_one (instance_read s.graph (member_rows seed size)) i (made seed size) e members_stand
+  members_are : (i : Instance) → instance_meant s.graph (member_rows seed size) ≡ Ok i → i ≡ made seed size
+  members_are i e = only_one (instance_meant s.graph (member_rows seed size)) i (made seed size) e members_stand
 
   -- what a reader of the text of the members reads
   read_in : (g : Graph) (text : List ℕ) → g ≡ s.graph → text ≡ text_of_rows (member_rows seed size)
-      → instance_read g (records_of text) ≡ instance_read s.graph (member_rows seed size)
+      → instance_meant g (records_of text) ≡ instance_meant s.graph (member_rows seed size)
   read_in g text same e =
-      ap (λ (h : Graph). instance_read h (records_of text)) same
-      ∙ ap (instance_read s.graph) (ap records_of e ∙ rows_read_back seed size)
+      ap (λ (h : Graph). instance_meant h (records_of text)) same
+      ∙ ap (instance_meant s.graph) (ap records_of e ∙ rows_read_back seed size)
 
   pub members_faultless : (g : Graph) (text : List ℕ) → g ≡ s.graph → text ≡ text_of_rows (member_rows seed size)
-      → (fault : _) → instance_read g (records_of text) ≡ Err fault → ⊥
+      → (fault : Fault InstanceKind) → instance_read g (records_of text) ≡ Err fault → ⊥
   members_faultless g text same e fault is =
-      no_fault (instance_read s.graph (member_rows seed size)) (made seed size) fault members_stand
-      (sym (read_in g text same e) ∙ is)
+      no_fault (instance_meant s.graph (member_rows seed size)) (made seed size)
+      (record { at = fault.at; kind = instance_kind fault.kind }) members_stand
+      (sym (read_in g text same e) ∙ instance-named g (records_of text) ∙ ap (named instance_kind) is)
 
   module _ (i : Instance) (g : Graph) (text : List ℕ) (same : g ≡ s.graph)
       (e : text ≡ text_of_rows (member_rows seed size)) (is : instance_read g (records_of text) ≡ Ok i) where
-    stands : instance_read s.graph (member_rows seed size) ≡ Ok i
-    stands = sym (read_in g text same e) ∙ is
+    stands : instance_meant s.graph (member_rows seed size) ≡ Ok i
+    stands = sym (read_in g text same e) ∙ meant-instance g (records_of text) i is
 
     legal : IsLegal s i
     legal =
@@ -114,7 +119,7 @@ small_fits (pos n) l = record { sfits = omega arith }
 small_fits (negsuc n) l = record { sfits = omega arith }
 
 module _ (seed size : ℕ) (few : size ≤ most_generated) (s : Schema) (read : schema_read location_text ≡ Ok s)
-    (i : Instance) (told : instance_read s.graph (member_rows seed size) ≡ Ok i) where
+    (i : Instance) (told : instance_meant s.graph (member_rows seed size) ≡ Ok i) where
   -- what holds of what was made holds of what was read
   of_read : (P : Graph → Instance → Type 0) → P location_graph (made seed size) → P s.graph i
   of_read P p =

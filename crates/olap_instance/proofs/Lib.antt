@@ -25,3 +25,4 @@ pub mod CategoryNames
 mod PrintingLemmas
 pub mod Passing
 pub mod ReadBack
+pub mod MeaningLemmas

@@ -7,6 +7,7 @@ pub mod RosterInside
 pub mod ListsInside
 pub mod InstanceInside
 pub mod InstanceText
+pub mod InstanceMeaning
 pub mod Refusals
 pub mod Passes
 pub mod Laws

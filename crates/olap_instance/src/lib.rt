@@ -21,7 +21,7 @@ mod texts;
 
 pub use building::InstanceBuilder;
 pub use instances::Instance;
-pub use laws::read_is_instance;
+pub use laws::{instance_is_meant, read_is_instance};
 pub use printing::print_instance;
 pub use reading::read_instance;
 pub use refusals::{DuplicateParent, InstanceKind, MemberFault};

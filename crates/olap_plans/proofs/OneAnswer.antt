@@ -9,7 +9,7 @@ use Rattle.olap_facts.specs.FactMeaning.{facts_meant}
 use Rattle.olap_generate.specs.Generated.{ShowsGenerated, generated_text, stored_views}
 use Rattle.olap_generate.specs.Location.{location_text, region}
 use Rattle.olap_generate.specs.Members.{fact_rows, member_rows}
-use Rattle.olap_instance.specs.InstanceText.{instance_read}
+use Rattle.olap_instance.specs.InstanceMeaning.{instance_meant}
 use Rattle.olap_nav.specs.Plans.{IsPlan, IsNoDearer, sources_in}
 use Rattle.olap_nav.specs.PlanText.{plan_text}
 use Rattle.olap_nav.proofs.ChosenLemmas.{chosen_direct}
@@ -59,8 +59,8 @@ one_made : (seed size : ℕ) (xs ys : List ℕ) → ShowsGenerated seed size xs 
 one_made seed size xs ys a b =
     let p : a.schema ≡ b.schema = same_ok a.schema b.schema (schema_read location_text) a.made.schema_text
     b.made.schema_text in
-    let m : a.members ≡ b.members = same_ok a.members b.members (instance_read b.schema.graph (member_rows seed size))
-    (subst (λ (s : Schema). instance_read s.graph (member_rows seed size) ≡ Ok a.members) p a.made.member_text)
+    let m : a.members ≡ b.members = same_ok a.members b.members (instance_meant b.schema.graph (member_rows seed size))
+    (subst (λ (s : Schema). instance_meant s.graph (member_rows seed size) ≡ Ok a.members) p a.made.member_text)
     b.made.member_text in
     let t : facts_meant most_facts b.schema.graph b.members (fact_rows seed size) ≡ Ok a.facts =
     subst (λ (i : Instance). facts_meant most_facts b.schema.graph i (fact_rows seed size) ≡ Ok a.facts) m

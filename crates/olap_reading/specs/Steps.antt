@@ -9,12 +9,9 @@ use Rattle.olap_base.specs.Views.{Fact, View}
 use Rattle.olap_ast.specs.Schema.{Schema}
 use Rattle.olap_ast.specs.Violation.{Violation}
 use Rattle.olap_records.specs.Records.{records_of}
-use Rattle.olap_records.specs.Tables.{named}
-use Rattle.olap_instance.specs.InstanceText.{instance_read}
-use Rattle.olap_instance.specs.Kinds.{name_of_kind as instance_kind}
+use Rattle.olap_instance.specs.InstanceMeaning.{instance_meant}
 use Rattle.olap_facts.specs.FactMeaning.{facts_meant}
-use Rattle.olap_view.specs.StoreText.{store_read}
-use Rattle.olap_view.specs.Kinds.{name_of_kind as store_kind}
+use Rattle.olap_view.specs.StoreMeaning.{store_meant}
 use Rattle.olap_check.specs.FirstViolation.{first_violation}
 use Rattle.olap_order.specs.Order.{Order, Done, Read, and_then, refused}
 use Rattle.olap_order.specs.Steps.{meaning_or_fault, text_file}
@@ -29,8 +26,7 @@ legal_or_violation label s i (Some v) = refused (label ++ (codes " " ++ violatio
 abbrev pub legal_file : Schema → List ℕ → List ℕ → Order Instance
 legal_file s label file =
     and_then (text_file label most_instance_bytes file) (λ text.
-    and_then (meaning_or_fault label (codes "record")
-    (named instance_kind (instance_read s.graph (records_of text)))) (λ i.
+    and_then (meaning_or_fault label (codes "record") (instance_meant s.graph (records_of text))) (λ i.
     legal_or_violation label s i (first_violation s i)))
 
 -- the facts at an instance's members in a file of any length
@@ -41,4 +37,4 @@ facts_file s i label file = Read file (λ text.
 -- the stored views of an instance in a file
 abbrev pub store_file : Schema → Instance → List ℕ → List ℕ → Order (List (View ℕ ℕ))
 store_file s i label file = and_then (text_file label most_store_bytes file) (λ text.
-    meaning_or_fault label (codes "record") (named store_kind (store_read s.graph i (records_of text))))
+    meaning_or_fault label (codes "record") (store_meant s.graph i (records_of text)))

@@ -4,7 +4,7 @@
 --                           the values
 --     check-named, given-named
 --                           one check of a record by the name of its fault
---     all_read-named, at_record-named, table_meant-named
+--     all_read-passed, all_read-named, at_record-named, table_meant-named
 --                           the same by the names of faults
 --     all_read-fault        the fault of all that is read is the first one
 use Rattle.std.proofs.Common.{◌≡◌, ◌++◌, ◌∷◌, ◌∙◌, ◌↔◌, ℕ, zero, suc, Bool, true, false, cond, List, [], codes, drop, length, map, take, slice_get, Option, Some, None, Result, Ok, Err, refl, sym, ap, subst, arith, append_assoc}
@@ -88,6 +88,36 @@ pub all_read-named : {R T K : Type 0} (meant : List R → R → Result T (List �
 all_read-named meant name fault value is rows =
     all_read-or_value meant (λ before r. option_map name (fault before r)) value is [] rows
     ∙ ap (λ o. or_value o (map value rows)) (first_fault-named name fault [] rows)
+
+-- so do all where a record does after records that have passed
+pub all_read-passed : {R T K : Type 0} (meant : List R → R → Result T (List ℕ)) (name : K → List ℕ)
+    (fault : List R → R → Option K) (value : R → T) (HavePassed : List R → Type 0)
+    → ((before : List R) (r : R) → HavePassed before → fault before r ≡ None → HavePassed (before ++ r ∷ []))
+    → ((before : List R) (r : R) → HavePassed before
+    → meant before r ≡ or_value (option_map name (fault before r)) (value r))
+    → (before rows : List R) → HavePassed before → all_read meant before rows
+    ≡ or_value (option_map (λ q. (q.0, name q.1)) (first_fault fault before rows)) (map value rows)
+all_read-passed meant name fault value HavePassed more is before [] h = refl
+all_read-passed {R} {T} {K} meant name fault value HavePassed more is before (r ∷ rs) h =
+    ap (λ o. and_others (length before) o (all_read meant (before ++ r ∷ []) rs)) (is before r h)
+    ∙ go (fault before r) refl (all_read-passed meant name fault value HavePassed more is (before ++ r ∷ []) rs)
+  where
+    next : Option (ℕ × K)
+    next = first_fault fault (before ++ r ∷ []) rs
+
+    step : (p : Option (ℕ × K))
+        → and_others (length before) (Ok (value r)) (or_value (option_map (λ q. (q.0, name q.1)) p) (map value rs))
+        ≡ or_value (option_map (λ q. (q.0, name q.1)) p) (value r ∷ map value rs)
+    step None = refl
+    step (Some q) = refl
+
+    go : (o : Option K) → fault before r ≡ o
+        → (HavePassed (before ++ r ∷ []) → all_read meant (before ++ r ∷ []) rs
+        ≡ or_value (option_map (λ q. (q.0, name q.1)) next) (map value rs))
+        → and_others (length before) (or_value (option_map name o) (value r)) (all_read meant (before ++ r ∷ []) rs)
+        ≡ or_value (option_map (λ q. (q.0, name q.1)) (or_after (length before) o next)) (value r ∷ map value rs)
+    go (Some k) e later = refl
+    go None e later = ap (and_others (length before) (Ok (value r))) (later (more before r h e)) ∙ step next
 
 -- a fault at its record
 pub at_record-named : {T K : Type 0} (name : K → List ℕ) (o : Option (ℕ × K)) (x : T)

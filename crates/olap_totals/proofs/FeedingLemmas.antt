@@ -32,7 +32,8 @@ use Rattle.olap_reading.proofs.ReadingLemmas.{content_read, fault_read}
 use Rattle.olap_reading.proofs.RollingLemmas.{content}
 use Rattle.olap_view.specs.Seen.{views_of}
 use Rattle.olap_view.specs.declared.views.Store.{Store}
-use Rattle.olap_delta.specs.Changes.{Step, store_after}
+use Rattle.olap_delta.specs.Changes.{store_after}
+use Rattle.olap_delta.specs.Changing.{step_named, step_of}
 use Rattle.olap_delta.specs.Kinds.{name_of_change_kind, name_of_kind}
 use Rattle.olap_delta.specs.Reading.{views_changed}
 use Rattle.olap_delta.specs.Taking.{HasTakenText, TextChange}
@@ -40,6 +41,7 @@ use Rattle.olap_delta.specs.declared.changes.Change.{Change}
 use Rattle.olap_delta.specs.declared.kinds.ChangeKind.{ChangeKind}
 use Rattle.olap_delta.specs.declared.kinds.ChangeKind.TheVariants as change
 use Rattle.olap_delta.specs.declared.kinds.DeltaKind.{DeltaKind}
+use Rattle.olap_delta.proofs.NamedLemmas.{change-named}
 use Rattle.olap_totals.specs.Commands.{changed_file}
 
 -- these bytes were taken off the front of what was left, the last this many at once, and the changer has taken them
@@ -51,13 +53,13 @@ pub record IsSoFar (old new : Option (List ℕ)) (count : ℕ) (by : Change) (g 
   pub long : count ≡ 65536 → 3 ≤ length text
   pub taken : HasTakenText by g i views most_facts (unmarked text) c
 
-module _ {D : Type 0} {L : Library D} {old new : D} (step : Step) (s : Schema) (i : Instance) (views : List (View ℕ ℕ))
+module _ {D : Type 0} {L : Library D} {old new : D} (by : Change) (s : Schema) (i : Instance) (views : List (View ℕ ℕ))
     (file : List ℕ) (rest : Option (List ℕ)) (opens : Opens (L.contents old) file rest)
     (same : L.contents new ≡ L.contents old) (later : IsLater L old new) where
   -- what the views come to after the facts
   abbrev after : List (Fact ℕ) → Order (List (View ℕ ℕ))
   after table =
-      meaning_or_fault (codes "facts") (codes "record") (named name_of_kind (store_after step i 2 views table))
+      meaning_or_fault (codes "facts") (codes "record") (store_after (step_named by) i 2 views table)
 
   -- what the text of the facts comes to
   abbrev next : List ℕ → Order (List (View ℕ ℕ))
@@ -66,7 +68,7 @@ module _ {D : Type 0} {L : Library D} {old new : D} (step : Step) (s : Schema) (
 
   -- it is what the views come to after what was read
   next_is : (text : List ℕ) → next text ≡ meaning_or_fault (codes "facts") (codes "record") (named name_of_change_kind
-      (views_changed step i views (facts_read_within most_facts s.graph i (records_of text))))
+      (views_changed (step_of by) i views (facts_read_within most_facts s.graph i (records_of text))))
   next_is text =
       ap (λ r. and_then (meaning_or_fault (codes "facts") (codes "record") r) after)
       (facts-named most_facts s.graph i (records_of text))
@@ -81,16 +83,18 @@ module _ {D : Type 0} {L : Library D} {old new : D} (step : Step) (s : Schema) (
 
       go : (r : Result (List (Fact ℕ)) (Fault FactKind))
           → and_then (meaning_or_fault (codes "facts") (codes "record") (named fact_kind r)) after
-          ≡ meaning_or_fault (codes "facts") (codes "record") (named name_of_change_kind (views_changed step i views r))
-      go (Ok facts) = to (store_after step i 2 views facts)
+          ≡ meaning_or_fault (codes "facts") (codes "record")
+          (named name_of_change_kind (views_changed (step_of by) i views r))
+      go (Ok facts) = ap (meaning_or_fault (codes "facts") (codes "record")) (change-named by i 2 views facts)
+          ∙ to (store_after (step_of by) i 2 views facts)
       go (Err f) = refl
 
   -- the first fault of the facts in the file, or the first fact that can't be taken
   pub change_out : (fault : Fault ChangeKind) → IsOfRest rest (λ text.
-      views_changed step i views (facts_read_within most_facts s.graph i (records_of text)) ≡ Err fault)
+      views_changed (step_of by) i views (facts_read_within most_facts s.graph i (records_of text)) ≡ Err fault)
       → (stop : Stop)
       → IsRefusal (part_text (codes "facts") (codes "record") fault.at (name_of_change_kind fault.kind)) stop
-      → FileStep L old new (changed_file step s i views file) views_of (Err stop)
+      → FileStep L old new (changed_file (step_named by) s i views file) views_of (Err stop)
   change_out fault h stop is =
       fault_read file next h.text
       (part_text (codes "facts") (codes "record") fault.at (name_of_change_kind fault.kind))
@@ -99,8 +103,9 @@ module _ {D : Type 0} {L : Library D} {old new : D} (step : Step) (s : Schema) (
 
   -- the stored views after the facts in the file
   pub change_in : (store : Store) → IsOfRest rest (λ text.
-      views_changed step i views (facts_read_within most_facts s.graph i (records_of text)) ≡ Ok (views_of store))
-      → FileStep L old new (changed_file step s i views file) views_of (Ok store)
+      views_changed (step_of by) i views (facts_read_within most_facts s.graph i (records_of text))
+      ≡ Ok (views_of store))
+      → FileStep L old new (changed_file (step_named by) s i views file) views_of (Ok store)
   change_in store h =
       let out = content_read file next h.text (views_of store)
       (next_is h.text ∙ ap (λ r. meaning_or_fault (codes "facts") (codes "record") (named name_of_change_kind r)) h.so)

@@ -11,9 +11,7 @@ use Rattle.olap_base.specs.Instance.{Instance}
 use Rattle.olap_base.specs.Views.{View, direct_view, direct_views, members}
 use Rattle.olap_ast.specs.Schema.{Schema}
 use Rattle.olap_breaks.specs.Breaks.{breaks, breaks_text}
-use Rattle.olap_records.specs.Tables.{named}
-use Rattle.olap_delta.specs.Changes.{Step, appended, retracted, store_after}
-use Rattle.olap_delta.specs.Kinds.{name_of_kind}
+use Rattle.olap_delta.specs.Changes.{StepOr, append, retract, store_after}
 use Rattle.olap_view.specs.StoreText.{store_text}
 use Rattle.olap_view.specs.ViewText.{view_text}
 use Rattle.olap_order.specs.Arguments.{at_least, at_word, between, exactly, word}
@@ -56,12 +54,13 @@ store_order words =
     store_told s.graph i (direct_views (members i) table cs)))))
 
 -- the stored views after the facts in a file, in order, of which the first is record 2
-abbrev pub changed_file : Step → Schema → Instance → List (View ℕ ℕ) → (facts : List ℕ) → Order (List (View ℕ ℕ))
+abbrev pub changed_file : StepOr (List ℕ) → Schema → Instance → List (View ℕ ℕ) → (facts : List ℕ)
+    → Order (List (View ℕ ℕ))
 changed_file step s i views facts = and_then (facts_file s i (codes "facts") facts) (λ table.
-    meaning_or_fault (codes "facts") (codes "record") (named name_of_kind (store_after step i 2 views table)))
+    meaning_or_fault (codes "facts") (codes "record") (store_after step i 2 views table))
 
 -- the schema, the instance and its laws, the stored views, the facts, and then each fact at the views
-abbrev pub change_order : Step → List (List ℕ) → Order Question
+abbrev pub change_order : StepOr (List ℕ) → List (List ℕ) → Order Question
 change_order step words =
     and_then (schema_file (codes "schema") (word 2 words)) (λ s.
     and_then (legal_file s (codes "instance") (word 3 words)) (λ i.
@@ -85,6 +84,6 @@ order_named name words =
     else if bytes_eq name (codes "check") then exactly 2 check_order words
     else if bytes_eq name (codes "store") then between 4 (most_views + 3) store_order words
     else if bytes_eq name (codes "breaks") then at_least 3 breaks_order words
-    else if bytes_eq name (codes "append") then exactly 4 (change_order appended) words
-    else if bytes_eq name (codes "retract") then exactly 4 (change_order retracted) words
+    else if bytes_eq name (codes "append") then exactly 4 (change_order append) words
+    else if bytes_eq name (codes "retract") then exactly 4 (change_order retract) words
     else None

@@ -9,7 +9,7 @@ use Rattle.olap_ast.specs.Schema.{Schema}
 use Rattle.olap_order.specs.Order.{Order, and_then}
 use Rattle.olap_order.specs.Steps.{schema_file}
 use Rattle.olap_order.specs.Words.{texts}
-use Rattle.olap_delta.specs.Changing.{step_of}
+use Rattle.olap_delta.specs.Changing.{step_named}
 use Rattle.olap_totals.specs.Under.{breaks_under, change_under, check_under, rollup_under, store_under}
 use Rattle.olap_totals.specs.Questions.{Question}
 use Rattle.olap_totals.specs.declared.words.Asked.{Asked}
@@ -24,7 +24,7 @@ seen_under s (code.Store instance facts categories) = store_under s instance.now
 seen_under s (code.Breaks instance target sources) =
     breaks_under s instance.now target.now (texts sources.now)
 seen_under s (code.Change change instance store facts) =
-    change_under (step_of change) s instance.now store.now facts.now
+    change_under (step_named change) s instance.now store.now facts.now
 
 -- the order of a command
 abbrev pub seen : Command → Order Question

@@ -8,7 +8,7 @@ use Rattle.std.specs.Fmt.{decimal}
 use Rattle.olap_base.specs.Instance.{Instance}
 use Rattle.olap_base.specs.Views.{View, direct_view, direct_views, members}
 use Rattle.olap_ast.specs.Schema.{Schema}
-use Rattle.olap_delta.specs.Changes.{Step}
+use Rattle.olap_delta.specs.Changes.{StepOr}
 use Rattle.olap_view.specs.ViewText.{view_text}
 use Rattle.olap_order.specs.Order.{Order, Told, and_then}
 use Rattle.olap_order.specs.Outputs.{line}
@@ -64,16 +64,16 @@ breaks_under s instance target sources =
     and_then (categories_from (codes "DuplicateSource") s.graph 5 [] sources) (λ cs. breaks_of s instance c cs))
 
 -- the facts, and the stored views after them
-abbrev pub change_by : Step → Schema → Instance → List (View ℕ ℕ) → (facts : List ℕ) → Order Question
+abbrev pub change_by : StepOr (List ℕ) → Schema → Instance → List (View ℕ ℕ) → (facts : List ℕ) → Order Question
 change_by step s i views facts =
     and_then (changed_file step s i views facts) (λ changed. store_told s.graph i changed)
 
 -- the stored views, and then what is left
-abbrev pub change_of : Step → Schema → Instance → (store facts : List ℕ) → Order Question
+abbrev pub change_of : StepOr (List ℕ) → Schema → Instance → (store facts : List ℕ) → Order Question
 change_of step s i store facts =
     and_then (store_file s i (codes "store") store) (λ views. change_by step s i views facts)
 
 -- the instance and its laws, and then what is left
-abbrev pub change_under : Step → Schema → (instance store facts : List ℕ) → Order Question
+abbrev pub change_under : StepOr (List ℕ) → Schema → (instance store facts : List ℕ) → Order Question
 change_under step s instance store facts =
     and_then (legal_file s (codes "instance") instance) (λ i. change_of step s i store facts)

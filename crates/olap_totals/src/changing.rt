@@ -1,6 +1,6 @@
 // The commands `append` and `retract`: stored views after facts came or were withdrawn.
 ghost use Rattle.std.specs.Prelude.{All, IfOk};
-ghost use Rattle.olap_delta.specs.Changing.{step_of};
+ghost use Rattle.olap_delta.specs.Changing.{step_named};
 ghost use Rattle.olap_instance.specs.Made.{IsMadeFor};
 ghost use Rattle.olap_schema.specs.Schemas.{schema_of};
 ghost use Rattle.olap_view.specs.Seen.{views_of};
@@ -36,7 +36,7 @@ fn changed_in<L: Library>(
     requires made { IsMadeFor (schema_of schema.now).graph legal.now }
     requires sound { IsSoundStore (schema_of schema.now).graph legal.now (views_of store.now) }
     requires order { All (IsInFileOrder legal.now) (views_of store.now) }
-    ensures step { FileStep L.Library lib.old lib.new (changed_file (step_of change) (schema_of schema.now)
+    ensures step { FileStep L.Library lib.old lib.new (changed_file (step_named change) (schema_of schema.now)
         legal.now (views_of store.now) file.now) views_of result }
     ensures sound { IfOk result (λ s.
         IsSoundStore (schema_of schema.now).graph legal.now (views_of s)) }
@@ -71,7 +71,7 @@ fn by_facts<L: Library>(
     requires made { IsMadeFor (schema_of schema.now).graph legal.now }
     requires sound { IsSoundStore (schema_of schema.now).graph legal.now (views_of store.now) }
     requires order { All (IsInFileOrder legal.now) (views_of store.now) }
-    ensures judged { Judged IsAnswer L.Library lib.old lib.new (change_by (step_of change)
+    ensures judged { Judged IsAnswer L.Library lib.old lib.new (change_by (step_named change)
         (schema_of schema.now) legal.now (views_of store.now) facts.now) result }
 {
     let changed = changed_in(alloc, change, schema, legal, store, facts, lib)?;
@@ -89,7 +89,7 @@ fn of_store<L: Library>(
     lib: &mut L,
 ) -> Result<Reply, Stop>
     requires { IsMadeFor (schema_of schema.now).graph legal.now }
-    ensures judged { Judged IsAnswer L.Library lib.old lib.new (change_of (step_of change)
+    ensures judged { Judged IsAnswer L.Library lib.old lib.new (change_of (step_named change)
         (schema_of schema.now) legal.now store.now facts.now) result }
 {
     let store = store_in(alloc, schema, legal, "store", store, lib)?;
@@ -106,7 +106,7 @@ pub(crate) fn change<L: Library>(
     facts: &str,
     lib: &mut L,
 ) -> Result<Reply, Stop>
-    ensures judged { Judged IsAnswer L.Library lib.old lib.new (change_under (step_of change)
+    ensures judged { Judged IsAnswer L.Library lib.old lib.new (change_under (step_named change)
         (schema_of schema.now) instance.now store.now facts.now) result }
 {
     let legal = legal_in(alloc, schema, "instance", instance, lib)?;

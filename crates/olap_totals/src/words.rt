@@ -2,7 +2,7 @@
 ghost use Rattle.std.specs.Prelude.{◌≡◌, option_map};
 ghost use Rattle.olap_order.specs.Behind.{by_four, by_three_or_more, by_two};
 ghost use Rattle.olap_order.specs.Words.{texts};
-ghost use Rattle.olap_delta.specs.Changing.{step_of};
+ghost use Rattle.olap_delta.specs.Changing.{step_named};
 ghost use Rattle.olap_totals.specs.Commands.{order_named};
 ghost use Rattle.olap_totals.specs.Seen.{is_few, seen, store_by, under};
 ghost use Rattle.olap_totals.specs.Under.{breaks_under, change_under, check_under, rollup_under};
@@ -129,7 +129,7 @@ fn breaks(words: &[String]) -> Option<Command<'_>>
 /// The words after `append` or `retract`.
 fn change_command(change: Change, words: &[String]) -> Option<Command<'_>>
     ensures { option_map seen result
-        ≡ by_four (λ a b c d. under a (λ s. change_under (step_of change) s b c d)) (texts words.now) }
+        ≡ by_four (λ a b c d. under a (λ s. change_under (step_named change) s b c d)) (texts words.now) }
 {
     match words {
         [schema, instance, store, facts] => Some(Command {

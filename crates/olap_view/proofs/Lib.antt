@@ -24,3 +24,4 @@ mod StoreLemmas
 pub mod StoreLawLemmas
 mod PrintedStoreLemmas
 pub mod ReadStoreLemmas
+pub mod StoreMeaningLemmas

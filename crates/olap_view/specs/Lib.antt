@@ -6,12 +6,13 @@ pub mod Stores
 pub mod ViewText
 pub mod StoredNumbers
 pub mod StoreText
-pub mod Kinds
+pub mod StoreMeaning
 pub mod StoreLaws
 pub mod SummaryTables
 pub mod Tallies
 pub mod RollingUp
--- The inside: what a table of summaries holds, and the numbers of the machine.
+-- The inside: the names of kinds, what a table of summaries holds, and the numbers of the machine.
+pub mod Kinds
 pub mod NumbersInside
 pub mod StoredRows
 pub mod StoreReading

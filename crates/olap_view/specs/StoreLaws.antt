@@ -3,12 +3,16 @@
 --     PrintedStoresAreRead    printed views are read as they were
 --     DirectViewsAreReadBack  so are direct views
 --     ReadStoresAreSound      views that are read are a sound store
+--     StoreIsMeant            what is read of a text is what it means
 use Rattle.std.specs.Prelude.{◌≡◌, ◌≢◌, ◌≤◌, ◌∷◌, ℕ, List, length, All, AllPairs, FitsSigned, Some, Ok}
 use Rattle.std.specs.Int.{w64}
 use Rattle.olap_base.specs.Graph.{Graph, IsCategory, IsHierarchy}
 use Rattle.olap_base.specs.Instance.{Instance, IsInstance}
 use Rattle.olap_base.specs.Limits.{most_count, most_views}
 use Rattle.olap_base.specs.Views.{Fact, Row, View, direct_views, members}
+use Rattle.olap_records.specs.Tables.{named}
+use Rattle.olap_view.specs.Kinds.{name_of_kind}
+use Rattle.olap_view.specs.StoreMeaning.{store_meant}
 use Rattle.olap_view.specs.StoreText.{records_of_store, store_read, summary_read}
 use Rattle.olap_view.specs.Stores.{Fits, IsInFileOrder, IsSoundStore, IsStore, IsStored}
 use Rattle.olap_view.specs.ViewText.{fields_in}
@@ -38,3 +42,8 @@ DirectViewsAreReadBack = (g : Graph) (i : Instance) (facts : List (Fact ℕ)) (c
 abbrev pub ReadStoresAreSound : Type 0
 ReadStoresAreSound = (g : Graph) (i : Instance) (records : List (List (List ℕ))) (views : List (View ℕ ℕ))
     → store_read g i records ≡ Ok views → IsSoundStore g i views
+
+-- what is read of a text is what it means, with a fault's name in place of its kind
+abbrev pub StoreIsMeant : Type 0
+StoreIsMeant = (g : Graph) (i : Instance) (records : List (List (List ℕ)))
+    → store_meant g i records ≡ named name_of_kind (store_read g i records)

@@ -1,5 +1,5 @@
 // Theorems over the definitions. Each is the clause of a function that does nothing.
-ghost use Rattle.olap_view.specs.StoreLaws.{DirectViewsAreReadBack, PrintedNumbersAreRead, PrintedStoresAreRead, ReadStoresAreSound};
+ghost use Rattle.olap_view.specs.StoreLaws.{DirectViewsAreReadBack, PrintedNumbersAreRead, PrintedStoresAreRead, ReadStoresAreSound, StoreIsMeant};
 
 /// The record that is printed of a row that may be stored spells the row's numbers, by the definition of reading.
 pub fn printed_numbers_are_read()
@@ -22,4 +22,9 @@ pub fn direct_views_are_read_back()
 /// of stored rows at different members: a store may hold them.
 pub fn read_stores_are_sound()
     ensures { ReadStoresAreSound }
+{}
+
+/// What is read of a text is what it means, with a fault's name in place of its kind.
+pub fn store_is_meant()
+    ensures { StoreIsMeant }
 {}

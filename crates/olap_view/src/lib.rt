@@ -28,7 +28,7 @@ pub use columns::{Column, OwnedColumn};
 pub use kinds::StoreKind;
 pub use laws::{
     direct_views_are_read_back, printed_numbers_are_read, printed_stores_are_read,
-    read_stores_are_sound,
+    read_stores_are_sound, store_is_meant,
 };
 pub use printing::{print_view, print_view_behind};
 pub use rolling_up::{Roller, roll_up};

@@ -27,7 +27,7 @@ returns-in-Ok-changed_by_rest-clause-step g c =
     let rest = g.L.Library.rest c.open_file.new.self in
     let so = subst (λ (h : Graph). IsOfRest rest (λ text. IsChangedBy c.args.change h i views (records_of text)
     (Ok ok.changed))) c.graph.ensures ok.ensures.changed in
-    change_in (step_of c.args.change) (schema_of c.args.schema.now) i views c.args.file.now rest c.in-Ok.ensures.opened
+    change_in c.args.change (schema_of c.args.schema.now) i views c.args.file.now rest c.in-Ok.ensures.opened
     (c.changed_by_rest.ensures.kept.contents ∙ c.open_file.ensures.contents)
     (record {
       faults = omega (arith, c.open_file.ensures.cause.later, c.changed_by_rest.ensures.later);
@@ -47,7 +47,7 @@ returns-in-Err-Refused-Kind-clause-step g c =
     let so = subst (λ (h : Graph). IsOfRest rest (λ text.
     views_changed step i views (facts_read_within most_facts h i (records_of text)) ≡ Err e.fault))
     c.graph.ensures why in
-    change_out step (schema_of c.args.schema.now) i views c.args.file.now rest c.in-Ok.ensures.opened
+    change_out c.args.change (schema_of c.args.schema.now) i views c.args.file.now rest c.in-Ok.ensures.opened
     (c.changed_by_rest.ensures.kept.contents ∙ c.open_file.ensures.contents)
     (record {
       faults = omega (arith, c.open_file.ensures.cause.later, c.changed_by_rest.ensures.later);

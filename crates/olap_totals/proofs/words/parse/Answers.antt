@@ -2,7 +2,7 @@
 use Rattle.std.proofs.Common.{ap, sym, ◌∙◌}
 use Rattle.olap_order.specs.Words.{texts}
 use Rattle.olap_order.proofs.BehindLemmas.{four_is, three_or_more_is, two_is}
-use Rattle.olap_delta.specs.Changes.{appended, retracted}
+use Rattle.olap_delta.specs.Changes.{append, retract}
 use Rattle.olap_totals.specs.Commands.{breaks_order, change_order, check_order, order_named, rollup_order}
 use Rattle.olap_totals.proofs.WordLemmas.{store_is}
 use Rattle.olap_totals.proofs.words.parse.Goals as goal
@@ -30,11 +30,11 @@ returns-in-breaks c =
 pub returns-in-append : goal.returns-in-append
 returns-in-append c =
     let words = texts c.args.words.now in
-    c.change_command.ensures ∙ four_is (change_order appended) words
+    c.change_command.ensures ∙ four_is (change_order append) words
     ∙ ap (λ n. order_named n words) (sym c.in-append.is)
 
 pub returns-in-retract : goal.returns-in-retract
 returns-in-retract c =
     let words = texts c.args.words.now in
-    c.change_command-in-retract.ensures ∙ four_is (change_order retracted) words
+    c.change_command-in-retract.ensures ∙ four_is (change_order retract) words
     ∙ ap (λ n. order_named n words) (sym c.in-retract.is)
