@@ -1,9 +1,6 @@
 -- What holds of each atom of the constraints and of a question that are of the graph.
 --     each_equality      of each atom on names of a formula
 --     each_comparison    of each atom on numbers
---     all_each           of each atom on names of the constraints and of the question
---     all_numbers        of each atom on numbers of them
---     has_kinds          the atoms are of the kinds of their categories
 use Rattle.std.proofs.Common.{◌≡◌, ℕ, ℤ, List, [], ◌∷◌, true, false}
 use Rattle.std.specs.Prelude.{All, Contains, flat_map, ◌≤◌, length}
 use Rattle.std.proofs.lemmas.List.Elements.{All-append, All-cons, All-contains, All-nil}

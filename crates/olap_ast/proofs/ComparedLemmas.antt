@@ -1,12 +1,4 @@
 -- The atoms on names and numbers are the atoms on names and the atoms on numbers.
---     atom_of_text, atom_of_number          a constant is one of an atom
---     text_of_atom, number_of_atom          and each atom's is a constant
---     text_constant, constant_text          a text on a category is a constant, and back
---     number_constant, constant_number      so is a number
---     numbers_are                           the numbers are those of the atoms on numbers
---     constants_in_order                    the texts of a category in byte order
---     constraints_counted                   the distinct ones are as many as both kinds together have
---     constants_counted                     so it is with a formula behind the constraints
 use Rattle.std.proofs.Common.{◌≡◌, ◌∙◌, ℕ, ℤ, ◌+◌, suc, List, [], ◌∷◌, ◌++◌, Bool, true, false, cond, ◌||◌, append-nil, length, pos, fold, refl, ap, sym, subst, ◌⊎◌, inl, inr, arith}
 use Rattle.std.specs.Prelude.{◌==◌, ◌&&◌, Contains, filter, filter_map, flat_map}
 use Rattle.std.specs.List.{list_any}

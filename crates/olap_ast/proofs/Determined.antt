@@ -1,9 +1,4 @@
 -- What the definitions leave no choice in, whichever candidates are taken.
---     the_least_is_one             the least frozen dimension
---     findings_are_one             the findings of a schema
---     one_list, not_more           the list of all frozen dimensions, and that there aren't more than it has
---     the_counterexample_is_one    the counterexample
---     not_both_answers             a yes and a no to summarizable exclude each other
 use Rattle.std.proofs.Common.{◌≡◌, ℕ, zero, suc, ◌≤◌, ◌<ℤ◌, List, [], ◌∷◌, map, length, Bool, true, false, refl, ap, sym, subst, ◌∙◌, arith, Ordering, Less, Greater, nat_cmp}
 use Rattle.std.specs.Prelude.{◌≢◌, Contains, AllPairs, slice_index}
 use Rattle.std.specs.Ordering.{ordering_reverse}

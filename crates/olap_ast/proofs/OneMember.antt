@@ -1,9 +1,4 @@
 -- One member below `all`, of a category below `All`.
---     hierarchy      the graph is one
---     is_instance    the two members are an instance
---     lawful         and keep the laws
---     numerals       and numbers are numerals
---     far_is         only the member is far below anything, and only below `all`
 use Rattle.std.proofs.Common.{◌≡◌, ℕ, zero, suc, ◌<◌, List, [], ◌∷◌, Bool, true, false, refl, ap, sym, subst, ◌∙◌, ◌↔◌, ◌⊎◌, inl, inr, arith}
 use Rattle.std.specs.Prelude.{◌≢◌, codes, IsSome, IsTrue}
 use Rattle.olap_base.specs.Steps.{Steps.here, Steps.step, Climb, Climb.climb, Climb-from_leads}

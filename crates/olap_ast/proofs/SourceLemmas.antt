@@ -1,14 +1,4 @@
 -- Sources, one by one.
---     vias_more    one source more
---     number_at    the number of a source
---     until        what holds below n, and at n, holds below n + 1
---     question_at            the question of summarizability is of the graph
---     question_few           and its constants are few
---     question_kinds         and it is of the schema's kinds
---     no_more_constants      so are those of each question that has none
---     question_free          the question of summarizability has no atom on names
---     question_numberless    and none on numbers
---     formulas_have_candidates, sources_have_candidates    each question of a valid schema has candidates
 use Rattle.std.proofs.Common.{◌≡◌, ◌⊎◌, ◌∙◌, ℕ, suc, ◌+◌, ◌<◌, ◌≤◌, List, [], ◌∷◌, ◌++◌, append-nil, length, get_or, drop, drop-cons, inl, inr, refl, ap, sym, subst, arith}
 use Rattle.std.specs.Prelude.{All, flat_map, slice_index}
 use Rattle.std.proofs.lemmas.List.{get_or-map, length-map}

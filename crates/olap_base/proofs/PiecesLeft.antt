@@ -1,7 +1,4 @@
 -- A text that is cut at its marks, piece by piece.
---     split-none     a text without a mark is one piece
---     split-some     the first piece ends at the first mark, and the others stand after it
---     size_left      how much is left, where an empty piece counts too
 use Rattle.std.proofs.Common.{◌≡◌, ◌+◌, ◌<◌, ◌∷◌, ◌∙◌, Bool, true, false, Bor, ℕ, List, [], cond, length, take, drop, nat_lt, Option, Some, None, IfSome, refl, ap, arith}
 use Rattle.std.specs.List.{after_first, before_first, onto_first, position, position_or_len, slice_split}
 use Rattle.std.proofs.lemmas.Bool.{le-ltb, ltb-false, ltb-true}

@@ -1,6 +1,4 @@
 -- A refusal out of memory is allowed whatever reasons are.
---     allowed       one refusal
---     for_memory    what a call that was refused memory returns
 use Rattle.std.proofs.Common.{Result, Ok, Err}
 use Rattle.std.specs.Prelude.{IfErr, IsErrAnd}
 use Rattle.olap_base.specs.Refusing.{IsFor, IsForMemory}

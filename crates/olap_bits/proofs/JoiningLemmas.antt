@@ -1,11 +1,11 @@
 -- Two sets joined word by word: union, intersection, difference.
-use Rattle.std.proofs.Common.{◌≡◌, ℕ, ◌+◌, ◌/◌, ◌%◌, ◌^◌, ◌<◌, ◌≤◌, not, ◌&&◌, ◌||◌, inl, inr, List, length, get_or, set, refl, ap, sym, ◌∙◌, subst, arith}
+use Rattle.std.proofs.Common.{◌≡◌, ℕ, ◌/◌, ◌%◌, ◌^◌, ◌<◌, ◌≤◌, not, ◌&&◌, ◌||◌, inl, inr, List, length, get_or, refl, ap, sym, ◌∙◌, arith}
 use Rattle.std.specs.Cmp.{nat_cmp_total}
 use Rattle.std.specs.FinSet.{union, intersection, difference, contains-union, contains-intersection, contains-difference}
 use Rattle.std.specs.Int.{bit_not, w64}
 use Rattle.std.specs.Prelude.{bit_and, bit_or}
-use Rattle.std.proofs.lemmas.Bool.{cases_eq, cases_lt}
-use Rattle.std.proofs.lemmas.List.{get_or_past, get_or-set_same, get_or-set_other, length-set}
+use Rattle.std.proofs.lemmas.Bool.{cases_lt}
+use Rattle.std.proofs.lemmas.List.{get_or_past}
 use Rattle.olap_bits.specs.CatSet.{numbers_of}
 use Rattle.olap_bits.proofs.BitLemmas.{is_one, is_one-or, is_one-and, is_one-without}
 use Rattle.olap_bits.proofs.CatSetLemmas.{contains-numbers_of, same_numbers}
@@ -20,23 +20,6 @@ module _ {f : ℕ → ℕ → ℕ} {a b : List ℕ} where
   -- before the first word
   pub joined_start : IsJoined f a b a 0
   joined_start = record { same_length = refl; done = λ j h. absurd (omega arith); left = λ j h. refl }
-
-  -- one word more
-  pub joined_step : {words : List ℕ} {k : ℕ} → IsJoined f a b words k → k < length a
-      → IsJoined f a b (set words k (f (get_or words k 0) (get_or b k 0))) (k + 1)
-  joined_step {words} {k} is h =
-      let within : k < length words = omega (arith, is.same_length) in
-      record {
-        same_length = length-set words k _ ∙ is.same_length;
-        done = λ j l. elim (cases_eq j k) [
-          | inl e ↦
-              let new = f (get_or words k 0) (get_or b k 0) in
-              subst (λ i. get_or (set words k new) i 0 ≡ f (get_or a i 0) (get_or b i 0)) (sym e)
-              (get_or-set_same words k _ 0 within ∙ ap (λ w. f w (get_or b k 0)) (is.left k (omega arith)))
-          | inr ne ↦ get_or-set_other words k j _ 0 ne ∙ is.done j (omega arith)
-        ];
-        left = λ j l. get_or-set_other words k j _ 0 (λ e. omega arith) ∙ is.left j (omega arith);
-      }
 
   -- all words, and 0 past them
   pub joined_all : {words : List ℕ} {k : ℕ} → IsJoined f a b words k → length a ≤ k → length b ≤ k → f 0 0 ≡ 0

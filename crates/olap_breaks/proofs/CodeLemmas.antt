@@ -26,17 +26,6 @@ use Rattle.olap_base.proofs.ListLemmas.{range_more}
 
 -- ---- ways
 
--- by the one member of the source that is reached
-pub by_ancestor : (i : Instance) (x s c z : ℕ) → IsAncestor i x s z → ReachesCategory i z c ↔ ReachesVia i x s c
-by_ancestor i x s c z a = (
-  λ u. (z, a.is_member, a.reached, u),
-  λ t. subst (λ v. ReachesCategory i v c) (a.only t.0 t.1 t.2) t.3,
-)
-
--- if there is none
-pub by_none : (i : Instance) (x s c : ℕ) → (ReachesCategory i x s → ⊥) → ReachesVia i x s c → ⊥
-by_none i x s c n t = n (t.0, t.1, t.2)
-
 -- a member of the category is found exactly if one is reached
 pub some_is : (i : Instance) (x c : ℕ) (o : Option MemberId) → IfSome o (λ y. IsAncestor i x c y.0)
     → (IsNone o → ReachesCategory i x c → ⊥) → IsTrue (is_some o) ↔ ReachesCategory i x c

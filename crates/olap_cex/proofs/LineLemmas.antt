@@ -1,21 +1,15 @@
 -- The digits and the texts of a line.
-use Rattle.std.proofs.Common.{◌≡◌, ℕ, ◌+◌, ◌-◌, ◌≤◌, List, [], ◌∷◌, ◌++◌, length, Bool, true, false, cond, refl, sym, ap, ◌∙◌, append_assoc, append-nil, arith}
-use Rattle.std.specs.Prelude.{◌≢◌, flat_map, map}
+use Rattle.std.proofs.Common.{◌≡◌, ℕ, ◌+◌, ◌-◌, ◌≤◌, List, [], ◌∷◌, ◌++◌, Bool, true, false, cond, sym, ap, ◌∙◌, append_assoc, append-nil, arith}
+use Rattle.std.specs.Prelude.{flat_map}
 use Rattle.std.proofs.lemmas.Grind.{flat_map-append}
 use Rattle.olap_ast.specs.Frozen.{is_present}
 use Rattle.olap_base.specs.Graph.{Edge}
-use Rattle.olap_cex.specs.FrozenText.{edge_bits}
 use Rattle.olap_cex.specs.Present.{first_present}
 use Rattle.olap_cex.proofs.PresentLemmas.{absent_more, present_more}
 
 -- the digit of an edge
 abbrev pub digit : Bool → ℕ
 digit b = cond b 49 48
-
--- if there are edges, each has a digit
-pub bits_of_some : (bits : List Bool) → length bits ≢ 0 → edge_bits bits ≡ map digit bits
-bits_of_some [] n = absurd (n refl)
-bits_of_some (b ∷ bits) n = refl
 
 -- ---- the texts of the present categories
 

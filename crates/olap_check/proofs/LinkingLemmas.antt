@@ -1,8 +1,7 @@
 -- Parents in order, and the table of edges.
 use Rattle.std.proofs.Common.{◌≡◌, ℕ, ◌+◌, ◌*◌, ◌<◌, ◌≤◌, List, [], ◌∷◌, ◌++◌, ◌/◌, ◌%◌, length, length-append, get_or, refl, Bool, true, false, ap, sym, subst, ◌∙◌, ◌↔◌, arith, below_more}
 use Rattle.std.specs.Prelude.{IsTrue, ◌==◌}
-use Rattle.std.proofs.lemmas.List.{get_or_default, length-map}
-use Rattle.std.proofs.lemmas.Bool.{eqb-true}
+use Rattle.std.proofs.lemmas.List.{length-map}
 use Rattle.olap_base.specs.Graph.{Graph, HasEdge}
 use Rattle.olap_base.specs.Instance.{Instance, category_of, parents_of}
 use Rattle.std.proofs.Math.ListN.{get_or-append}
@@ -12,14 +11,6 @@ use Rattle.std.proofs.lemmas.Nat.{div-mul-add, mod-mul-add}
 use Rattle.olap_base.specs.declared.ids.MemberId.{MemberId}
 use Rattle.olap_legal.proofs.ParentLemmas.{IsParentAt, places}
 use Rattle.olap_check.specs.Linking.{IsLinked, IsUnlinked, IsFirstUnlinkedOf, IsLinkedAt, IsOrphan, IsTableOf}
-
--- the test of a pair
-pub linked_is : (edges : List Bool) (n c d k : ℕ) (r : Bool) → k ≡ c * n + d → k < length edges → r ≡ get_or edges k r
-    → IsTrue r ↔ IsLinked edges n c d
-linked_is edges n c d k r e h q =
-    let v : get_or edges (c * n + d) false ≡ r =
-    ap (λ m. get_or edges m false) (sym e) ∙ get_or_default edges k false r h ∙ sym q in
-    (λ t. v ∙ t, λ t. sym v ∙ t)
 
 -- the parents before place k are linked
 abbrev pub AreLinkedBefore : Instance → ℕ → List Bool → ℕ → ℕ → Type 0
@@ -71,12 +62,6 @@ pub not_empty : (ms : List MemberId) (qs : List ℕ) (r : Bool) → r ≡ (lengt
 not_empty ms qs r e f g h =
     let n : length ms ≡ 0 = sym (length-map ms (λ (m : MemberId). m.0)) ∙ ap length (g ∙ h) in
     let y : false ≡ true = sym f ∙ e ∙ ap (λ k. k == 0) n in cc
-
--- a member with no parents in the list has none
-pub empty_is : (ms : List MemberId) (qs : List ℕ) (r : Bool) → r ≡ (length ms == 0) → r ≡ true → places ms ≡ qs
-    → qs ≡ []
-empty_is [] qs r e f g = sym g
-empty_is (m ∷ ms) qs r e f g = absurd (let n = eqb-true (length (m ∷ ms)) 0 (sym e ∙ f) in omega (arith, n))
 
 -- ---- the table of edges, pair after pair
 

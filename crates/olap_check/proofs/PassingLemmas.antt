@@ -1,12 +1,12 @@
 -- What the table says of a member that is far below another.
-use Rattle.std.proofs.Common.{◌≡◌, ◌≢◌, ℕ, ◌+◌, ◌<◌, ◌≤◌, length, get_or, false, refl, ap, sym, subst, ◌∙◌, ◌↔◌, inl, inr, arith, eqb-true, eq-eqb, below_more}
+use Rattle.std.proofs.Common.{◌≡◌, ◌≢◌, ℕ, ◌+◌, ◌<◌, ◌≤◌, length, get_or, false, ap, sym, subst, ◌∙◌, ◌↔◌, inl, inr, arith, eqb-true, eq-eqb, below_more}
 use Rattle.std.specs.Prelude.{Contains, IsTrue, nat_eq}
 use Rattle.std.proofs.lemmas.List.{get_or_default}
 use native.Mathlib.Decide.{ℕ_discrete}
 use Rattle.olap_base.specs.declared.ids.MemberId.{MemberId}
 use Rattle.std.proofs.lemmas.List.Elements.{Contains-get_or}
 use Rattle.olap_legal.proofs.ParentLemmas.{IsParentAt}
-use Rattle.olap_base.specs.Instance.{Instance, IsFarBelow, IsMemberOf, Reaches, ReachesCategory, category_of, parents_of}
+use Rattle.olap_base.specs.Instance.{Instance, IsFarBelow, IsMemberOf, Reaches, category_of, parents_of}
 use Rattle.olap_legal.specs.Rows.{IsBounded}
 use Rattle.olap_legal.specs.Tables.{IsTable}
 use Rattle.olap_check.specs.Passing.{IsStratified, IsPassedBy, IsFirstPassed, HasNoneAt}
@@ -16,11 +16,6 @@ use Rattle.olap_legal.specs.declared.tables.Table.{Table}
 -- a member is not far below itself
 pub far_same : (i : Instance) (z y : ℕ) → IsStratified i → z ≡ y → IsTrue false ↔ IsFarBelow i z y
 far_same i z y s e = (λ t. absurd (cc), λ f. absurd (s z y f (ap (category_of i) e)))
-
--- a member that reaches none of the category is not far below one of it
-pub far_none : (i : Instance) (z y : ℕ) → y < length i → (ReachesCategory i z (category_of i y) → ⊥)
-    → IsTrue false ↔ IsFarBelow i z y
-far_none i z y h n = (λ t. absurd (cc), λ f. absurd (n (y, (h, refl), inr f)))
 
 -- a member is far below the one of the category that it reaches
 pub far_some : (i : Instance) (n z y a : ℕ) (table : Table) → IsBounded i n → IsTable i n (length i) table

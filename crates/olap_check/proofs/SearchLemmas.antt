@@ -12,7 +12,7 @@ use Rattle.olap_base.specs.Steps.{Steps, Steps.here, Steps.step, Climb, Climb.cl
 use Rattle.olap_base.proofs.ListLemmas.{Contains-nil, none_marked}
 use Rattle.olap_legal.specs.Rows.{IsBounded, AreLinked}
 use Rattle.olap_base.specs.Deciding.{below_is_member}
-use Rattle.olap_check.specs.Strata.{IsOnCycle, Repeats, HasNoneAbove, IsFirstIn, IsFirstOf, IsFirstRepeat, IsClosed, IsSearch, RepeatGives}
+use Rattle.olap_check.specs.Strata.{IsOnCycle, Repeats, HasNoneAbove, IsFirstIn, IsFirstOf, IsClosed, IsSearch, RepeatGives}
 use Rattle.olap_legal.specs.Marks.{IsPassed, IsMarking, Hits}
 
 module _ {i : Instance} {c : ℕ} (x : ℕ) (inside : (a b : ℕ) → IsBelow i a b → b < length i) where
@@ -213,12 +213,3 @@ first_none i n r c made e h f x p =
       where
         go : Climb (IsBelow i) x y → x < length i
         go (climb {z = z} r s) = below_is_member i x z r
-
--- the first member that repeats
-pub first_some : (i : Instance) (n r c : ℕ) → IsBounded i n → n ≤ c → r < length i → IsFirstOf i c r → IsFirstRepeat i r
-first_some i n r c made e h f = record {
-  inside = h;
-  repeats = f.found h;
-  before = λ w l p. let inside : w < length i = omega arith in
-      f.before w l (let m = made.categories w inside in omega arith) p;
-}

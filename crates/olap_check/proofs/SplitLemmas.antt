@@ -1,5 +1,5 @@
 -- All that a member is far below, and two of one category among it.
-use Rattle.std.proofs.Common.{◌≡◌, ℕ, zero, suc, ◌+◌, ◌<◌, ◌≤◌, List, [], ◌∷◌, ◌++◌, length, Bool, true, false, refl, ap, sym, subst, ◌∙◌, ◌↔◌, inl, inr, arith, below_more}
+use Rattle.std.proofs.Common.{◌≡◌, ℕ, zero, suc, ◌+◌, ◌<◌, ◌≤◌, List, [], ◌∷◌, ◌++◌, length, Bool, false, refl, ap, sym, subst, ◌∙◌, ◌↔◌, inl, inr, arith, below_more}
 use Rattle.std.specs.Prelude.{IsTrue, Option, Some, None, is_some}
 use Rattle.olap_base.specs.Instance.{Instance, IsBelow, Reaches, category_of, parents_of}
 use Rattle.olap_base.specs.Steps.{Steps, Steps.here, Steps.step, Climb, Climb.climb, Climb-from_leads, leads_from_Climb, Steps-climb, Steps-from_reaches}
@@ -86,20 +86,6 @@ found_first i marks c k None t m e f = record {
   alone = λ w h n d. elim (same_or_below w k h) [ inl q ↦ q | inr l ↦ absurd (f w l n d) ];
 }
 found_first i marks c k (Some y) t m e f = absurd (cc)
-
--- the second that is
-pub found_two : (i : Instance) (marks : List Bool) (c k : ℕ) (o : Option ℕ) → is_some o ≡ true → IsMarked marks k
-    → category_of i k ≡ c → IsFoundAmong i marks c k o → HasTwo i marks c
-found_two i marks c k None t m e f = absurd (cc)
-found_two i marks c k (Some y) t m e f =
-    record {
-      one = y;
-      other = k;
-      one_is = f.is_one;
-      other_is = (m, e);
-      apart = λ q. let h = f.inside in
-          absurd (omega (arith, q));
-    }
 
 -- no second
 pub found_none : (i : Instance) (marks : List Bool) (c n : ℕ) (o : Option ℕ) → length marks ≤ n

@@ -1,7 +1,5 @@
 -- Clauses without literals that are known false, and literals that stand as clauses.
 --     agrees_at, one_literal     a literal that stands is true, and so is a clause of it
---     AreKept                 what is true of the first literals is written
---     kept_more, kept_all     one literal more, and all of them
 use Rattle.std.proofs.Common.{◌≡◌, ℕ, suc, zero, ◌+◌, ◌<◌, ◌≤◌, Bool, List, [], ◌∷◌, length, slice_index_or, sym, ◌∙◌, subst, arith, below_more}
 use Rattle.std.specs.Prelude.{Contains}
 use Rattle.std.proofs.lemmas.List.{get_or_default}

@@ -1,5 +1,4 @@
 -- The first bad choice by its rank is the least one by its codes, since of one dimension all codes are equally long.
---     to_least, from_least    the one, and the other
 use Rattle.std.proofs.Common.{◌≡◌, ◌+◌, ℕ, suc, List, [], ◌∷◌, ◌++◌, length, refl, sym, ap, inl, inr, arith, ◌∙◌}
 use Rattle.std.specs.Prelude.{flat_map}
 use Rattle.std.proofs.lemmas.List.{length-append, length-map}

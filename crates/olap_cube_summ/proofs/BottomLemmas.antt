@@ -8,7 +8,7 @@ use Rattle.std.proofs.lemmas.List.Elements.{All-contains_itself, Contains-append
 use Rattle.std.proofs.lemmas.List.Quantifiers.{all_pairs_push}
 use Rattle.olap_ast.specs.Schema.{Schema}
 use Rattle.olap_base.specs.Graph.{IsBottom, category_count}
-use Rattle.olap_base.proofs.ListLemmas.{Contains-nil, Contains-range}
+use Rattle.olap_base.proofs.ListLemmas.{Contains-range}
 use Rattle.olap_bits.specs.Sets.{members}
 use Rattle.olap_bits.specs.declared.sets.CatSet.{CatSet}
 use Rattle.olap_bits.proofs.CatSetLemmas.{in_insert}
@@ -61,14 +61,6 @@ pub record AreFamiliesBelow (s : Schema) (q : Question) (n : ℕ) (families : Li
   pub all : (b : ℕ) → b < n → IsBottom s.graph b → (f : Family) × Contains families f × (f.bottom.0 ≡ b)
 
 module _ (s : Schema) (q : Question) where
-  pub no_families : (families : List Family) → families ≡ [] → AreFamiliesBelow s q 0 families
-  no_families families e = subst (AreFamiliesBelow s q 0) (sym e) (record {
-    each = λ f c. absurd (Contains-nil f c);
-    ordered = λ i j d l m. absurd (omega arith);
-    below = λ f c. absurd (Contains-nil f c);
-    all = λ b l. absurd (omega arith);
-  })
-
   module _ (n : ℕ) (families : List Family) (before : AreFamiliesBelow s q n families) where
     -- one that isn't a bottom category
     pub category_passed : (IsBottom s.graph n → ⊥) → AreFamiliesBelow s q (n + 1) families

@@ -12,19 +12,13 @@ use Rattle.olap_cube_summ.specs.Masks.{CanBeBad, IsIn, all_of}
 use Rattle.olap_cube_summ.specs.declared.families.Family.{Family}
 use Rattle.olap_cube_summ.proofs.FamilyLemmas.{take_left}
 use Rattle.olap_cube_summ.specs.Choices.{AreLeast, Dimension, IsDimension, IsLeastBefore, dimensions_of, sets_of}
-use Rattle.olap_cube_summ.specs.Patterns.{HasPattern, IsLeastKnown, SomeIsKnown}
+use Rattle.olap_cube_summ.specs.Patterns.{HasPattern, IsLeastKnown}
 use Rattle.olap_cube_summ.specs.declared.questions.Question.{Question}
 use Rattle.olap_cube_summ.proofs.DimensionLemmas.{families_are}
 use Rattle.olap_cube_summ.proofs.PatternLemmas.{bad_too, same_itself, same_met, same_patterns}
 
 module _ (n : ℕ) (d : Dimension) (is : IsDimension n d) (rest : List (CatSet 4)) (mask : ℕ) (possible : CatSet 4)
     (means : (p : ℕ) → IsIn possible p ↔ (IsIn d.family.patterns p × CanBeBad n rest (bit_and mask p))) where
-  -- one of the family can end badly
-  pub some_possible : CanBeBad n (d.family.patterns ∷ rest) mask
-      → SomeIsKnown d.schema d.question d.family.bottom.0 possible
-  some_possible b = let h = is.family.sound b.0 b.1 in
-      (h.0, h.1, h.2, (b.0, (means b.0).1 (b.1, b.2), h.3))
-
   -- and the least is found
   pub is_least_before : (found : Found) → IsLeastKnown d.schema d.question d.family.bottom.0 possible found
       → (pattern : ℕ) → HasPattern d.schema d.question (chosen_of found) pattern

@@ -3,7 +3,6 @@ use Rattle.std.proofs.Common.{◌≡◌, ◌≢◌, not, ℕ, zero, suc, ◌+◌
 use Rattle.std.specs.Prelude.{IsTrue}
 use Rattle.std.specs.Cmp.{nat_cmp_total}
 use Rattle.std.specs.FinSet as set
-use Rattle.std.specs.Int.{bit_at}
 use Rattle.std.specs.Int.Bits.{bit_and}
 use Rattle.std.specs.List.{range_with_len}
 use Rattle.std.specs.Ordering.{nat_cmp}
@@ -108,17 +107,6 @@ bad_by_count n m count h other o = other (time_one (Has m) (range_with_len 0 n) 
 pub good_by_count : (n m count : ℕ) → HoldsTimes (Has m) (range_with_len 0 n) count → count ≡ 1 → IsBad n m → ⊥
 good_by_count n m count h e bad = bad (one_time (Has m) (range_with_len 0 n)
     (subst (λ w. HoldsTimes (Has m) (range_with_len 0 n) w) e h))
-
--- one source before those that are counted
-pub counted_before : (m k count : ℕ) (rest : ℕ) → bit_at m k ≡ 1
-    → HoldsTimes (Has m) (range_with_len (k + 1) rest) count
-    → HoldsTimes (Has m) (range_with_len k (suc rest)) (suc count)
-counted_before m k count rest e h = inl (e, count, refl, h)
-
--- a source without its bit changes no count
-pub not_counted_before : (m k count : ℕ) (rest : ℕ) → bit_at m k ≢ 1
-    → HoldsTimes (Has m) (range_with_len (k + 1) rest) count → HoldsTimes (Has m) (range_with_len k (suc rest)) count
-not_counted_before m k count rest e h = inr (e, h)
 
 -- ---- what masks can become
 

@@ -1,8 +1,5 @@
 -- Tuples that a tuple reaches, dimension by dimension.
---     tuple_length, tuple_members      a tuple has as many members as there are instances, each one of its instance
---     tuple_more         one dimension more
 --     none_here, none_on one dimension more in which nothing is reached
---     KeySoFar           the key of the first dimensions
 use Rattle.std.proofs.Common.{◌≡◌, ℕ, suc, ◌+◌, ◌<◌, ◌≤◌, List, [], ◌∷◌, ◌++◌, length, drop, refl, sym, ap, subst, ◌∙◌, arith, append_assoc, append-nil}
 use Rattle.std.proofs.Math.ListN.{set}
 use Rattle.std.proofs.lemmas.List.{drop_all, length-map}
@@ -92,17 +89,6 @@ module _ (columns : List Ascent) (members : List MemberId) where
         → IsReached columns members (tuple ++ ys)
     pub none : NoneIsReached (drop k columns) (drop k members) → NoneIsReached columns members
     pub inside : StandIn (drop k columns) (drop k members)
-
-  -- the key of no dimension
-  pub key_start : (key : List ℕ) → key ≡ key_of [] → StandIn columns members → KeySoFar 0 key
-  key_start key e s = record {
-    tuple = [];
-    size = refl;
-    is = e;
-    some = λ ys r. r;
-    none = λ n. n;
-    inside = s;
-  }
 
   -- there are as many members as columns
   pub as_many : StandIn columns members → length members ≡ length columns

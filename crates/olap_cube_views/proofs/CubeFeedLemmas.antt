@@ -1,8 +1,5 @@
 -- A roller of a cube's facts after a part of a piece, and at the end of its text.
 --     no-cut, one-cut    what the splitter says of the rest of a piece
---     taken-none, taken-one   the facts after it
---     own, back          what the text is taken against
---     last-taken         the last record, which the text's end ends
 use Rattle.std.proofs.Common.{◌≡◌, ◌+◌, ◌-◌, ◌∷◌, ◌++◌, ◌∙◌, Bool, true, false, ℕ, List, [], length, take, drop, refl, sym, ap, subst}
 use Rattle.std.specs.Prelude.{MatchResult, Result, Ok, Err, ⊤}
 use Rattle.std.proofs.lemmas.List.{append-nil}

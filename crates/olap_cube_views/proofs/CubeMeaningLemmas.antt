@@ -1,6 +1,4 @@
 -- What is read of a text of a cube's facts is what it means.
---     cube-facts-named   a text of facts
---     meant-cube-facts   the facts of a text that has no fault
 use Rattle.std.proofs.Common.{◌≡◌, ◌∙◌, ◌+◌, ◌∷◌, ap, arith, ℕ, ℤ, pos, Bool, true, false, cond, List, [], length, map, Option, Some, None, Result, Ok, refl}
 use Rattle.std.specs.Prelude.{◌==◌, Err, codes, is_none, nat_le, not, unwrap_or}
 use Rattle.std.specs.Option.{option_map, option_or}

@@ -1,10 +1,4 @@
 -- Printing a cube's view row by row, and reading its text back.
---     ids_more, ids_end    the ids of a row's members, one more, and all of them
---     same_take            a prefix by its length
---     row_stands, row_fields   a row, by the instances' number
---     four_same            four items after others
---     cube_view_more       one row more
---     cube_view_reads      the text reads back
 use Rattle.std.proofs.Common.{◌≡◌, ℕ, zero, suc, ◌+◌, ◌<◌, ◌≤◌, ◌++◌, ◌∷◌, ◌∙◌, List, [], length, map, take, drop, get_or, arith, refl, sym, ap, subst, append_assoc, append-nil, length-append}
 use Rattle.std.specs.Prelude.{All}
 use Rattle.std.proofs.lemmas.List.Elements.{All-map}
@@ -31,10 +25,6 @@ module _ (is : List Instance) (ys : List ℕ) where
     pub all : ids ++ ids_in (drop k is) (drop k ys) ≡ ids_in is ys
     pub inside : AreMembers (drop k is) (drop k ys)
     pub size : length ids ≡ k
-
-  -- no id yet
-  pub ids_start : AreMembers is ys → IdsSoFar 0 []
-  ids_start m = record { all = refl; inside = m; size = refl }
 
   module _ (k : ℕ) (ids : List (List ℕ)) (h : IdsSoFar k ids) (i : Instance) (y : ℕ)
       (di : drop k is ≡ i ∷ drop (k + 1) is) (dy : drop k ys ≡ y ∷ drop (k + 1) ys) where

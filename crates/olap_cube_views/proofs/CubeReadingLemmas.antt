@@ -1,11 +1,4 @@
 -- The fields of a record that name members, from left to right, and the records of a text.
---     MembersSoFar     the first fields' members
---     members_more     one field more; members_stop where it has a fault; members_end all of them
---     header_is        whether the first record is the header
---     told_cause       a record's fault is the text's first
---     fault_behind     the first fault of the records after the header is the text's
---     cube_facts_more, cube_table_more, cube_table_members   a fact table that grows
---     same_length      lists with equal images have one length
 use Rattle.std.proofs.Common.{◌≡◌, ◌↔◌, ℕ, suc, ◌+◌, ◌≤◌, List, [], ◌∷◌, ◌++◌, length, get_or, map, drop, Bool, true, IsTrue, Option, Some, None, Ok, Err, refl, sym, ap, subst, ◌∙◌, inl, inr, arith, append_assoc, append-nil}
 use Rattle.std.specs.Prelude.{All}
 use Rattle.std.specs.Bool.{one_answer}
@@ -17,7 +10,7 @@ use Rattle.std.proofs.lemmas.List.Elements.{Contains-get_or, Contains-push_cases
 use Rattle.std.proofs.lemmas.Slice.Eq.{bytes_eq-Decides, slice_eq-Decides}
 use Rattle.olap_base.specs.Graph.{Graph, IsBottom}
 use Rattle.olap_base.specs.Instance.{Instance, IsMember, category_of}
-use Rattle.olap_base.proofs.ListLemmas.{Contains-map, Contains-nil}
+use Rattle.olap_base.proofs.ListLemmas.{Contains-map}
 use Rattle.olap_instance.specs.Made.{IsMadeFor}
 use Rattle.olap_records.specs.Faults.{first_fault}
 use Rattle.olap_records.specs.Tables.{begins_with, or_read}
@@ -63,10 +56,6 @@ module _ (gs : List Graph) (is : List Instance) (row : List (List ℕ)) where
     pub read : members_read is row ≡ xs ++ members_read (drop k is) (drop k row)
     pub bottom : (ys : List ℕ) → IsBottomTuple (drop k gs) (drop k is) ys → IsBottomTuple gs is (xs ++ ys)
     pub made : AreMadeFor (drop k gs) (drop k is)
-
-  -- no field yet
-  pub members_start : AreMadeFor gs is → MembersSoFar 0 []
-  members_start m = record { faults = refl; read = refl; bottom = λ ys b. b; made = m }
 
   module _ (k : ℕ) (xs : List ℕ) (h : MembersSoFar k xs) (g : Graph) (i : Instance) (f : List ℕ)
       (dg : drop k gs ≡ g ∷ drop (k + 1) gs) (di : drop k is ≡ i ∷ drop (k + 1) is)
@@ -150,10 +139,6 @@ cube_facts_more is seen r fs f e q =
     map-append cube_fact_of fs (f ∷ []) ∙ ap (λ (t : List (Fact (List ℕ))). t ++ cube_fact_of f ∷ []) e
     ∙ ap (λ (t : Fact (List ℕ)). map (cube_fact_read is) seen ++ t ∷ []) q
     ∙ sym (map-append (cube_fact_read is) seen (r ∷ []))
-
--- no facts are a fact table
-pub cube_table_none : (gs : List Graph) (is : List Instance) → IsCubeFactTable gs is []
-cube_table_none gs is f c = absurd (Contains-nil f c)
 
 -- a fact table with one fact more
 pub cube_table_more : (gs : List Graph) (is : List Instance) (fs : List (Fact (List ℕ))) (f : Fact (List ℕ))

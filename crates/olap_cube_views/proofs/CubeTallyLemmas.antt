@@ -1,10 +1,5 @@
 -- For which fact tables a tally of a cube stands.
---     pushed                        what stands at each key with an entry more
---     stands_start                  no fact
---     stands_apart, stands_joined   one fact more that reaches no tuple of the target, and one that reaches a tuple
---     stands_same                   where the same stands at each key
 --     tally_*                       what is true of every tally
---     told_rows                     the rows of the direct view; direct_members: they stand at members
 use Rattle.std.proofs.Common.{◌≡◌, ℕ, ◌+◌, ◌≤◌, List, [], ◌∷◌, ◌++◌, length, map, take, Bool, true, false, cond, refl, ap, sym, subst, ◌∙◌, arith, Option, Some, None, w64, length-append}
 use Rattle.std.specs.Prelude.{All, filter_map, Contains, IsSome, filter, if◌then◌else◌}
 use mir.Val.{SFits}

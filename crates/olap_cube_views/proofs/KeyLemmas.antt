@@ -1,20 +1,10 @@
 -- Keys of tuples: their numbers, and zeros up to this many.
---     filled_more     one number more
---     filled_same     of as many numbers, equal keys are of one tuple
---     filled_order    keys ascend as the tuples do
---     take-filled     the numbers back
 use Rattle.std.proofs.Common.{◌≡◌, ℕ, zero, suc, ◌<◌, ◌≤◌, List, [], ◌∷◌, ◌++◌, length, take, refl, sym, ap, ◌∙◌, arith}
 use Rattle.std.proofs.Math.ListN.{set}
 use Rattle.std.specs.Cmp.{nat_cmp_total, tied_itself}
 use Rattle.std.specs.Cmp.Lexicographic.{lists_total, slice_cmp}
 use Rattle.std.specs.Ordering.{nat_cmp, ordering_then}
 use Rattle.olap_cube_views.specs.CubeTallies.{filled}
-
--- a key has this many numbers
-pub length-filled : (n : ℕ) (ys : List ℕ) → length (filled n ys) ≡ n
-length-filled zero ys = refl
-length-filled (suc n) [] = ap suc (length-filled n [])
-length-filled (suc n) (y ∷ ys) = ap suc (length-filled n ys)
 
 -- the numbers of a tuple, back from its key
 pub take-filled : (n : ℕ) (ys : List ℕ) → length ys ≤ n → take (length ys) (filled n ys) ≡ ys

@@ -1,5 +1,4 @@
 -- The tuples of some categories ascend, and so do their keys.
---     keys-ascend   the keys of the tuples of a target
 use Rattle.std.proofs.Common.{◌≡◌, ℕ, zero, suc, ◌+◌, ◌<◌, ◌≤◌, List, [], ◌∷◌, length, map, Bool, true, false, cond, refl, sym, ap, subst, ◌∙◌, inl, inr, arith}
 use Rattle.std.specs.Prelude.{Contains, filter, flat_map}
 use Rattle.std.specs.Cmp.{nat_cmp_total, tied_itself}

@@ -1,8 +1,4 @@
 -- What references point to, and what else stands for the items of a list.
---     pointed_at     what a reference points to, at a place
---     pointed_from   from a place on
---     column_from    the instances of columns
---     mapped_more    what stands for the items of a list, which gets one item more
 use Rattle.std.proofs.Common.{◌≡◌, ℕ, ◌+◌, ◌<◌, Bor, List, ◌∷◌, [], ◌++◌, length, get_or, map, drop, take, sym, ap, ◌∙◌, arith}
 use Rattle.olap_base.specs.Instance.{Instance}
 use Rattle.olap_view.specs.Columns.{Ascent, ascent}

@@ -1,7 +1,5 @@
 -- The entries of a map, in order, are the rows of the keys that it has.
---     Ascends       each is below those after it
 --     ascends-*     lists that do
---     rows_are      the rows
 use Rattle.std.proofs.Common.{◌≡◌, List, [], ◌∷◌, ◌++◌, map, filter_map, Bool, true, false, Option, Some, None, option_map, refl, sym, ap, subst, ◌∙◌, inl, inr}
 use Rattle.std.specs.Prelude.{Contains, IsSome}
 use Rattle.std.specs.BTreeMap.{is_at}
@@ -35,17 +33,6 @@ ascends-append R (x ∷ xs) ys a b h = (
     | inr k ↦ h x u (contains_head x xs) k
   ],
   ascends-append R xs ys a.1 b (λ y z c d. h y z (contains_cons y xs x c) d),
-)
-
--- images ascend where the order is kept
-pub ascends-map : {S T : Type 0} (R : S → S → Ordering) (Q : T → T → Ordering) (f : S → T) (xs : List S)
-    → ((x y : S) → R x y ≡ Less → Q (f x) (f y) ≡ Less)
-    → ((xs : List S) (y : T) → Contains (map f xs) y → (x : S) × Contains xs x × (f x ≡ y))
-    → Ascends R xs → Ascends Q (map f xs)
-ascends-map R Q f [] h from a = tt
-ascends-map R Q f (x ∷ xs) h from a = (
-  λ u c. let t = from xs u c in subst (λ w. Q (f x) w ≡ Less) t.2 (h x t.0 (a.0 t.0 t.1)),
-  ascends-map R Q f xs h from a.1,
 )
 
 module _ {T K X B : Type 0} (R : K → K → Ordering) (o : IsTotalOrder R) (exact : CmpEqualImpliesEq R) (key : T → K)

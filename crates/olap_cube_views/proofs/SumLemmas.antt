@@ -1,6 +1,4 @@
 -- Entries of which some have one key, and the same entries joined.
---     summary-append, summary_permuted   what stands at a key of two lists, and of a list in another order
---     summary_found                      of entries in order, at most one has it
 --     within_*                           how many values entries are of
 --     IsJoined, joined_*                 entries of one key are joined, side by side
 use Rattle.std.proofs.Common.{◌≡◌, ℕ, zero, suc, ◌+◌, ◌*◌, ◌^◌, ◌<◌, ◌≤◌, List, [], ◌∷◌, ◌++◌, ◌-◌, length, take, drop, get_or, set, Bool, true, false, cond, refl, sym, ap, subst, ◌∙◌, arith, ℤ, pos, Option, Some, None, w64}

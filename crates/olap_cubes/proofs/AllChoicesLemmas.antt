@@ -1,8 +1,5 @@
 -- All choices of a frozen dimension for each dimension of a cube are listed, with one set of candidates; whatever the
 -- candidates, a choice can't be told from one of them.
---     AreSame        two choices can't be told apart
---     AreAll         a list has all choices, but for the candidates
---     all_choices    there is one
 use Rattle.std.proofs.Common.{◌≡◌, ℕ, zero, suc, ◌+◌, ◌<◌, List, [], ◌∷◌, ◌++◌, length, map, refl, ap, sym, subst, ◌∙◌, inl, inr, arith}
 use Rattle.std.specs.Prelude.{All, Contains}
 use Rattle.std.proofs.lemmas.List.Elements.{All-head, All-tail}

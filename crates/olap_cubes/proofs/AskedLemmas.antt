@@ -1,6 +1,4 @@
 -- Each question that an order of this family comes to is about valid schemas.
---     schemas_come    the schemas that are read are valid
---     asked_named     so it is of whatever words
 use Rattle.std.proofs.Common.{ℕ, suc, List, [], ◌∷◌, ◌++◌, Option, None, Some}
 use Rattle.std.proofs.lemmas.List.Elements.{All-nil, All-push}
 use Rattle.std.specs.Prelude.{◌+◌, ◌*◌, All, codes, drop, option_and_then, take, if◌then◌else◌}

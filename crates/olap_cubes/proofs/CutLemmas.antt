@@ -1,5 +1,4 @@
 -- The words of a command over several dimensions, cut as the code takes them, are the words by their numbers.
---     cut_is    the order of whatever words
 use Rattle.std.proofs.Common.{◌≡◌, ◌<◌, ◌≤◌, ◌+◌, ◌-◌, ◌*◌, ◌&&◌, ◌==◌, ℕ, suc, List, [], ◌∷◌, Bool, true, false, cond, Option, None, Some, drop, get_or, length, nat_le, take, ap, refl, sym, arith, ◌∙◌}
 use Rattle.std.proofs.lemmas.Bool.Decides.{nat_tests}
 use Rattle.std.proofs.lemmas.List.{drop-drop, get_or-drop, length-drop, length-take-le}

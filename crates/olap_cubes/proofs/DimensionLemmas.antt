@@ -1,10 +1,4 @@
 -- One dimension after the other.
---     schemas_from, legals_from   the files from one of them on: the step of this one, and the files after it
---     schemas_end, legals_end     no file is left
---     made_more, made_all         instances that were made for the graphs of this many dimensions
---     graphs_more, graphs_all     graphs of this many dimensions
---     target_fits                 there are as many categories as dimensions
---     ids_more                    the numbers of one category more
 use Rattle.std.proofs.Common.{◌≡◌, ◌+◌, ◌<◌, ◌≤◌, ℕ, zero, suc, List, [], ◌∷◌, ◌++◌, length, get_or, drop, take, ap, refl, subst, sym, arith, ◌∙◌}
 use Rattle.std.specs.Prelude.{codes}
 use Rattle.std.proofs.lemmas.List.{drop_all, drop_more, get_or-map, length-map, map-append, take_all, take_more}

@@ -1,9 +1,4 @@
 -- Files that are read in a loop: a step and what comes after it are a step.
---     file_followed, file_ended   a step and the rest
---     as_ended                    a step that ended, as the code hands it on
---     no_memory                   a step that runs out of memory
---     ran_out, no_memory_yet, judged_no_memory   the same, as the code hands it on
---     AreReadTo                   what is read of the files that are left is read of all
 use Rattle.std.proofs.Common.{◌≡◌, ◌+◌, ℕ, List, [], ◌∷◌, ◌++◌, Option, None, Some, Result, Ok, Err, MatchOption, ap, subst, sym, refl, ◌∙◌}
 use Rattle.std.specs.Prelude.{IfOk}
 use Rattle.std.specs.Result.{IsErrAnd}

@@ -1,6 +1,5 @@
 -- The least of the elements of a list that have a property, in a total cases_order; and that lists of numbers have one.
 --     not_after_itself, total, not_after_again   of lists of numbers
---     all_total, all_after      of lists of those
 --     least_of                  the least of a list, or none has the property
 use Rattle.std.proofs.Common.{◌≡◌, ℕ, ◌<◌, List, [], ◌∷◌, sym, subst, ◌∙◌, inl, inr}
 use Rattle.std.specs.Prelude.{◌⊎◌, Contains}

@@ -1,6 +1,4 @@
 -- Names of categories that are looked up, one dimension after the other.
---     tuple_is      the step of a word with as many names as there are dimensions
---     AreNamedTo    the names that are left say what all names are
 use Rattle.std.proofs.Common.{◌≡◌, ◌+◌, ◌<◌, ◌≤◌, ℕ, zero, suc, List, [], ◌∷◌, ◌++◌, Option, None, Some, T, Bool, true, false, length, get_or, drop, take, ap, subst, sym, refl, arith, ◌∙◌, append-nil, append_assoc}
 use Rattle.std.specs.Prelude.{◌==◌, codes, if◌then◌else◌, option_and_then, option_map, zip}
 use Rattle.std.proofs.Math.Facts.{yes_eqb}
@@ -97,10 +95,6 @@ module _ (schemas : List Schema) (names : List (List ℕ)) where
     pub named : categories_named schemas names
         ≡ option_map (λ rest. cs ++ rest) (categories_named (drop k schemas) (drop k names))
     pub categories : AreCategoriesOf (take k schemas) cs
-
-  -- no name is looked up yet
-  pub named_none : AreNamedTo 0 []
-  named_none = record { named = none_before (categories_named schemas names); categories = tt }
 
   -- from one name on: the category of this one, and those of the names after it
   named_from : (k : ℕ) (cs : List ℕ) → k < length schemas → k < length names → AreNamedTo k cs → (o : Option ℕ)

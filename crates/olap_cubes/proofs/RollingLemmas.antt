@@ -1,8 +1,4 @@
 -- A file of a cube's facts that is read piece by piece.
---     IsSoFar     a roller has taken the bytes so far
---     no-memory   out of memory
---     fault-out   the first fault of the facts in a file
---     facts-out   the facts in a file, and a view of them
 use Rattle.std.proofs.Common.{◌≡◌, ◌≤◌, ◌∙◌, ℕ, List, Option, None, Some, Result, [], length, refl, ap}
 use Rattle.std.specs.Prelude.{IfErr, Ok, Err, codes}
 use Rattle.std.specs.Result.{IsErrAnd}

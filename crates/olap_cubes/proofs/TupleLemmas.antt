@@ -1,16 +1,11 @@
 -- Tuples of categories that are read from words, one after the other.
 --     numbers_compared categories are compared as their numbers are
---     ended_plain      a step that reads nothing ends, and what comes after it with it
---     plain_no_memory  such a step runs out of memory
---     plain_refused    it is refused
---     another_is       a tuple that is taken, or is one of those before it
---     AreNamedUpTo     the order of all the words is that of those that are left, after the tuples that were read
-use Rattle.std.proofs.Common.{◌≡◌, ◌+◌, ◌<◌, ◌≤◌, ℕ, suc, Bool, List, [], ◌∷◌, ◌++◌, Result, Ok, Err, length, get_or, drop, true, false, ap, refl, subst, sym, arith, ◌∙◌}
+use Rattle.std.proofs.Common.{◌≡◌, ◌+◌, ◌<◌, ℕ, suc, Bool, List, [], ◌∷◌, ◌++◌, Result, Ok, Err, length, get_or, drop, true, false, ap, refl, subst, sym, arith, ◌∙◌}
 use Rattle.std.specs.Cmp.Lexicographic.{pointwise}
 use Rattle.std.specs.List.{list_any}
 use Rattle.std.specs.Prelude.{◌&&◌, All, Contains, codes, if◌then◌else◌, nat_eq}
 use Rattle.std.specs.Result.{IsErrAnd}
-use Rattle.std.proofs.lemmas.List.{drop_all, drop_more, length_push}
+use Rattle.std.proofs.lemmas.List.{drop_more, length_push}
 use Rattle.std.proofs.lemmas.List.Elements.{All-append, All-cons}
 use Rattle.std.proofs.lemmas.Slice.Eq.{bytes_eq-Decides}
 use Rattle.olap_ast.specs.Schema.{Schema}
@@ -107,15 +102,6 @@ module _ (schemas : List Schema) (at : ℕ) (words : List (List ℕ)) where
   from_word k tuples h r = r.order
       ∙ ap (λ ws. different_tuples_from schemas (at + k) tuples ws) (drop_more words k [] h)
 
-  -- no word is read yet
-  pub no_word : AreNamedUpTo 0 []
-  no_word = record {
-    order = let e : at ≡ at + 0 = omega arith in ap (λ n. different_tuples_from schemas n [] words) e;
-    each = refl;
-    categories = λ k d l. absurd (omega arith);
-    differ = tt;
-  }
-
   -- one word more, whose tuple is none of those before it
   pub word_more : (k : ℕ) (tuples all : List (List ℕ)) (c : List ℕ) → k < length words → AreNamedUpTo k tuples
       → another_tuple schemas (at + k) tuples (get_or words k []) ≡ Done c
@@ -132,11 +118,6 @@ module _ (schemas : List Schema) (at : ℕ) (words : List (List ℕ)) where
         (All-cons (AreCategoriesOf schemas) c [] categories (λ j d l. absurd (omega arith)));
     differ = Distinct-push tuples c r.differ (not_among tuples c fresh);
   })
-
-  -- all words are read
-  pub word_last : (k : ℕ) (tuples : List (List ℕ)) → length words ≤ k → AreNamedUpTo k tuples
-      → different_tuples_from schemas at [] words ≡ Done tuples
-  word_last k tuples h r = r.order ∙ ap (λ ws. different_tuples_from schemas (at + k) tuples ws) (drop_all k words h)
 
   -- where a word isn't taken, the order ends as it does there
   pub word_ends : (k : ℕ) (tuples : List (List ℕ)) (stop : Stop) → k < length words → AreNamedUpTo k tuples

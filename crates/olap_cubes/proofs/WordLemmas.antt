@@ -1,6 +1,4 @@
 -- The words of a command over several dimensions.
---     seen_is_no_usage    a command isn't what is answered by the usage
---     cut_words           the words of a command, cut after the first and the second kind of files
 use Rattle.std.proofs.Common.{◌≡◌, ◌<◌, ℕ, List, [], ◌∷◌, length, drop, take, ap, sym, arith, ◌∙◌}
 use Rattle.std.proofs.lemmas.List.{drop-map, take-map}
 use Rattle.std.specs.String.{string_bytes}

@@ -1,7 +1,4 @@
 -- Views whose summaries a function of members gives, after a fact.
---     summary_in-rows        the summary of its row at a member
---     view_unreached, view_reached   one view after a fact
---     views_step             several
 use Rattle.std.proofs.Common.{◌≡◌, ℕ, List, [], ◌∷◌, map, Bool, true, false, cond, refl, sym, ap, subst, ◌∙◌, inl, inr, ℤ, Option, Some, None, IfSome, arith}
 use Rattle.std.specs.Prelude.{Contains, filter, find, ◌==◌, MatchResult, Result, Ok, Err}
 use Rattle.std.specs.List.{cons_option}

@@ -1,5 +1,4 @@
 -- A summary table while it is changed.
---     IsPut                        a summary was put at a member
 --     view_put, view_refused, view_left, view_kept   the views after it
 --     so_far_first, so_far_next, so_far_refused, so_far_all   category by category
 --     fact_behind, facts_behind, taken_ok, taken_err   fact by fact
@@ -105,20 +104,6 @@ pub record IsSoFar (step : Step) (f : Fact ℕ) (k : ℕ) (old now : Summarized)
       ≡ behind (map (view_at now) (take k old.categories))
       (views_after_fact step old.instance (map (view_at now) (drop k old.categories)) f)
 
--- nothing before leaves the result as it is
-behind_none : (r : Result (List (View ℕ ℕ)) DeltaKind) → behind [] r ≡ r
-behind_none (Ok vs) = refl
-behind_none (Err k) = refl
-
--- no category is changed yet
-pub so_far_first : (step : Step) (f : Fact ℕ) (t : Summarized) → AreStorable t → IsSoFar step f 0 t t
-so_far_first step f t a = record {
-  instance = refl;
-  categories = refl;
-  storable = a;
-  views = sym (behind_none (views_after_fact step t.instance (views_at t) f));
-}
-
 -- one view more before the others
 one_more : (vs : List (View ℕ ℕ)) (w : View ℕ ℕ) (r : Result (List (View ℕ ℕ)) DeltaKind)
     → behind vs (elim r [ Ok ws ↦ Ok (w ∷ ws) | Err k ↦ Err k ]) ≡ behind (vs ++ w ∷ []) r
@@ -163,15 +148,6 @@ module _ (step : Step) (f : Fact ℕ) (k : ℕ) (old now : Summarized) (so : IsS
         ]
         | Err j ↦ Err j
       ])) e
-
-  -- a view's fault is that of the views
-  pub so_far_refused : (j : DeltaKind)
-      → view_after_fact step now.instance (view_at now (get_or now.categories k 0)) f ≡ Err j
-      → views_after_fact step old.instance (views_at old) f ≡ Err j
-  so_far_refused j e = then (Err j) (subst (λ (i : Instance).
-      view_after_fact step i (view_at now (get_or old.categories k 0)) f ≡ Err j) so.instance
-      (subst (λ (cs : List ℕ). view_after_fact step now.instance (view_at now (get_or cs k 0)) f ≡ Err j) so.categories
-      e))
 
   -- one category more
   pub so_far_next : (new : Summarized) → AllPairs ◌≢◌ old.categories → new.instance ≡ now.instance
@@ -278,16 +254,6 @@ facts_behind step i r at (g ∷ facts) more =
 pub taken_ok : (step : Step) (i : Instance) (at : ℕ) (f : Fact ℕ) (before after : List (View ℕ ℕ))
     → views_after_fact step i before f ≡ Ok after → Ok after ≡ fact_after step i at f (Ok before)
 taken_ok step i at f before after e =
-    sym (ap (λ (r : Result (List (View ℕ ℕ)) DeltaKind). elim r [
-      | Ok changed ↦ Ok changed
-      | Err k ↦ Err (record { at = at; kind = k })
-    ]) e)
-
--- a fault of the views is that of the fact
-pub taken_err : (step : Step) (i : Instance) (at : ℕ) (f : Fact ℕ) (before : List (View ℕ ℕ)) (k : DeltaKind)
-    → views_after_fact step i before f ≡ Err k
-    → Err (record { at = at; kind = k }) ≡ fact_after step i at f (Ok before)
-taken_err step i at f before k e =
     sym (ap (λ (r : Result (List (View ℕ ℕ)) DeltaKind). elim r [
       | Ok changed ↦ Ok changed
       | Err k ↦ Err (record { at = at; kind = k })

@@ -1,9 +1,7 @@
 -- Stored views that are changed fact by fact.
---     taken_none, taken_more        no fact, and one more
---     are_taken_none, are_taken_more, taken_since    the same between two times
 --     handed_out_after, after_text  what is handed out, and what comes of a text
 use Rattle.std.proofs.Common.{◌≡◌, ◌+◌, ◌∷◌, ◌++◌, [], List, length, refl, sym, ap, subst, ◌∙◌, arith, length-append}
-use Rattle.std.specs.Prelude.{ℕ, All, IfErr, IfOk, OnOk, Result, Ok, Err}
+use Rattle.std.specs.Prelude.{ℕ, All, IfErr, IfOk, Result, Ok, Err}
 use Rattle.olap_base.specs.Graph.{Graph}
 use Rattle.olap_base.specs.Instance.{Instance}
 use Rattle.olap_base.specs.Refusing.{IsRefusedBy}
@@ -121,11 +119,6 @@ handed_out_after by i views facts d h (Err e) ok sound order err =
     record { ok = tt; sound = tt; order = tt; err = subst (IsRefusedBy e) same err }
 
 -- ---- all that were read
-
--- what is so where a call isn't refused
-pub unless_refused : {E : Type 0} (r : Result Unit E) (P : Type 0) → ((e : E) → r ≡ Err e → ⊥) → OnOk r P → P
-unless_refused (Ok u) P n h = h
-unless_refused (Err e) P n h = absurd (n e refl)
 
 -- there is none, where the text or a fact is refused
 pub refused_all : (by : Change) (i : Instance) (views : List (View ℕ ℕ)) (all : Result (List (Fact ℕ)) (Fault FactKind))

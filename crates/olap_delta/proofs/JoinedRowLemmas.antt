@@ -1,7 +1,4 @@
 -- A row after values all at once, and one after another.
---     nothing_more, admits_nothing    no value
---     IsFirst, first_of               one value, and then the others
---     together                        some values, and then others
 use Rattle.std.proofs.Common.{◌≡◌, ℕ, ◌+◌, ◌-◌, ◌<◌, ◌≤◌, Bool, true, false, cond, ◌||◌, refl, sym, ap, ℤ, ◌+ℤ◌, ◌-ℤ◌, ◌<ℤ◌, Option, Some, None, w64, arith}
 use Rattle.std.specs.Prelude.{◌==◌, int_lt, nat_le, not, Result, Ok, Err}
 use Rattle.std.specs.Int.{int_min, int_max}

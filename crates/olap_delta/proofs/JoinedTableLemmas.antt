@@ -1,9 +1,4 @@
 -- A table to which lots are joined.
---     once_some, once_none           of a member that reaches one of a category, or none
---     joined_some, joined_none       its lot in that category
---     joined_start, joined_next      lot by lot
---     IsSoFar, so_far_start, so_far_next, so_far_all   category by category
---     table_changed                  what the lots make of the views is what their facts make of them
 use Rattle.std.proofs.Common.{◌≡◌, ◌≢◌, ◌+◌, ◌<◌, ◌≤◌, ℕ, List, [], ◌∷◌, ◌++◌, length, get_or, take, map, Bool, true, false, cond, refl, sym, ap, subst, ◌∙◌, inl, inr, Option, Some, None, arith}
 use Rattle.std.specs.Prelude.{All, AllPairs, Contains, ◌==◌, Ok}
 use Rattle.std.proofs.lemmas.Bool.Decides.{nat_tests}

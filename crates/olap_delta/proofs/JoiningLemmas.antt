@@ -1,7 +1,4 @@
 -- What lots make of the views of a table.
---     view_done, views_done     the views after one fact
---     all_taken                 the views after facts of which none could be refused
---     views_alike               the same views where the summaries are the same
 use Rattle.std.proofs.Common.{◌≡◌, ℕ, ◌+◌, List, [], ◌∷◌, map, Bool, true, false, cond, refl, sym, ap, subst, ◌∙◌, Option, Some, None, w64}
 use Rattle.std.specs.Prelude.{All, Contains, filter, ◌==◌, Result, Ok, Err}
 use mir.Val.{SFits}

@@ -1,7 +1,4 @@
 -- Facts of a list, taken one after another.
---     so_far, one_more, all_far   those before the k-th, one more, and all
---     is_at_member                the k-th is at a member
---     has_room, are_few           no more were taken than there are
 use Rattle.std.proofs.Common.{◌≡◌, ◌+◌, ◌<◌, ◌≤◌, ◌∷◌, ◌++◌, [], ℕ, List, All, length, length-take, get_or, map, take, ap, sym, subst, ◌∙◌, arith}
 use Rattle.std.proofs.lemmas.List.{length-map, length-take-le, map-append, take_all, take_more}
 use Rattle.olap_base.specs.Views.{Fact}

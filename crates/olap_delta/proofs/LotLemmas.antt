@@ -1,8 +1,4 @@
 -- Lots of facts.
---     lots_at-append    what they come to at a member, one lot more
---     IsTaken           for which facts they stand, one fact more
---     IsGrown, grown    a fact whose value is joined to its member's lot
---     IsBegun, begun    a fact whose member's lot begins
 use Rattle.std.proofs.Common.{◌≡◌, ℕ, zero, suc, ◌+◌, ◌<◌, ◌≤◌, List, [], ◌∷◌, ◌++◌, length, get_or, set, map, Bool, true, false, sym, ap, subst, ◌∙◌, ℤ, Option, Some, w64, arith, length-append}
 use Rattle.std.specs.Prelude.{All, Contains, int_lt}
 use mir.Val.{SFits}

@@ -1,7 +1,4 @@
 -- Steps and changes by the names of their faults.
---     append-named, retract-named   a step
---     step-named                    that of a change
---     change-named                  the views after facts
 use Rattle.std.proofs.Common.{◌≡◌, ◌∙◌, ◌+◌, ◌∷◌, ◌++◌, ap, ℕ, ℤ, Bool, true, false, cond, List, [], length, Option, Some, None, Result, Ok, Err, refl}
 use Rattle.std.specs.Prelude.{◌==◌, ◌||◌, ◌+ℤ◌, ◌-ℤ◌, find, int_lt, nat_le, not}
 use Rattle.std.specs.Ordering.{int_eq}

@@ -1,7 +1,4 @@
 -- What a value makes of the total of some values.
---     IsSmall             what is known of a stored total
---     appended_total      one value more
---     retracted_total     one value less
 use Rattle.std.proofs.Common.{◌≡◌, ◌≢◌, ℕ, ◌+◌, ◌-◌, ◌*◌, ◌^◌, ◌<◌, ◌≤◌, List, [], ◌∷◌, length, map, Bool, true, false, cond, ◌||◌, refl, sym, ap, subst, ◌∙◌, ℤ, pos, neg_ℤ, ◌+ℤ◌, ◌-ℤ◌, ◌≤ℤ◌, ◌<ℤ◌, Option, Some, None, IfSome, w64, arith}
 use Rattle.std.specs.Prelude.{All, ◌==◌, int_lt, nat_le, not, MatchResult, Ok, Err}
 use Rattle.std.specs.Int.{int_min, int_max}

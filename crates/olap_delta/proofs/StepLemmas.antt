@@ -1,9 +1,5 @@
 -- A step at a row that may be stored.
---     kept              what is there may be stored
---     small             no sum wraps
---     joined_storable, without_storable   what comes of it may be stored
 --     lot_small, lot_storable             a lot of values alone
---     lot_joined_storable, lot_less_storable   what comes of a lot at a row
 use Rattle.std.proofs.Common.{◌≡◌, ◌≢◌, ◌+◌, ◌-◌, ◌≤◌, true, subst, ℤ, ◌+ℤ◌, ◌-ℤ◌, Option, Some, IfSome, w64, arith}
 use Rattle.std.specs.Prelude.{int_lt}
 use Rattle.std.specs.Option.{option_map}
@@ -59,25 +55,6 @@ without_storable s v h e q = λ y. let few = (q y).few in let b = is-sum-fits (s
 }
 
 -- ---- a lot of values
-
--- no sum with a lot wraps
-pub lot_small : (s : Summary) → IsOfValues s.count s → s.count ≤ most_count → IsJoinable s
-lot_small s q h = let a = q.up_to.sum_from in let b = q.up_to.sum_to in record {
-  count = omega arith;
-  sum_from = omega (arith, ints);
-  sum_to = omega (arith, ints);
-}
-
--- a lot alone may be stored
-pub lot_storable : (s : Summary) → IsOfValues s.count s → s.count ≤ most_count → IsStorable s
-lot_storable s q h = λ y. let a = q.up_to.sum_from in let b = q.up_to.sum_to in record {
-  some = q.some;
-  few = h;
-  sum_from = omega (arith, ints);
-  sum_to = omega (arith, ints);
-  least = q.least;
-  greatest = q.greatest;
-}
 
 -- so may a row with a lot for which it has room
 pub lot_joined_storable : (s t : Summary) → IsStorable s → IsOfValues t.count t → s.count + t.count ≤ most_count

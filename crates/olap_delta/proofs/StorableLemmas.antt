@@ -1,7 +1,4 @@
 -- What stands at rows that may be stored.
---     rows_stored            at rows by member
---     table_storable         in a table whose views fit
---     table_sound            the views of such a table are a store of the instance
 use Rattle.std.proofs.Common.{◌≡◌, ◌≢◌, ◌<◌, ℕ, List, [], ◌∷◌, length, get_or, refl, sym, ap, subst, ◌∙◌, inl, inr, Option, Some, None, IfSome, arith}
 use Rattle.std.specs.Prelude.{All, AllPairs, Contains}
 use Rattle.std.specs.List.{cons_option}

@@ -1,6 +1,4 @@
 -- What facts make of stored views by the definition is what is made fact by fact.
---     stays       after a fault nothing changes
---     store_is    the views after facts, or the first fault
 use Rattle.std.proofs.Common.{◌≡◌, ◌+◌, ◌∷◌, ◌++◌, ◌∙◌, [], ℕ, List, Bool, true, false, cond, length, refl, ap, sym, Option, Some, None, Result, Ok, Err}
 use Rattle.std.specs.Prelude.{filter, find}
 use Rattle.olap_base.specs.Instance.{Instance}

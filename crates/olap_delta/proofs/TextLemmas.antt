@@ -1,7 +1,4 @@
 -- Stored views that change by the facts of a text that comes in pieces.
---     taken-more     a piece more
---     refused-by     a refusal is that of the text by what the changer reads against
---     all-after      the store after all facts of the text
 use Rattle.std.proofs.Common.{◌≡◌, ◌++◌, ◌∙◌, ℕ, List, ap, subst, sym}
 use Rattle.std.specs.Prelude.{Ok, Err, Result}
 use Rattle.olap_base.specs.Graph.{Graph}

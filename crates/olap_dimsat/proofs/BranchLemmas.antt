@@ -110,14 +110,6 @@ pairs_last xs y a k d h =
 
 -- ---- branches come
 
--- of no places there is none
-pub branches_none : (t : Task) (w : Frozen) (ss : List Step) → AreBranches t 0 w ss []
-branches_none t w ss = record {
-  ordered = λ i j d a b. absurd (omega arith);
-  each = λ k d h. absurd (omega arith);
-  rest = λ q h. absurd (omega arith);
-}
-
 -- a trail with more literals has the mark
 longer_mark : (ss ts : List Step) (k : ℕ) → IsLonger ss ts → k ≤ length ss → k ≤ length ts
 longer_mark ss ts k l h = let e = ap length l.1 in let n = length-append ss l.0 in omega arith

@@ -1,6 +1,4 @@
 -- What a search found, or didn't, once its names are there.
---     some_named    what it found
---     none_named    that it found none
 use Rattle.std.proofs.Common.{◌≡◌, ℕ, refl, subst, sym, ◌∙◌}
 use Rattle.std.specs.Prelude.{Option, Some, None, Result, Ok, Err, IfOk, IfSome, IsNone}
 use Rattle.olap_ast.specs.Formula.{Formula}

@@ -13,7 +13,7 @@ use Rattle.olap_names.specs.Names.{candidates_of}
 use Rattle.olap_names.proofs.OrderLemmas.{compare, not_both}
 use Rattle.olap_dimsat.specs.Following.{AreFirsts, AreMoreFirsts, HasLike, IsBeyond, IsFirstOf, IsNext, NoneBeyond}
 use Rattle.olap_dimsat.specs.Listed.{AreAllFrozen, AreMoreThan, IsBefore}
-use Rattle.olap_dimsat.specs.Pinned.{IsLeast, IsPlace, IsSame}
+use Rattle.olap_dimsat.specs.Pinned.{IsPlace, IsSame}
 use Rattle.olap_dimsat.specs.Shapes.{AreMoreShapes, AreShapes}
 use Rattle.olap_dimsat.specs.Tasks.{IsTask, Task, IsOne, graph_of, schema_of}
 use Rattle.olap_dimsat.proofs.FollowingLemmas.{Differ, code_one, differ, edges_same, same_code, same_edges, same_length}
@@ -122,24 +122,12 @@ all_push P xs y a p = All-append P xs (y ∷ []) a last
 contains_last : (xs : List Frozen) (y : Frozen) → Contains (xs ++ y ∷ []) y
 contains_last xs y = Contains-append_right xs (y ∷ []) y (contains_head y [])
 
--- the empty list is the front of all
-pub front_none : (t : Task) (n : ℕ) → IsFront t n []
-front_none t n = record { ordered = λ i j d a b. absurd (omega arith); sound = λ k d h. absurd (omega arith) }
-
 -- and with the one that comes next
 pub front_more : (t : Task) (n : ℕ) (list : List Frozen) (w : Frozen) → IsFront t n list → IsAhead t n list w
     → IsFront t n (list ++ w ∷ [])
 front_more t n list w f a = record {
   ordered = all_pairs_push (IsBeyond n) list w f.ordered a.beyond;
   sound = all_push (IsFirstOf t n) list w f.sound a.first;
-}
-
--- the least comes next after none
-pub ahead_first : (t : Task) (n : ℕ) (w : Frozen) → IsLeast t w → IsAhead t n [] w
-ahead_first t n w l = record {
-  first = record { one = l.is_one; least = λ f one s. l.least f one };
-  beyond = λ k d h. absurd (omega arith);
-  rest = λ f one. inr (l.least f one);
 }
 
 -- one that is as none of the list is as w, or beyond it

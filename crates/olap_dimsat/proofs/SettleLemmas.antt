@@ -1,5 +1,5 @@
 -- The least, place by place.
-use Rattle.std.proofs.Common.{◌≡◌, ◌≢◌, ℕ, zero, suc, ◌+◌, ◌-◌, ◌<◌, ◌≤◌, List, [], ◌∷◌, ◌++◌, length, map, take, Bool, true, false, cond, refl, ap, sym, subst, ◌∙◌, ◌⊎◌, inl, inr, arith, length-append, append_assoc}
+use Rattle.std.proofs.Common.{◌≡◌, ◌≢◌, ℕ, zero, suc, ◌+◌, ◌-◌, ◌<◌, ◌≤◌, List, [], ◌∷◌, ◌++◌, length, map, Bool, true, false, cond, refl, ap, sym, subst, ◌∙◌, ◌⊎◌, inl, inr, arith, length-append, append_assoc}
 use Rattle.std.specs.Prelude.{◌==◌, slice_index, slice_index_or}
 use Rattle.std.proofs.lemmas.List.{get_or-map, get_or_append_left, get_or-append_right, length-map}
 use Rattle.std.proofs.lemmas.List.Elements.{All-append}
@@ -334,18 +334,6 @@ least_of_places t w k one less = record {
 }
 
 -- ---- trails
-
--- the first of a longer trail are the trail
-pub take_longer : (old new : List Step) → IsLonger old new → take (length old) new ≡ old
-take_longer old new l = ap (take (length old)) l.1 ∙ front old l.0
-  where
-    front : (ss ts : List Step) → take (length ss) (ss ++ ts) ≡ ss
-    front [] ts = take_none ts
-      where
-        take_none : (ts : List Step) → take 0 ts ≡ []
-        take_none [] = refl
-        take_none (t ∷ ts) = refl
-    front (s ∷ ss) ts = ap (λ r. s ∷ r) (front ss ts)
 
 -- longer than what is longer
 pub longer_again : (a b c : List Step) → IsLonger a b → IsLonger b c → IsLonger a c

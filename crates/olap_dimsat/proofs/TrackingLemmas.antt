@@ -1,5 +1,4 @@
 -- Decisions that are so in each frozen dimension that agrees with a trail.
---     read_none, read_more    they come one by one
 --     present_joins           the edges that were decided present are present in it
 --     cycle_none              so none agrees where they close a cycle
 --     shortcut_none           or make a shortcut

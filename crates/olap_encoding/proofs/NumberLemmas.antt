@@ -1,8 +1,4 @@
 -- A comparison with the name of an index, by the names of all indexes.
---     AmongAt       the index is that of one of the first others, whose name compares as wanted
---     number_told   where the first name compares so, no other that doesn't is the one; else some other that does is
---     number_leading    where the first names do and no others, the name does up to an index
---     among_none, among_more    one place more
 use mathlib.Core.Bool.{beq}
 use Rattle.std.proofs.Common.{◌≡◌, ◌↔◌, ◌⊎◌, ◌∙◌, ℕ, ℤ, zero, suc, ◌+◌, ◌<◌, ◌≤◌, List, [], Bool, true, false, cond, not, length, get_or, refl, sym, ap, subst, inl, inr, arith}
 use Rattle.std.specs.Prelude.{IsTrue}

@@ -1,15 +1,14 @@
 -- Values of formulas: along a path, in a list, and as the truth in each shape that has what is known.
-use Rattle.std.proofs.Common.{◌≡◌, ◌+◌, ◌<◌, ◌∙◌, ◌∷◌, ◌++◌, ◌⊎◌, ◌↔◌, ◌&&◌, ◌||◌, ℕ, zero, suc, [], Bool, List, length, drop, get_or, not, ap, append_assoc, inl, inr, refl, sym, subst}
+use Rattle.std.proofs.Common.{◌≡◌, ◌+◌, ◌∙◌, ◌∷◌, ◌++◌, ◌⊎◌, ◌↔◌, ◌&&◌, ◌||◌, ℕ, zero, suc, [], Bool, List, not, ap, append_assoc, inl, inr, refl, sym, subst}
 use Rattle.std.specs.Prelude.{IsTrue}
 use Rattle.olap_base.specs.Instance.{Instance}
 use Rattle.olap_ast.specs.Formula.{Formula, Terms, Formula.Truth, Formula.Falsity, Formula.Path, Formula.Reach, Formula.Via, Formula.Equals, Formula.Compare, Formula.Not, Formula.And, Formula.Or, Formula.Implies, Formula.Iff, Formula.Xor, Formula.One, Terms.End, Terms.More, ExactlyOneHolds, HasPath, Holds, NoneHolds}
 use Rattle.olap_ast.specs.ThreeValues.{IsCount, iff, implies, unknown_count, value_of, value_of_both, value_of_counts, xor, yes_count}
 use Rattle.olap_ast.specs.declared.three_values.Truth3.{Truth3}
 use Rattle.olap_ast.specs.declared.three_values.Truth3.TheVariants.{No, Yes, Unknown}
-use Rattle.olap_base.specs.declared.ids.CatId.{CatId}
 use Rattle.olap_eval.specs.Partial.{Agrees, Completes, Knowledge, ValuesAreTruths, value_along, value_at, values_of}
 use Rattle.olap_eval.specs.Shapes.{IsShape, HasEdgeThere}
-use Rattle.olap_eval.proofs.ShapeLemmas.{named_is, numbered_is, nowhere, numbers, path_from, path_none, path_to, reach_is, rest_is, via_is}
+use Rattle.olap_eval.proofs.ShapeLemmas.{named_is, numbered_is, numbers, path_from, path_none, path_to, reach_is, via_is}
 
 -- ---- along a path
 
@@ -23,46 +22,9 @@ and_yes No = refl
 and_yes Yes = refl
 and_yes Unknown = refl
 
--- nor with what is true after
-pub yes_and : (x : Truth3) → and x Yes ≡ x
-yes_and No = refl
-yes_and Yes = refl
-yes_and Unknown = refl
-
--- with what is false in front it is false
-no_and : (x : Truth3) → and No x ≡ No
-no_and No = refl
-no_and Yes = refl
-no_and Unknown = refl
-
--- it may be grouped either way
-and_and : (x y z : Truth3) → and (and x y) z ≡ and x (and y z)
-and_and No y z = ap (λ v. and v z) (no_and y) ∙ no_and z ∙ sym (no_and (and y z))
-and_and Yes y z = ap (λ v. and v z) (and_yes y) ∙ sym (and_yes (and y z))
-and_and Unknown No No = refl
-and_and Unknown No Yes = refl
-and_and Unknown No Unknown = refl
-and_and Unknown Yes No = refl
-and_and Unknown Yes Yes = refl
-and_and Unknown Yes Unknown = refl
-and_and Unknown Unknown No = refl
-and_and Unknown Unknown Yes = refl
-and_and Unknown Unknown Unknown = refl
-
 -- the value so far, and what is left of the path
 pub along_start : (k : Knowledge) (c : ℕ) (cs : List ℕ) → and Yes (value_along k c cs) ≡ value_along k c cs
 along_start k c cs = and_yes (value_along k c cs)
-
--- one edge more of a path: the value so far and that of the rest are the whole
-pub along_next : (k : Knowledge) (c d : ℕ) (v w whole : Truth3) (cs : List CatId) (j : ℕ) → j < length cs
-    → d ≡ (get_or cs j nowhere).0 → w ≡ and v (k.edge c d)
-    → and v (value_along k c (numbers (drop j cs))) ≡ whole
-    → and w (value_along k d (numbers (drop (j + 1) cs))) ≡ whole
-along_next k c d v w whole cs j h e q f =
-    let rest = numbers (drop (j + 1) cs) in
-    ap (λ x. and x (value_along k d rest)) q ∙ and_and v (k.edge c d) (value_along k d rest)
-    ∙ ap (λ x. and v (and (k.edge c x) (value_along k x rest))) e
-    ∙ ap (λ l. and v (value_along k c l)) (sym (rest_is cs j h)) ∙ f
 
 -- ---- what is known, and what is so
 

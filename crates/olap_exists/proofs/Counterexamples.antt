@@ -1,6 +1,4 @@
 -- A target is summarizable, or some bottom category is the first with a frozen dimension that shows the contrary.
---     dec_bottom               whether a category is a bottom category
---     dec_none                 whether a root has no frozen dimension
 --     counterexamples_exist    the law
 use Rattle.std.proofs.Common.{◌≡◌, ℕ, ◌+◌, List, length, refl, subst, inl, inr, arith}
 use Rattle.std.specs.Prelude.{◌⊎◌, Contains}

@@ -1,7 +1,5 @@
 -- The findings of a valid schema are listed: whether something is a finding can be decided, and their ranks are lists
 -- of two numbers below a bound.
---     truth_kinds       a valid schema asks of each category what it may be asked
---     findings_exist    the law
 use Rattle.std.proofs.Common.{◌≡◌, ℕ, zero, suc, ◌+◌, ◌<◌, List, [], ◌∷◌, length, map, take, drop, Option, Some, None, refl, ap, sym, subst, ◌∙◌, inl, inr, arith}
 use Rattle.std.specs.Prelude.{Contains, remove, slice_get}
 use native.Mathlib.Decide.{ℕ_discrete, dec_lt}

@@ -1,7 +1,4 @@
 -- All lists of numbers, and all frozen dimensions, with a property that can be decided, in order.
---     Ordered       each element is before each later one
---     AreListed     exactly the things with a property, in an order
---     all_lists     the lists of this many small numbers with a property are listed
 use Rattle.std.proofs.Common.{◌≡◌, ℕ, zero, suc, ◌+◌, ◌<◌, ◌≤◌, List, [], ◌∷◌, ◌++◌, map, get_or, refl, sym, subst, inl, inr, arith}
 use Rattle.std.specs.Prelude.{◌⊎◌, ◌≢◌, AllPairs, Contains}
 use Rattle.std.proofs.lemmas.List.Elements.{Contains-get_or}

@@ -1,9 +1,6 @@
 -- A reader of facts after a part of a piece, and at the end of its text.
---     stands-on          a record more, or none
---     whole-is           a text in two parts
 --     no-cut, one-cut    what the splitter says of the rest of a piece
 --     last-taken         the last record, which the text's end ends
---     on-members         the facts of a table stand at members
 use Rattle.std.proofs.Common.{◌≡◌, ◌<◌, ◌+◌, ◌-◌, ◌∷◌, ◌++◌, ◌∙◌, Bool, true, false, ℕ, List, [], Option, None, Some, length, map, take, drop, refl, sym, ap, subst, append_assoc, take-add}
 use Rattle.std.specs.Prelude.{All, MatchOption, MatchResult, OnOk, Result, Ok, Err, ⊤}
 use Rattle.std.proofs.lemmas.List.{append-nil, take-append-drop}

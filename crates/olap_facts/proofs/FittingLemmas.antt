@@ -1,6 +1,4 @@
 -- What is read has 64 bits.
---     value-fits       a value that is spelled has 64 bits
---     read-facts-fit   so have the values of the facts that are read
 use Rattle.std.proofs.Common.{◌≡◌, ℕ, ℤ, pos, List, [], ◌∷◌, Bool, true, false, cond, map, Option, None, Some, refl, subst, w64}
 use Rattle.std.specs.Prelude.{◌&&◌, All, FitsSigned, Ok, Err, drop, unwrap_or}
 use Rattle.std.specs.Str.Parse.{signed_digits_value, without_leading_sign}

@@ -1,8 +1,4 @@
 -- What is read of a text of facts is what it means.
---     value-named    the fault of a value, by its name, or else the value
---     member-named   that of a member, or else what comes of the member
---     facts-named    a text of facts
---     meant-facts    the facts of a text that has no fault
 use Rattle.std.proofs.Common.{◌≡◌, ◌∙◌, ap, ℕ, ℤ, pos, Bool, true, false, cond, List, [], length, map, Option, Some, None, Result, Ok, refl}
 use Rattle.std.specs.Prelude.{◌==◌, Err, codes, is_none, nat_le, not, unwrap_or}
 use Rattle.std.specs.Option.{option_map}

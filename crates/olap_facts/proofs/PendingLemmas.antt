@@ -1,9 +1,4 @@
 -- Records that were cut, and then looked up one after the other.
---     cut-none-yet, cut-more, cut-end   no record, one more, and none in the rest of a piece
---     id-at, told-at                    what is pending of the k-th record
---     settled-more, settled-fault       the k-th record is a fact, or has a fault
---     settled-none, settled-all         no record was looked up yet, or all were
---     cut-taken                         a lot more was taken of a piece
 use Rattle.std.proofs.Common.{◌≡◌, ◌<◌, ◌+◌, ◌∷◌, ◌++◌, ◌∙◌, true, ℕ, List, [], None, Some, length, map, take, drop, get_or, refl, sym, ap, subst, append_assoc, take-add, arith}
 use Rattle.std.specs.Prelude.{Err}
 use Rattle.std.proofs.lemmas.List.{append-nil, get_or-map, length-map, map-append, take_all, take_more, take-append-drop}

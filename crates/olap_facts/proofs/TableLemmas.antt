@@ -5,13 +5,9 @@ use Rattle.std.proofs.lemmas.List.Elements.{Contains-get_or, Contains-push_cases
 use Rattle.olap_base.specs.Graph.{Graph, IsBottom}
 use Rattle.olap_base.specs.Instance.{Instance, IsMember, category_of}
 use Rattle.olap_base.specs.Views.{Fact, IsFactTable}
-use Rattle.olap_base.proofs.ListLemmas.{Contains-map, Contains-nil}
+use Rattle.olap_base.proofs.ListLemmas.{Contains-map}
 use Rattle.olap_facts.specs.Seen.{fact_of}
 use Rattle.olap_facts.specs.declared.tables.Fact as told
-
--- no facts are a fact table
-pub table-none : (g : Graph) (i : Instance) → IsFactTable g i []
-table-none g i f c = absurd (Contains-nil f c)
 
 -- one fact more at a member of a bottom category
 pub table-more : (g : Graph) (i : Instance) (fs : List (Fact ℕ)) (f : Fact ℕ) → IsFactTable g i fs → IsMember i f.at

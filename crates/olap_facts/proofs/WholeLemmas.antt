@@ -1,8 +1,4 @@
 -- A whole text that is read as one piece.
---     read-by         what the text stands for, by what the reader reads against
---     refused-whole   a refusal of the piece is that of the text
---     IsListed        the list has the facts of the piece, and then the last
---     last-listed, none-listed   the last is listed, or there is none
 use Rattle.std.proofs.Common.{◌≡◌, ◌<◌, ◌∷◌, ◌++◌, ◌∙◌, ℕ, List, [], Option, None, Some, length, map, refl, sym, ap, subst}
 use Rattle.std.specs.Prelude.{Result}
 use Rattle.std.proofs.lemmas.List.{append-nil, map-append}

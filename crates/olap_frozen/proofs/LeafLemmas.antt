@@ -128,13 +128,6 @@ module _ {W : ℕ} (g : Graph) (k : Named) (r : ℕ) (bits : List Bool) (names :
         λ t. i.1 (subst (λ w. IsNumbered w op n) e t.1),
       )
 
--- an absent category has nothing
-pub absent_there : {A : Type 0} (b : Bool) → b ≡ false → (A → b ≡ true) → IsTrue false ↔ A
-absent_there {A} b f g = (λ e. absurd (cc), λ a. absurd (no b f (g a)))
-  where
-    no : (b : Bool) → b ≡ false → b ≡ true → ⊥
-    no b f t = absurd (let z : false ≡ true = sym f ∙ t in cc)
-
 -- ---- the name of an index
 
 -- the text of an index is one of the names

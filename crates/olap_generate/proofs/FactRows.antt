@@ -1,7 +1,4 @@
 -- The records of the made facts' text: they have no fault and stand for the facts.
---     fact_rows_stand       what they stand for
---     facts_made            the facts are a fact table: each stands at a store
---     fact_rows_read_back   their text reads back, since each record has a field and the first byte is no mark's
 use Rattle.std.proofs.Common.{◌≡◌, ◌≢◌, ◌+◌, ◌-◌, ◌<◌, ◌≤◌, ◌^◌, ◌==◌, ◌∙◌, Bool, true, false, cond, ℕ, ℤ, pos, negsuc, suc, List, [], length, map, take, drop, get_or, slice_index, ltb, Some, None, Ok, refl, sym, ap, subst, arith}
 use Rattle.std.specs.Prelude.{All, nat_le}
 use Rattle.std.specs.Cmp.Lexicographic.{pointwise}

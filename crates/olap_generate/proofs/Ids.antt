@@ -1,8 +1,5 @@
 -- The ids of the made members: each is a short ASCII text, and tells the member's place.
---     place_told       the place that an id tells
 --     told_by_number   a letter and a number tell a place of the letter's group
---     numbered_id      a letter and a number may be an id
---     worded_id        a short ASCII word may be one
 use Rattle.std.proofs.Common.{◌≡◌, ◌≢◌, ◌+◌, ◌-◌, ◌<◌, ◌^◌, ◌==◌, ◌∷◌, true, false, ℕ, zero, suc, List, [], length, decimal, refl, arith, ◌≤◌, ne_eqb, lt-ltb, ltb-true}
 use Rattle.std.specs.Prelude.{if◌then◌else◌, nat_lt, slice_index}
 use Rattle.std.specs.List.{list_all, list_any}

@@ -1,5 +1,4 @@
 -- What the counts and the sums of rows come to, row by row.
---     no_row                 what stands in no place of a list of rows
 --     next_count, next_sum   the bounds of the next row's numbers
 use Rattle.std.proofs.Common.{ℕ, pos, neg_ℤ, ◌<◌, ◌≤◌, ◌≤ℤ◌, List, length, get_or}
 use Rattle.std.specs.Prelude.{All}

@@ -1,7 +1,4 @@
 -- The schema that the text of the made input stands for.
---     location_schema      the schema
---     location_falls       each edge leads to a category of a lower rank
---     bottom_is_store      the stores' category is the only bottom category
 use Rattle.std.proofs.Common.{◌≡◌, ◌==◌, ◌||◌, ◌<◌, ◌↔◌, ℕ, zero, suc, Bool, true, false, not, [], ◌∷◌, refl, sym, subst, arith, codes, nat_lt, slice_index_or}
 use Rattle.std.specs.List.{list_all}
 use Rattle.std.proofs.lemmas.List.Sums.{AllPass-from_list_all}

@@ -1,6 +1,5 @@
 -- The graph of the made input is a hierarchy.
 --     store_is ..             each category's name is a name
---     location_is_hierarchy   names and edges differ, and each category reaches `All`
 use Rattle.std.proofs.Common.{◌≡◌, ◌==◌, ◌&&◌, ◌+◌, ◌*◌, ◌<◌, ◌≤◌, ◌++◌, ℕ, zero, suc, Bool, true, not, List, [], ◌∷◌, All, Contains, map, codes, refl, ap, subst, arith, nat_le, nat_lt, slice_index_or, inl, inr, lit≤}
 use Rattle.std.specs.Prelude.{◌≢◌, slice_index}
 use Rattle.std.specs.List.{list_all, list_any}

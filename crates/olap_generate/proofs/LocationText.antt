@@ -1,6 +1,4 @@
 -- The text of the made input's schema stands for its schema.
---     above, Follow      what the first lines say, and that each line adds what it says
---     location_is_read   the whole text
 use Rattle.std.proofs.Common.{◌≡◌, ◌<◌, ◌++◌, ◌∙◌, ◌+◌, ◌-◌, ℕ, zero, suc, true, List, [], ◌∷◌, None, Some, Ok, Err, Result, codes, take, drop, length, refl, ap, arith, lit<}
 use Rattle.std.specs.Prelude.{slice_index}
 use Rattle.std.specs.Str.{chars, is_utf8}

@@ -1,6 +1,5 @@
 -- The made texts as the readers meet them: they have no fault, and stand for one schema, one instance and one fact
 -- table.
---     only_one, no_fault                                      what a text stands for is one thing, and no fault
 --     schema_faultless, members_faultless, facts_faultless    a made text has no fault
 --     members_unbroken                                        the made instance breaks no law and no constraint
 --     members_made, views_made                                what has been made, from what the readers answer

@@ -1,7 +1,4 @@
 -- Instances in which no member has two parents, over a graph whose edges all lead to a lower rank.
---     IsUnder            a member, its one parent, and their categories
---     lawful_if_placed   such an instance is lawful where each member but `all` stands one edge below its parent
---     named_once         what a member of a lawful instance reaches in a category has one name
 use Rattle.std.proofs.Common.{◌≡◌, ◌<◌, ◌≤◌, ◌⊎◌, inl, inr, ℕ, List, [], ◌∷◌, map, ap, sym, subst, ◌∙◌, arith}
 use Rattle.std.specs.Prelude.{◌≢◌, Contains}
 use Rattle.olap_base.specs.Chains.{IsChain}

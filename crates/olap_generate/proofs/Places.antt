@@ -1,7 +1,5 @@
 -- Which member stands at each place of the made instance, and that there are no other places.
---     length_made      how many members there are
 --     at_store ..      the member at a place of a group, by the group
---     Place, place     each place is one of a group's
 use Rattle.std.proofs.Common.{◌≡◌, ◌+◌, ◌*◌, ◌-◌, ◌<◌, ◌≤◌, ◌++◌, ◌∙◌, ◌⊎◌, ℕ, List, length, map, codes, refl, sym, ap, subst, arith, inl, inr}
 use Rattle.std.specs.List.{range_with_len}
 use Rattle.std.proofs.lemmas.List.{append_assoc, length-append, get_or_append_left, get_or-append-add}

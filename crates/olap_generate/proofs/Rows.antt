@@ -1,7 +1,4 @@
 -- The records of the made instance's text: they are the records of the instance, so they stand for it.
---     rows_are         the records, as an instance is printed
---     rows_stand       what they stand for
---     rows_read_back   their text reads back, since each record has a field and the first byte is no mark's
 use Rattle.std.proofs.Common.{◌≡◌, ◌≢◌, ◌+◌, ◌*◌, ◌-◌, ◌/◌, ◌%◌, ◌<◌, ◌≤◌, ◌==◌, ◌++◌, ◌∷◌, ◌∙◌, Bool, true, false, cond, ℕ, zero, suc, List, [], length, map, codes, slice_index, Ok, refl, sym, ap, subst, arith}
 use Rattle.std.specs.Prelude.{All}
 use Rattle.std.specs.List.{range_with_len}

@@ -1,5 +1,4 @@
 -- The made members are a dimension instance within the limits, with texts that a file can hold.
---     IsSoundAt        what is true of the member at a place
 --     sound_instance   ids and parents differ, parents are members, and `all` is the last
 use Rattle.std.proofs.Common.{◌≡◌, ◌≢◌, ◌+◌, ◌*◌, ◌/◌, ◌%◌, ◌<◌, ◌≤◌, ◌^◌, ◌==◌, ◌∷◌, ◌∙◌, ◌↔◌, ◌⊎◌, Bool, true, false, cond, ℕ, suc, List, [], length, codes, decimal, refl, sym, ap, subst, arith, inl, inr, mod-lt}
 use Rattle.std.specs.Prelude.{AllPairs, Contains}

@@ -1,9 +1,6 @@
 -- The views that are stored of the made facts, and what is answered from them.
 --     views_categories, views_members   the views are of categories of the schema, at members
 --     store_faultless, store_made       they are read as they were printed
---     city_serves                       the cities alone serve the regions
---     regions_fit, few_rows             the rows of the regions
---     generated                         the lines
 use Rattle.std.proofs.Common.{◌≡◌, ◌≢◌, ℕ, suc, ◌<◌, ◌≤◌, ◌^◌, ◌-◌, List, [], ◌∷◌, ◌++◌, codes, decimal, sum_by, length, get_or, Option, None, Some, Ok, Err, ap, arith, lit<, subst, sym, w64, ◌∙◌}
 use Rattle.std.specs.Prelude.{◌==◌, All, AllPairs, filter_map}
 use mir.Val.{SFits}

@@ -1,9 +1,4 @@
 -- The texts of records that are numbered, one record after the other.
---     rows_more     one record more
---     header_first  the first record
---     groups_more   the records of one group more
---     all_groups    the records of all members
---     same_row      a record that is known field by field
 use Rattle.std.proofs.Common.{◌≡◌, ℕ, zero, suc, ◌+◌, ◌*◌, arith, List, [], ◌∷◌, ◌++◌, ap, map, sym, ◌∙◌, append_assoc}
 use Rattle.std.specs.List.{range_with_len}
 use Rattle.std.proofs.lemmas.List.{append-nil, map-append}

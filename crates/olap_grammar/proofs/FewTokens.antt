@@ -1,5 +1,4 @@
 -- A formula that never opens too many brackets has few tokens for its nodes.
---     few_tokens     no more than `most_tokens` of its nodes
 use Rattle.std.proofs.Common.{◌≡◌, ◌≤◌, ◌+◌, ◌*◌, ◌++◌, ◌∷◌, ◌∙◌, ℕ, zero, suc, false, List, [], length, refl, sym, ap, subst, arith, append_assoc, append-nil}
 use Rattle.std.proofs.Math.Nat.{add-mul, mul-add}
 use Rattle.std.proofs.lemmas.List.{length-append}

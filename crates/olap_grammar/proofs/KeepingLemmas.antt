@@ -1,7 +1,5 @@
 -- The cutter that keeps the first tokens, against the one that keeps all.
 --     kept-is     it keeps of a line what is kept of its tokens
---     begins      what is kept of tokens begins them
---     found, same-most, fails     what a call's clause says
 use Rattle.std.proofs.Common.{◌≡◌, ◌≤◌, ◌<◌, ◌==◌, ◌++◌, ◌∷◌, ◌∙◌, ◌&&◌, if◌then◌else◌, Bool, true, false, ℕ, List, [], cond, length, nat_lt, Option, Some, None, refl, sym, ap, subst, arith, append_assoc, append-nil}
 use Rattle.std.specs.List.{fold}
 use Rattle.std.specs.Option.{option_map}

@@ -1,7 +1,4 @@
 -- The longest mark is the one after which none goes on.
---     longest      if none goes on, no mark that is longer begins there
---     ends_of      and none goes on where no longer one begins
---     cut_mark     so a line is cut after a mark after which none goes on
 use Rattle.std.proofs.Common.{◌≡◌, ◌==◌, ◌≤◌, ℕ, Bool, true, false, List, [], ◌∷◌, ◌++◌, length, drop, get_or, refl, sym, ap, subst, arith}
 use Rattle.olap_grammar.specs.Cutting.{IsCut, IsLongest, IsMarkIn, mark_bytes, marked}
 use Rattle.olap_grammar.specs.Longest.{EndsDash, EndsLess, EndsMark}

@@ -1,6 +1,4 @@
 -- Brackets of a line: no more than its bytes.
---     after_word, after_signed, after_less_mark    what is no bracket adds none
---     still_room                                   a byte is one bracket at most
 use Rattle.std.proofs.Common.{◌≡◌, ◌≤◌, ◌+◌, ◌&&◌, ◌∷◌, ◌++◌, ◌∙◌, ap, cond, ℕ, suc, Bool, true, false, not, nat_lt, List, [], Option, Some, None, refl, arith, length}
 use Rattle.std.specs.Prelude.{◌==◌}
 use Rattle.std.specs.Char.{is_ascii_digit}

@@ -76,11 +76,6 @@ loosened a k n f s b l r =
 abbrev pub IsReached : Atoms Form → ℕ → Form × List (Frame Form) → List Token → Type 0
 IsReached a n (f, s) b = Reached a n f s b × IsSettled n s
 
--- by the test one number is at most the other, or more
-le_or_above : (m n : ℕ) (b : Bool) → nat_le m n ≡ b → Type 0
-le_or_above m n true e = m ≤ n
-le_or_above m n false e = n < m
-
 -- more, by the test
 false_lt : (m n : ℕ) → nat_le m n ≡ false → n < m
 false_lt m n e = grind (arith)

@@ -1,5 +1,4 @@
 -- What is counted of tokens, gone over from the left, is so of all of them.
---     tally_is      the nodes that are counted, and whether too many brackets are open
 use Rattle.std.proofs.Common.{◌≡◌, ◌≤◌, ◌<◌, ◌+◌, ◌-◌, ◌∷◌, ◌∙◌, ◌||◌, ◌&&◌, Bool, true, false, not, cond, ℕ, List, [], nat_lt, refl, ap, arith}
 use Rattle.std.specs.List.{fold}
 use Rattle.std.proofs.lemmas.Bool.{ltb-false, ltb-true}

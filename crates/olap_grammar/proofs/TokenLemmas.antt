@@ -1,6 +1,4 @@
 -- Nodes and open brackets, token by token.
---     Adds    after these tokens nodes are counted as by themselves
---     Goes    after some tokens this many more brackets may be opened
 use Rattle.std.proofs.Common.{◌≡◌, ◌+◌, ◌++◌, ◌∷◌, ℕ, zero, suc, Bool, true, false, cond, List, [], nat_lt, Some, refl, arith}
 use Rattle.std.proofs.lemmas.Bool.{ltb-false}
 use Rattle.olap_numerals.specs.Comparing.{Op}

@@ -1,7 +1,4 @@
 -- The first place in a list at which a test passes, and what it says of names and edges.
---     found      what is found passes the test
---     missing    where nothing is found, nothing passes
---     first_at   what passes where nothing before it does is found
 use Rattle.std.proofs.Common.{◌≡◌, ℕ, zero, suc, ◌+◌, ◌<◌, List, [], ◌∷◌, length, get_or, Bool, true, false, cond, Option, Some, None, refl, sym, ap, ◌∙◌, inl, inr, subst, arith}
 use Rattle.std.specs.Prelude.{Contains, ◌==◌, IsSome, IfSome, is_some, ◌↔◌}
 use Rattle.std.specs.Bool.{Decides}

@@ -3,7 +3,7 @@ use Rattle.std.proofs.Common.{◌≡◌, ◌≢◌, ℕ, zero, suc, ◌+◌, ◌
 use Rattle.std.specs.Prelude.{All, Contains, IsTrue, filter}
 use Rattle.std.specs.FinSet.{contains}
 use Rattle.std.specs.List.{range_with_len}
-use Rattle.std.proofs.lemmas.List.{get_or-map, get_or_default, length-map, map_push, map-id}
+use Rattle.std.proofs.lemmas.List.{get_or-map, get_or_default, map_push, map-id}
 use Rattle.std.proofs.lemmas.List.Elements.{Contains-get_or, filter-append}
 use Rattle.std.proofs.lemmas.List.FromFn.{map-range_with_len_more}
 use native.Mathlib.Decide.{ℕ_discrete}
@@ -159,14 +159,6 @@ pub parent_read : (ends : List Ends) (out : List EdgeId) (k r p : ℕ) → k < l
     → p ≡ (get_or ends r nowhere).parent.0 → get_or (parents_of (drawn ends) out) k 0 ≡ p
 parent_read ends out k r p h w e q =
     parent_at ends out k no_edge h (w k no_edge h) ∙ ap (λ i. (get_or ends i nowhere).parent.0) (sym e) ∙ sym q
-
--- so what holds of all the parents holds of that
-pub parent_within : (ends : List Ends) (out : List EdgeId) (k r p m : ℕ) → k < length out
-    → All (λ e. e.0 < length ends) out → r ≡ (get_or out k no_edge).0
-    → p ≡ (get_or ends r nowhere).parent.0 → All (λ x. x < m) (parents_of (drawn ends) out) → p < m
-parent_within ends out k r p m h w e q a =
-    let l = length-map out (λ (e : EdgeId). (edge_at (drawn ends) e.0).parent) in
-    subst (λ x. x < m) (parent_read ends out k r p h w e q) (a k 0 (omega arith))
 
 -- ---- the bottom categories
 

@@ -1,11 +1,7 @@
 -- The parents of one field more, and of records whose fields they are.
---     parents-more     one list more of parents
 --     linked-seen      one field more has no fault
 --     linked-parents   its parents are the last list
---     linked-below     the next member's mark is above all stamps
 --     linked-fault     its fault is the first
---     fields-pass      all fields have passed
---     of-records       what is found of the fields is found of their records
 use Rattle.std.proofs.Common.{◌≡◌, ◌<◌, ◌+◌, ◌++◌, ◌∷◌, ◌∙◌, ℕ, suc, List, [], drop, get_or, length, map, take, Option, None, Ok, Err, Result, refl, sym, ap, arith}
 use Rattle.std.specs.Prelude.{MatchResult}
 use Rattle.std.proofs.Math.Seq.{drop-cons, drop-length}

@@ -1,9 +1,5 @@
 -- Lists that stand in one list: one more, one more item, and the list at a place.
---     ascending-at    a list begins no later than it ends
 --     count-lists     there are as many lists as places where one begins
---     list-at         the list at a place
---     lists-begin     one more place, at the end of the items, begins an empty list
---     lists-more      more items are the last list's
 use Rattle.std.proofs.Common.{◌≡◌, ◌≤◌, ◌<◌, ◌+◌, ◌-◌, ◌++◌, ◌∷◌, ◌∙◌, ℕ, zero, suc, List, [], length, get_or, take, drop, refl, ap, arith}
 use Rattle.std.specs.List.{slice_range}
 use Rattle.std.proofs.lemmas.List.{drop-append-le, length-append, length-drop, take-append-le}

@@ -1,6 +1,4 @@
 -- What is read of a text of an instance is what it means.
---     instance-named   a text
---     meant-instance   the instance of a text that has no fault
 use Rattle.std.proofs.Common.{◌≡◌, ◌∙◌, ◌+◌, ◌∷◌, ◌++◌, ap, ℕ, Bool, cond, List, [], length, map, Option, Some, None, Result, Ok, refl}
 use Rattle.std.specs.Prelude.{◌==◌, ◌||◌, Err, codes, nat_le, not, zip}
 use Rattle.std.specs.List.{list_any}

@@ -1,6 +1,4 @@
 -- What the pieces of a field so far have given.
---     places-more     one piece more
---     passed-all      all of them
 use Rattle.std.proofs.Common.{◌≡◌, ◌++◌, ◌∷◌, ◌∙◌, ℕ, List, [], map, Some, sym, ap}
 use Rattle.std.specs.Option.{option_map}
 use Rattle.std.proofs.lemmas.List.{map-append}

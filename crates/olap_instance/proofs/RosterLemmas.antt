@@ -2,8 +2,6 @@
 --     count-is      how many members there are
 --     ids-are       the members' ids
 --     member-is     a member has what stands at its place
---     place-is      where an id is found is its member's place
---     new-last      a new id goes last
 --     kept-more     an id, a category and a name more keep what a roster keeps
 --     members-more  and they are a member more
 use Rattle.std.proofs.Common.{◌≡◌, ◌<◌, ◌^◌, ◌∷◌, ◌++◌, ◌∙◌, ℕ, zero, suc, List, [], None, get_or, map, length, refl, ap, sym, arith}

@@ -9,7 +9,7 @@ use Rattle.olap_base.specs.Graph.{Graph}
 use Rattle.olap_base.specs.Instance.{Instance, category_of}
 use Rattle.olap_base.specs.Steps.{Steps-from_reaches, reaches_from_Steps}
 use Rattle.olap_legal.specs.Joining.{IsEither}
-use Rattle.olap_legal.specs.Laying.{AreDistinct, AreStarts, IsLaid, cell}
+use Rattle.olap_legal.specs.Laying.{AreStarts, IsLaid, cell}
 use Rattle.olap_legal.specs.Rows.{none, IsBounded, AreLinked}
 use Rattle.olap_legal.specs.Slots.{AreListed, IsOrdered, IsSlots, count_of, no_slot, order_of, slot_of}
 use Rattle.olap_legal.specs.declared.slots.Slots.{Slots}
@@ -147,22 +147,6 @@ module _ {i : Instance} {n x : ℕ} (t : Table) (v : IsLaid i n t) (h : x < leng
             cell_present d f ∙ ap (λ w. get_or w k 0) e
             ∙ get_or-replicate m k none 0 (subst (λ w. k < w) size room)
       ]
-
-  -- no category stands in two slots
-  pub reached_distinct : (reached : List ℕ) → length reached ≡ count_of t.slots (category_of i x)
-      → ((k : ℕ) → k < length reached → get_or reached k 0 ≡ order_of n t.slots (category_of i x) k)
-      → AreDistinct reached
-  reached_distinct reached size each j k a b e =
-      let p = row_ordered.placed j (subst (λ w. j < w) size a) in
-      let q = row_ordered.placed k (subst (λ w. k < w) size b) in
-      sym p.1 ∙ ap (slot_of n t.slots (category_of i x)) (sym (each j a) ∙ e ∙ each k b) ∙ q.1
-
-  -- each is one of the categories
-  pub reached_within : (reached : List ℕ) → length reached ≡ count_of t.slots (category_of i x)
-      → ((k : ℕ) → k < length reached → get_or reached k 0 ≡ order_of n t.slots (category_of i x) k)
-      → (k : ℕ) → k < length reached → get_or reached k 0 < n
-  reached_within reached size each k a =
-      subst (λ w. w < n) (sym (each k a)) (row_ordered.placed k (subst (λ w. k < w) size a)).0
 
   -- nothing joined is the same
   either_none : (one here other : ℕ) → here ≡ one → other ≡ none → IsEither one other here

@@ -117,7 +117,3 @@ ancestor_of i n x c y table t h m = record {
   reached = m.1;
   only = λ w w_is r. only_one i n x c y w table t h m.0 m.1 w_is r;
 }
-
--- past the categories there is no member
-pub no_ancestor : (i : Instance) (n x c : ℕ) → IsBounded i n → n ≤ c → ReachesCategory i x c → ⊥
-no_ancestor i n x c bounded h r = let m = bounded.categories r.0 r.1.0 in let e = r.1.1 in omega (arith, m, e)

@@ -1,6 +1,4 @@
 -- The names of a valid schema and a question.
---     can_be_named    where the constraints and the question are of the graph, and the constants few, they can be named
---     valid_named     so they can where the schema and the question are valid
 use Rattle.std.proofs.Common.{ℕ, ◌<◌, ◌≤◌, List, subst}
 use Rattle.olap_base.specs.Graph.{Graph, category_count}
 use Rattle.olap_base.specs.Limits.{most_constants}

@@ -1,9 +1,4 @@
 -- The numbers that a category's names are made of: the same for the same constants, and no more than there is room for.
---     few_numbers           a category has no more numbers than there are pairs
---     representatives_too   the same constants have the same representatives
---     few_representatives   there are at most two for each constant, and one more
---     some_representative   and there is one
---     spelled_is            the first numeral and the others
 use Rattle.std.proofs.Common.{◌≡◌, ◌⊎◌, ◌↔◌, ◌+◌, ◌*◌, ◌<◌, ◌≤◌, ℕ, ℤ, pos, ◌+ℤ◌, ◌<ℤ◌, List, [], ◌∷◌, ◌++◌, length, get_or, map, drop, true, Option, Some, None, refl, ap, sym, subst, inl, inr, arith}
 use Rattle.std.specs.Prelude.{AllPairs, Contains, ◌==◌}
 use Rattle.std.specs.Ordering.{int_eq}

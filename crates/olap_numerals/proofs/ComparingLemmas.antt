@@ -1,9 +1,6 @@
 -- What the tests of comparisons say.
---     lt_is           `int_lt`, of two numbers
---     within_is       of a number and bounds
---     of_number       of a text that spells a number
 --     of_no_number    of a text that spells none
-use Rattle.std.proofs.Common.{◌≡◌, ◌↔◌, ℤ, List, ℕ, Bool, true, false, Option, Some, None, refl, ap, arith, ◌<ℤ◌, ◌≤ℤ◌}
+use Rattle.std.proofs.Common.{◌≡◌, ◌↔◌, ℤ, List, ℕ, Bool, true, false, Some, refl, ap, arith, ◌<ℤ◌, ◌≤ℤ◌}
 use Rattle.std.specs.Prelude.{int_lt, not}
 use Rattle.std.specs.Option.{option_map_or}
 use Rattle.std.proofs.lemmas.Bool.Decides.{Decides-and}
@@ -36,7 +33,3 @@ within_is from to z =
 -- a text that spells a number is compared as the number is
 pub of_number : (text : List ℕ) (op : Op) (n a : ℤ) → number_of text ≡ Some a → is_numbered text op n ≡ compares op a n
 of_number text op n a e = ap (λ o. option_map_or (λ b. compares op b n) o false) e
-
--- a text that spells none is compared with nothing
-pub of_no_number : (text : List ℕ) (op : Op) (n : ℤ) → number_of text ≡ None → is_numbered text op n ≡ false
-of_no_number text op n e = ap (λ o. option_map_or (λ b. compares op b n) o false) e

@@ -1,6 +1,6 @@
 -- What stands in a list after a number, and one more or one less, was entered.
-use Rattle.std.proofs.Common.{◌≡◌, ◌∙◌, ◌↔◌, ◌⊎◌, ◌++◌, ℤ, pos, negsuc, neg_ℤ, List, [], ◌∷◌, refl, sym, ap, subst, inl, inr, arith, ◌<ℤ◌, ◌≤ℤ◌, ◌+ℤ◌}
-use Rattle.std.specs.Prelude.{Contains, Some, None, fold}
+use Rattle.std.proofs.Common.{◌≡◌, ◌∙◌, ◌↔◌, ◌⊎◌, ◌++◌, ℤ, pos, negsuc, neg_ℤ, List, [], ◌∷◌, refl, sym, ap, subst, inl, inr, arith, ◌<ℤ◌, ◌+ℤ◌}
+use Rattle.std.specs.Prelude.{Contains, Some, fold}
 use Rattle.std.specs.Int.{int_min}
 use Rattle.std.proofs.lemmas.Int.{ints}
 use Rattle.std.proofs.lemmas.List.Elements.{Contains-append_left, Contains-append_right, Contains-append_cases}
@@ -37,20 +37,6 @@ one_cases xs n a c = elim (Contains-append_cases xs (n ∷ []) a c) [
   | inr d ↦ elim (contains_cases a n [] d) [ inl e ↦ inr e | inr k ↦ absurd (Contains-nil a k) ]
 ]
 
--- the greatest number has no next one within the bounds
-pub entered_one : (xs : List ℤ) (n : ℤ) → IsSmall n → pos most_number ≤ℤ n → (a : ℤ) →
-    Contains (xs ++ n ∷ []) a ↔ (Contains xs a ⊎ IsUpTo (n ∷ []) a)
-entered_one xs n s m a = (
-  λ c. elim (one_cases xs n a c) [ inl d ↦ inl d | inr e ↦ inr (subst (IsUpTo (n ∷ [])) e (up_to_self n s)) ],
-  λ h. elim h [
-    | inl d ↦ Contains-append_left xs (n ∷ []) a d
-    | inr u ↦ elim (up_to_cases n a u) [
-      | inl e ↦ one_in xs n a e
-      | inr e ↦ let t = u.0.1 in absurd (omega (arith, ints))
-    ]
-  ],
-)
-
 -- a constant and the number after it were entered
 pub entered_two : (xs : List ℤ) (n : ℤ) → IsSmall n → n <ℤ pos most_number → (a : ℤ) →
     Contains ((xs ++ n ∷ []) ++ (n +ℤ pos 1) ∷ []) a ↔ (Contains xs a ⊎ IsUpTo (n ∷ []) a)
@@ -81,21 +67,6 @@ entered_less xs n s m a =
       ],
     )
 
--- the least number has none before it within the bounds
-pub entered_none : (xs : List ℤ) (n : ℤ) → n ≤ℤ neg_ℤ (pos most_number) → (a : ℤ) →
-    Contains xs a ↔ (Contains xs a ⊎ IsLastNear (Some n) a)
-entered_none xs n m a = (
-  λ c. inl c,
-  λ h. elim h [ inl d ↦ d | inr u ↦ let t = u.0.0 in let e = u.1 in absurd (omega (arith, ints)) ],
-)
-
--- 0 was entered, if there is no constant
-pub entered_zero : (xs : List ℤ) (a : ℤ) → Contains (xs ++ pos 0 ∷ []) a ↔ (Contains xs a ⊎ IsLastNear None a)
-entered_zero xs a = (
-  λ c. elim (one_cases xs (pos 0) a c) [ inl d ↦ inl d | inr e ↦ inr (sym e) ],
-  λ h. elim h [ inl d ↦ Contains-append_left xs (pos 0 ∷ []) a d | inr e ↦ one_in xs (pos 0) a (sym e) ],
-)
-
 -- ---- over the constants
 
 -- the least constant is within the bounds
@@ -103,11 +74,6 @@ pub least_small : (ns : List ℤ) → AreSmall ns → (n : ℤ) → least ns ≡
 least_small [] h n e = absurd (cc)
 least_small (m ∷ ns) h n e = let t = least_is m ns in
     let q : fold int_min m ns ≡ n = cc in subst IsSmall q (h (fold int_min m ns) t.is_one)
-
--- no constants, no such numbers
-pub up_to_nil : (a : ℤ) → IsUpTo [] a → ⊥
-up_to_nil a (s, inl c) = Contains-nil a c
-up_to_nil a (s, inr (m, c, e)) = Contains-nil m c
 
 -- one constant more
 pub up_to_push : (ns : List ℤ) (n a : ℤ) → (IsUpTo ns a ⊎ IsUpTo (n ∷ []) a) ↔ IsUpTo (ns ++ n ∷ []) a

@@ -1,6 +1,4 @@
 -- Orders by this many words: those that the code takes one by one are those of all words.
---     one_is, two_is, three_is, four_is    by exactly this many
---     two_or_more_is, three_or_more_is     by this many or more
 use Rattle.std.proofs.Common.{◌≡◌, ◌<◌, ◌≤◌, ◌==◌, ℕ, List, [], ◌∷◌, false, cond, None, Some, length, ap, refl, sym, arith}
 use Rattle.std.proofs.lemmas.Bool.Decides.{nat_tests}
 use Rattle.olap_order.specs.Arguments.{at_least, exactly}

@@ -1,10 +1,4 @@
 -- What holds of all that an order comes to, whatever the files are.
---     Comes       what an order comes to has a property
---     then_comes  and after it another order does
---     asked, told, anything, pass, either, meant, there    of one step
---     MayCome     the same of an order that there may be
---     no_order, an_order, may_either, may_or, may_ask, or_else    of such orders
---     may_exactly, may_at_least, may_between    of orders by this many words
 use Rattle.std.proofs.Common.{◌≡◌, List, ℕ, Bool, true, false, cond, length, nat_le, ◌&&◌, ◌==◌, Option, None, Some, refl}
 use Rattle.std.specs.Prelude.{Result, Ok, Err, unwrap_or}
 use Rattle.std.specs.Option.{option_or}

@@ -1,8 +1,4 @@
 -- What the shared steps come to.
---     schema_comes      a schema that is read is readable, and so valid
---     under_schema      so what is left after it may take it for one
---     root_declared     a root is declared
---     formula_comes     a formula is one of the schema
 use Rattle.std.proofs.Common.{◌≡◌, ℕ, Bool, List, Some, true, false, cond, refl, arith}
 use Rattle.std.specs.Prelude.{◌==◌, codes, Result, Ok, Err}
 use Rattle.std.specs.Str.{bytes_eq}

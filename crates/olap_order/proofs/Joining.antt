@@ -1,7 +1,4 @@
 -- Families of commands as one program.
---     of_none, of_some   no command of the code answers what a family is asked, or one does
---     joined             what a family answers is what the program answers
---     or_next            where the first family has no command, the others are asked
 use Rattle.std.proofs.Common.{◌≡◌, ℕ, List, Option, None, Some, Result, MatchOption, ap, refl, subst, sym}
 use Rattle.std.specs.Prelude.{option_map}
 use Rattle.std.specs.Option.{option_or}

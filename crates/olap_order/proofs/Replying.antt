@@ -1,8 +1,4 @@
 -- Replies to a question that is asked, and to none.
---     done         a reply that is done
---     refusing     a refusal that answers a question
---     told_shown   what is told is told
---     replies_no_memory   out of memory answers any question
 use Rattle.std.proofs.Common.{◌≡◌, ℕ, List, Result, Ok, Err, subst, sym}
 use Rattle.std.specs.Result.{IsErrAnd}
 use Rattle.olap_order.specs.Judged.{IsVerdict, Replies}

@@ -1,17 +1,11 @@
 -- More bytes are taken off the front of what is left.
-use Rattle.std.proofs.Common.{◌≡◌, ◌<◌, ◌≤◌, ◌+◌, ◌-◌, ◌∷◌, ◌++◌, ◌∙◌, ℕ, zero, suc, List, [], Option, None, Some, length, take, drop, refl, ap, arith, sym, append_assoc, length-drop}
+use Rattle.std.proofs.Common.{◌≡◌, ◌≤◌, ◌+◌, ◌-◌, ◌∷◌, ◌++◌, ◌∙◌, ℕ, zero, suc, List, [], Option, None, Some, length, take, drop, refl, ap, arith, sym, append_assoc, length-drop}
 use borrow.Rule.Slice.PartMut.{post_of, put_mid}
 use Rattle.std.proofs.Math.Seq.{take-append-add}
 use Rattle.std.proofs.lemmas.List.{length-take-le}
 use Rattle.olap_base.proofs.ListLemmas.{rest_is}
 use Rattle.std.specs.Io.KnownBytes.{Consumes}
-use Rattle.olap_outside.specs.Pieces.{EndsTold}
 use Rattle.olap_outside.specs.Files.{Takes}
-
--- before any read no bytes were taken
-pub consumes-none : (o : Option (List ℕ)) → Consumes o o []
-consumes-none None = tt
-consumes-none (Some xs) = refl
 
 -- after one more read its bytes were taken too
 pub consumes-more : (o m n : Option (List ℕ)) (xs bytes : List ℕ) (room : ℕ) → Consumes o m xs → Takes m n bytes room
@@ -21,14 +15,6 @@ consumes-more (Some a) None n xs bytes room h t = absurd h
 consumes-more (Some a) (Some b) None xs bytes room h t = absurd t
 consumes-more (Some a) (Some b) (Some c) xs bytes room h t =
     h ∙ ap (λ ys. xs ++ ys) t.0 ∙ sym (append_assoc xs bytes c)
-
--- where what is left is told, a read of no bytes is at the end
-pub takes-end : (o m n : Option (List ℕ)) (xs bytes : List ℕ) (room : ℕ) → Consumes o m xs → Takes m n bytes room
-    → length bytes ≡ 0 → 0 < room → EndsTold o n
-takes-end None m n xs bytes room h t e l = tt
-takes-end (Some a) None n xs bytes room h t e l = absurd h
-takes-end (Some a) (Some b) None xs bytes room h t e l = absurd t
-takes-end (Some a) (Some b) (Some c) xs bytes room h t e l = t.1 e l
 
 -- the front of two lists joined is that of the first, if it is long enough
 front-of : {X : Type 0} (n : ℕ) (xs ys : List X) → n ≤ length xs → take n (xs ++ ys) ≡ take n xs

@@ -1,7 +1,4 @@
 -- Literals of clauses in sets: where the clauses are more than the sets, one of them isn't true.
---     IsEntered                    a literal that is true covers its row
---     entered_more, entered_all    the literals of a clause are entered, one after another
---     crowded                      more rows than sets
 use Rattle.std.proofs.Common.{◌≡◌, ℕ, zero, suc, ◌<◌, ◌≤◌, Bool, inl, inr, eqb, List, [], ◌∷◌, ◌++◌, length, get_or, take, refl, ap, sym, ◌∙◌, subst, arith, length-append, Option}
 use Rattle.std.specs.Prelude.{All, Contains}
 use Rattle.std.specs.List.{IsDistinct}

@@ -1,7 +1,4 @@
 -- What is known of variables, and of the literals of a clause.
---     IsFalse, IsFalseBut          who is as the table says makes the literal false, or it is this one
---     forgotten                    a table that says nothing
---     none_true, one_true          what follows where the literals of a clause were tested
 use Rattle.std.proofs.Common.{◌≡◌, ℕ, ◌<◌, ◌≤◌, ◌⊎◌, inl, inr, Bool, List, length, get_or, take, sym, subst, arith, Option, None}
 use Rattle.std.specs.Prelude.{All}
 use Rattle.std.proofs.lemmas.Bool.{cases_lt}

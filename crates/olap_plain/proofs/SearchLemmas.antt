@@ -1,9 +1,9 @@
 -- The search goes through all names of each choice of edges, and through all choices, and skips none.
-use Rattle.std.proofs.Common.{◌≡◌, ℕ, zero, suc, ◌+◌, ◌<◌, ◌≤◌, List, [], ◌∷◌, ◌++◌, length, get_or, set, take, replicate, Bool, true, false, cond, refl, ap, sym, subst, ◌∙◌, ◌⊎◌, inl, inr, arith}
+use Rattle.std.proofs.Common.{◌≡◌, ℕ, zero, suc, ◌+◌, ◌<◌, ◌≤◌, List, [], ◌∷◌, ◌++◌, length, get_or, set, replicate, Bool, true, false, cond, refl, ap, sym, subst, ◌∙◌, ◌⊎◌, inl, inr, arith}
 use Rattle.std.specs.Prelude.{slice_index, ◌≢◌}
 use Rattle.std.specs.FinSet as finite
 use Rattle.std.specs.Ordering.{nat_cmp}
-use Rattle.std.proofs.lemmas.List.{get_or-map, get_or_past, get_or-replicate, get_or-set_same, get_or-set_other, length-map, length-replicate, take_all, take_more, take_more_set}
+use Rattle.std.proofs.lemmas.List.{get_or-map, get_or_past, get_or-replicate, get_or-set_same, get_or-set_other, length-map, length-replicate}
 use Rattle.std.proofs.lemmas.List.FromFn.{get_or-map-range_with_len}
 use Rattle.olap_base.specs.Graph.{Graph, IsCategory, IsHierarchy, category_count}
 use Rattle.olap_ast.specs.Formula.{Formula}
@@ -17,21 +17,11 @@ use Rattle.olap_names.proofs.OrderLemmas.{NoneBefore, compare, least_here, left,
 use Rattle.olap_frozen.proofs.ChosenInstance.{sound_of_frozen}
 use Rattle.olap_frozen.proofs.ChosenLemmas.{choice_of}
 use Rattle.olap_frozen.specs.Chosen.{IsSound}
-use Rattle.olap_frozen.specs.Leaves.{AreAbsentZero, IsSized, IsZeroAtAll, chosen_of, of_declared}
+use Rattle.olap_frozen.specs.Leaves.{AreAbsentZero, IsZeroAtAll, chosen_of, of_declared}
 use Rattle.olap_graph.specs.Rows.{row}
 use Rattle.olap_plain.specs.Searching.{AreFirstNames, NoneWith, code_of}
 
 -- ---- names
-
--- an index is one of the category's names
-limit_small : (texts : List (List (List ℕ))) (marks : List Bool) (c : ℕ)
-    → limit texts marks c ≤ length (get_or texts c [])
-limit_small texts marks zero = omega arith
-limit_small texts marks (suc c) = go (get_or marks (suc c) false)
-  where
-    go : (b : Bool) → cond b (length (get_or texts (suc c) [])) 0 ≤ length (get_or texts (suc c) [])
-    go true = omega arith
-    go false = omega arith
 
 -- an absent category has the index 0 alone
 limit_absent : (texts : List (List (List ℕ))) (marks : List Bool) (c : ℕ) → get_or marks c false ≡ false
@@ -60,15 +50,6 @@ module _ {W : ℕ} (g : Graph) (cs : List Constraint) (q : Formula) (k : Named) 
   -- the indexes give a frozen dimension
   abbrev pub Stands : List ℕ → Type 0
   Stands xs = IsFrozen (with_graph g cs) q r (candidates_of k) (chosen_of bits xs)
-
-  pub assigned_sized : length bits ≡ length g.edges → length k.texts ≡ n → (xs : List ℕ) → IsAssignment bound n xs
-      → IsSized g k bits xs
-  assigned_sized e t xs a = record {
-    edge_count = e;
-    text_count = t;
-    name_count = a.count;
-    in_range = λ c h. let w = a.within c h in let l = limit_small k.texts (marks_of (row rows r) n) c in omega arith;
-  }
 
   pub assigned_absent : ((c : ℕ) → finite.contains (row rows r) c ≡ is_present r (chosen g.edges bits) c)
       → (xs : List ℕ) → IsAssignment bound n xs → AreAbsentZero g r bits xs
@@ -133,12 +114,6 @@ module _ {W : ℕ} (g : Graph) (cs : List Constraint) (q : Formula) (k : Named) 
         | inl h ↦ get_or-replicate m c 0 0 h
         | inr h ↦ get_or_past (replicate m 0) c 0 (subst (λ z. z ≤ c) (sym (length-replicate m 0)) h)
       ]
-
-  -- what the walk's next call asks for
-  pub walking_stands : (walk : Walk) → IsWalking walk
-      → IsAssignment (limit k.texts walk.present) (length walk.indexes) walk.indexes
-  walking_stands walk w = subst (λ m. IsAssignment (limit k.texts walk.present) m walk.indexes) (sym w.assigned.count)
-      (subst (λ p. IsAssignment (limit k.texts p) n walk.indexes) (sym w.present) w.assigned)
 
   next_is : (walk : Walk) (new : List ℕ) → IsWalking walk
       → IsNext (limit k.texts walk.present) (length walk.indexes) walk.indexes new → IsNext bound n walk.indexes new
@@ -353,21 +328,4 @@ pub edges_fall : (old new : List Bool) → IsNext (λ c. 1) (length old) (code_o
 edges_fall old new x = left_falls (λ c. 1) (code_of old) (code_of new) (length-code old ∙ sym x.is_one.count)
     (λ c h. x.is_one.within c (let e = x.is_one.count in omega arith)) x.after
 
--- the next choice has as many edges
-pub length_next : (old new : List Bool) → IsNext (λ c. 1) (length old) (code_of old) (code_of new)
-    → length new ≡ length old
-length_next old new x = sym (length-code new) ∙ x.is_one.count
-
 -- ---- lists that are written over
-
--- one entry more of a list that is copied
-pub put_more : {A : Type 0} (xs ys : List A) (i : ℕ) (x d : A) → length xs ≡ length ys → i < length ys
-    → x ≡ get_or ys i d → take i xs ≡ take i ys → take (i + 1) (set xs i x) ≡ take (i + 1) ys
-put_more xs ys i x d l h e t =
-    take_more_set xs i x (omega arith) ∙ ap (λ z. z ++ x ∷ []) t ∙ ap (λ z. take i ys ++ z ∷ []) e
-    ∙ sym (take_more ys i d h)
-
--- all entries: the copy is the list
-pub put_all : {A : Type 0} (xs ys : List A) (i : ℕ) → length xs ≡ length ys → length ys ≤ i → take i xs ≡ take i ys
-    → xs ≡ ys
-put_all xs ys i l h t = sym (take_all i xs (omega arith)) ∙ t ∙ take_all i ys h

@@ -1,5 +1,4 @@
 -- Each question that an order of this family comes to is about a valid schema, or a size that may be asked for.
---     asked_named    of whatever words
 use Rattle.std.proofs.Common.{◌≡◌, ℕ, List, Bool, true, false, cond, Option, None, Some, refl, subst, arith}
 use Rattle.std.proofs.lemmas.Bool.Decides.{nat_tests}
 use Rattle.std.specs.Prelude.{◌≤◌, ◌&&◌, codes, if◌then◌else◌, nat_le, option_and_then}

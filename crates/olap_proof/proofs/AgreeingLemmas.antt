@@ -1,9 +1,5 @@
 -- A frozen dimension that has the edges and the names that were decided has what is known of them.
---     Like              the frozen dimension has the edges and the names that were decided
---     edge_from         a chosen edge is among those out of its child
---     status_bit        an edge that was decided has that bit
 --     present_joins     one that was decided present is chosen
---     chosen_possible   a chosen one wasn't decided absent
 --     edge_is           what is known of edges is so
 --     name_told         a name that was decided is the one
 --     cycle_none        the edges that were decided present hold no cycle

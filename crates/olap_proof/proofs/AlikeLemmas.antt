@@ -1,9 +1,5 @@
 -- What lines do is the same whichever candidates are taken.
---     Alike           two candidates have the same names
---     alike           those of one schema and one question are
---     known_alike     so the same is known
 --     runs_alike      and lines do the same
---     wrong_alike     and a text has the same first wrong line
 use Rattle.std.proofs.Common.{◌≡◌, ℕ, zero, suc, ◌+◌, List, [], ◌∷◌, length, map, Option, Some, None, refl, ap, sym, subst}
 use Rattle.std.specs.Prelude.{option_map}
 use Rattle.std.specs.List.{range_with_len}

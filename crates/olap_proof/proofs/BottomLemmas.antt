@@ -1,9 +1,4 @@
 -- The bottom categories one after another, with their trees, are a certificate.
---     first_bottoms           those among the first n that are declared
---     bottoms_more            one more
---     bottoms_same            or none
---     next_written, next_same    so with their trees
---     certified               all of them
 use Rattle.std.proofs.Common.{◌≡◌, ℕ, ◌+◌, ◌-◌, ◌<◌, ◌≤◌, List, [], ◌∷◌, ◌++◌, length, map, Bool, true, false, cond, ap, sym, subst, ◌∙◌, arith}
 use Rattle.std.specs.Prelude.{◌==◌, filter, not}
 use Rattle.std.specs.List.{list_any, range_with_len}

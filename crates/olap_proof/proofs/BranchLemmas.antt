@@ -1,19 +1,4 @@
 -- Branches of a tree, by their last choice.
---     take_last        a list without what was put after it
---     with_choices_last    the choices lead where the last leads, from where the others do
---     left_last        what is open after them is what is open after the last, and after the others
---     legal_last       they are legal, and so is the last
---     legal_more       and one more, if it is
---     back_there       a branch without its last choice
---     last_named       what was decided last has names, if it is a name
---     branch_more      with one more
---     left_back        what is open without a last choice that has no case after it
---     left_next        and with the case after it
---     left_first       the cases of a split, the first of which was chosen
---     IsSplit, branch_split    so it is where that choice was put after the others
---     IsStillOpen      after a place there is open what was open after another one
---     open_back        so it is without a last choice that has no case after it
---     open_next        and with the case after it the tree goes on
 use Rattle.std.proofs.Common.{◌≡◌, ◌-◌, ◌++◌, List, [], ◌∷◌, length, take, true, refl, ap, sym, subst, ◌∙◌, arith}
 use Rattle.std.proofs.lemmas.List.{length-append}
 use Rattle.std.proofs.Math.Seq.{take-append_seam}

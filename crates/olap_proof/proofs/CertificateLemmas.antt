@@ -1,9 +1,7 @@
 -- A certificate exists only where the target is summarizable.
---     IsRefuted                                no frozen dimension is where this is open
 --     edge_split, name_split, way_split        one of the children of a split agrees with it
 --     step_refuted                             none is where a line has been, if none is in what it leaves open
 --     runs_refuted                             nor where lines have been that leave nothing open
---     certificates_are_right                   so no bottom category has one
 use Rattle.std.proofs.Common.{◌≡◌, ℕ, zero, suc, ◌+◌, ◌<◌, List, [], ◌∷◌, ◌++◌, length, get_or, Bool, true, false, not, refl, sym, subst, ◌∙◌, inl, inr, arith}
 use Rattle.std.specs.Prelude.{Contains, ◌==◌}
 use Rattle.std.specs.List.{list_any, range_with_len}

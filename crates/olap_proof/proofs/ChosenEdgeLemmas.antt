@@ -1,9 +1,6 @@
 -- Where nothing is left to decide: the edges that were decided present, and that the laws hold where no line closes.
---     edges_chosen       the edges that were decided present
 --     joins_decided      a chosen edge was decided present
 --     known_present      what is known to have a member has one
---     sound              the laws hold, if no line on the laws closes
---     reaches_all        what has a member reaches all, likewise
 use Rattle.std.proofs.Common.{◌≡◌, ℕ, zero, suc, ◌<◌, List, [], ◌∷◌, length, map, get_or, Bool, true, false, cond, Option, Some, None, refl, ap, sym, subst, ◌∙◌, ◌⊎◌, inl, inr, arith}
 use Rattle.std.specs.Prelude.{All, Contains, ◌==◌, ◌||◌, ◌≢◌, filter}
 use Rattle.std.specs.List.{list_any, range_with_len}

@@ -1,9 +1,5 @@
 -- Whether a line closes a place can be decided; where nothing is left to decide, one does, or there
 -- is a frozen dimension.
---     dec_cycle             whether a graph holds a cycle
---     dec_shortcut          whether it holds a shortcut
---     some_unmet            whether some constraint is unmet
---     full_places_close     where nothing is left to decide
 use Rattle.std.specs.Prelude.{◌==◌, ◌&&◌, ◌||◌, ◌≢◌}
 use Rattle.std.proofs.Common.{cond, ◌≡◌, ℕ, zero, suc, ◌<◌, List, [], ◌∷◌, length, Bool, true, false, Option, Some, None, refl, sym, subst, ◌⊎◌, inl, inr}
 use Rattle.std.specs.Prelude.{All, Contains, IsTrue}

@@ -1,6 +1,4 @@
 -- Cycles and shortcuts as chains of edges and as steps.
---     cyclic_is       a cycle
---     shortened_is    a shortcut
 use Rattle.std.proofs.Common.{◌↔◌}
 use Rattle.olap_base.specs.Graph.{Graph}
 use Rattle.olap_base.specs.Steps.{Climb-from_leads, leads_from_Climb}

@@ -1,7 +1,4 @@
 -- What a line does at a place can be decided.
---     dec_does    whether a line about the schema does something
---     dec_line    whether one about it has a property
---     dec_step    whether bytes do something with what is open
 use Rattle.std.proofs.Common.{◌≡◌, ℕ, suc, zero, ◌<◌, ◌+◌, List, [], ◌∷◌, length, map, true, false, Option, Some, None, refl, sym, subst, inl, inr}
 use Rattle.std.specs.Prelude.{◌⊎◌}
 use Rattle.std.proofs.Math.Bool.{Bool-discrete}

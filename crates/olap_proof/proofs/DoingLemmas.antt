@@ -1,7 +1,4 @@
 -- A line does what it says, and nothing else.
---     does_step     it does that
---     step_does     and what its bytes do is that
---     does_once     so bytes that are this line do nothing where it does nothing
 use Rattle.std.proofs.Common.{◌≡◌, ℕ, ◌<◌, ◌^◌, List, [], length, refl, sym, subst, ◌∙◌}
 use Rattle.olap_base.specs.Graph.{IsHierarchy}
 use Rattle.olap_ast.specs.Formula.{Formula}

@@ -1,10 +1,4 @@
 -- Tables of what each category reaches: what drawing and closing them does.
---     draws_none, draws_join    the sets while they are drawn
---     draws_edge, draws_skip, draws_all    one edge more, one edge that isn't taken, all that a category leads to
---     draws_then                one drawing after another
---     own_sound                 where each set is that of its category alone, it has only what is reached
---     closed_table              closed sets have exactly what is reached
---     leading_drawn, leading_all    what is known to be there is drawn, and all of it
 use Rattle.std.proofs.Common.{◌≡◌, ℕ, ◌+◌, ◌<◌, ◌⊎◌, ◌↔◌, List, length, set, Bool, true, false, refl, ap, sym, subst, ◌∙◌, inl, inr, arith}
 use Rattle.std.specs.FinSet.{contains, insert, union}
 use Rattle.std.proofs.Math.ListN.{length-set}

@@ -1,9 +1,4 @@
 -- What the edges that were decided present hold.
---     drawn_edge       a decision that says present draws its edge
---     same_cycle       with one of them once more they hold no other cycle
---     same_shortcut    and no other shortcut
---     no_cycle         if there is none, there is no cycle
---     no_shortcut      and no shortcut
 use Rattle.std.proofs.Common.{◌≡◌, ℕ, ◌<◌, ◌↔◌, List, [], ◌∷◌, length, true, false, subst, sym, inl, inr}
 use Rattle.std.specs.Prelude.{Contains, filter}
 use Rattle.std.proofs.lemmas.List.Elements.{Contains-append_cases, Contains-append_left, Contains-get_or}

@@ -1,6 +1,4 @@
 -- The edges out of a category, one after another.
---     one_out    what holds of all of them holds of each
---     all_out    what holds of each holds of all
 use Rattle.std.proofs.Common.{◌≡◌, ℕ, ◌<◌, List, length, get_or, map, subst, sym}
 use Rattle.std.specs.Prelude.{All}
 use Rattle.std.proofs.lemmas.List.{get_or-map, length-map}

@@ -1,6 +1,4 @@
 -- Lines that are a certificate.
---     chain_is_certified            Store below City: City from Store
---     chain_is_shortly_certified    the same in the short form
 use Rattle.std.proofs.Common.{◌≡◌, ℕ, List, [], ◌∷◌, Bool, true, false, cond, Some, refl, ap, ◌∙◌, inl, inr, arith}
 use Rattle.std.specs.Prelude.{◌&&◌, not}
 use Rattle.std.proofs.lemmas.List.Elements.{All-cons, All-nil}

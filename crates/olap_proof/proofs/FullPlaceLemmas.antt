@@ -1,7 +1,4 @@
 -- Where nothing is left to decide: the frozen dimension that was decided, and that it is one where no line closes.
---     value_of_place     the edges and the names that were decided, as a value
---     truth_at           a formula that isn't known to be false is true
---     frozen_there       what was decided is a frozen dimension, if no line on formulas closes either
 use Rattle.std.proofs.Common.{◌≡◌, ℕ, ℤ, zero, suc, ◌<◌, ◌≤◌, List, [], length, map, get_or, Bool, true, false, cond, Option, Some, None, refl, ap, sym, subst, ◌∙◌, inl, inr, arith}
 use Rattle.std.specs.Prelude.{◌&&◌, ◌||◌, ◌≢◌, codes, option_map}
 use Rattle.std.specs.List.{range_with_len}

@@ -1,6 +1,4 @@
 -- A text is a certificate, or has a first wrong line.
---     dec_cut    whether a text can be cut at an LF
---     judge      lines close what is open, or lead to where none does something
 use Rattle.std.proofs.Common.{◌≡◌, ℕ, suc, zero, ◌<◌, ◌+◌, List, [], ◌∷◌, ◌++◌, length, refl, ap, sym, subst, ◌∙◌, inl, inr, arith}
 use Rattle.std.specs.Prelude.{◌⊎◌, ◌≢◌}
 use Rattle.std.proofs.lemmas.List.{append_assoc, length-append}

@@ -1,11 +1,4 @@
 -- Decisions on ways, each on a way that was undecided, and the tables beside them.
---     whole                          a decision by its parts
---     row_put, row_out               a set with a category more, and with one less
---     tables_none                    the tables with no decision
---     there_written, absent_written    with one more
---     tables_last                    the last decision
---     tables_pop, tables_written     the tables with one less
---     leads_is                       the ways that are there
 use Rattle.std.proofs.Common.{◌≡◌, ◌≢◌, ℕ, ◌<◌, ◌↔◌, ◌++◌, List, [], ◌∷◌, Bool, true, false, Option, None, Some, arith, drop, length, map, replicate, take, set, eqb, refl, ap, sym, subst, ◌∙◌, inl, inr}
 use Rattle.std.specs.Prelude.{◌==◌, ◌&&◌, ◌||◌, Contains, if◌then◌else◌, not}
 use Rattle.std.specs.FinSet.{contains, contains-empty, empty, insert, remove}

@@ -1,9 +1,4 @@
 -- What a line does in a tree, and above one.
---     bottom_read, bottom_unread    the line above a tree, by its first word
---     branch_start                  nothing is chosen
---     begun                         the line above a tree opens it
---     at_still                      some of the tree is open after a line at a place
---     at_closed                     or all of it is closed
 use Rattle.std.proofs.Common.{◌≡◌, ◌==◌, ℕ, ◌+◌, ◌++◌, List, [], ◌∷◌, length, map, true, false, codes, refl, ap, sym, subst, ◌∙◌}
 use Rattle.std.specs.Prelude.{Contains, Some}
 use Rattle.olap_base.specs.Graph.{Graph, IsCategory, category_count}

@@ -1,7 +1,4 @@
 -- Words, names and edges in the bytes of a line.
---     parted               what stands before the first mark is one text, and what stands after it
---     name_plain           a category's name has letters and digits alone
---     no_category          no category has the name where none was found
 --     pair_..              two names with a space between them
 --     edge_..              the edge between two categories
 use Rattle.std.proofs.Common.{◌≡◌, ℕ, zero, suc, ◌<◌, ◌≤◌, ◌++◌, List, [], ◌∷◌, length, get_or, Option, Some, None, refl, ap, sym, subst, ◌∙◌, ◌↔◌, inl, inr, codes, arith}

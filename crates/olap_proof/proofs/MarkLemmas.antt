@@ -1,9 +1,4 @@
 -- Marks in bytes, and numbers that bytes spell.
---     none_before     no mark stands in the bytes before this place
---     none_within     none stands in all of them
---     err_unspelled   what isn't read is no number
---     ok_unspelled    nor is what is read, if that number is spelled otherwise
---     text_unspelled  nor is what isn't UTF-8
 use Rattle.std.proofs.Common.{◌≡◌, ℕ, ◌<◌, ◌≤◌, ◌^◌, List, length, take, get_or, Result, Ok, Err, sym, ap, subst, ◌∙◌, arith}
 use Rattle.std.specs.Prelude.{Contains}
 use Rattle.std.specs.Fmt.{decimal}

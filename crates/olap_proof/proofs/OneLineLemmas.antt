@@ -1,7 +1,4 @@
 -- A line's bytes are those of one line only.
---     Args          what stands after the first word
---     args_once     in one way only, after the same word
---     line_once     so two lines about a schema with the same bytes are one
 use Rattle.std.proofs.Common.{◌≡◌, ◌⊎◌, ℕ, zero, suc, ◌<◌, ◌^◌, List, length, Option, Some, None, refl, ap, sym, ◌∙◌, inl, inr, arith}
 use Rattle.std.specs.Fmt.{decimal}
 use Rattle.std.proofs.lemmas.Fmt.{decimal_injective}

@@ -1,8 +1,4 @@
 -- No line that does something has an LF in it.
---     IsWhole         a text without an LF
---     name_whole      no category's name has one
---     line_whole      no line of a tree has one
---     step_whole      nor has one that does something, wherever it stands
 use Rattle.std.proofs.Common.{◌≡◌, ◌⊎◌, ℕ, suc, ◌<◌, ◌≤◌, ◌^◌, List, [], ◌∷◌, length, true, false, refl, sym, subst, ◌∙◌, inl, inr, codes, arith}
 use Rattle.std.specs.Prelude.{Contains, ◌==◌}
 use Rattle.std.specs.Fmt.{decimal}

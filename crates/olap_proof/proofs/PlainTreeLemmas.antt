@@ -1,9 +1,6 @@
 -- A plain tree, which decides each edge and then each name, closes if there is no frozen dimension.
---     Ends              some lines close all that is open
---     HasTree           some lines close a place, whatever else is open
 --     edge_tree         two trees are one below the line of an edge
 --     name_tree         and trees for each name below the line of a category
---     tree_by_edges     what is left to decide is decided in order
 --     certificates_exist_exactly_where_summarizable
 use Rattle.std.proofs.Common.{◌≡◌, ℕ, zero, suc, ◌+◌, ◌<◌, ◌≤◌, List, [], ◌∷◌, ◌++◌, length, map, Bool, true, false, cond, Some, None, refl, ap, sym, subst, ◌∙◌, inl, inr, arith}
 use Rattle.std.specs.Prelude.{AllPairs, Contains, ◌==◌, ◌≢◌, not}

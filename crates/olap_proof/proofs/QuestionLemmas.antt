@@ -1,10 +1,4 @@
 -- The question of summarizability, and the names that it and a schema speak of.
---     schema_whole       a schema of its parts
---     question_named     they can be named
---     accepted, shown    a certificate of the parts is one of the whole, so the target is summarizable
---     rejected           and so it is with the first wrong line
---     written            and with a text that is written
---     none_frozen        where the target is summarizable there is no frozen dimension
 use Rattle.std.proofs.Common.{◌≡◌, ℕ, List, subst, sym}
 use Rattle.std.specs.Prelude.{All, Err, IfOk, Ok, OnOk, Result}
 use Rattle.olap_base.specs.Graph.{Graph, IsBottom, IsCategory, IsHierarchy}

@@ -1,11 +1,4 @@
 -- A line's first word and what stands after it.
---     joined          a word with what stands after it
---     line_joined     a line is that
---     joined_once     in one way only
---     words_differ    two words have different bytes
---     all_words       what holds of each word that is tried holds of each word
---     word_unread     bytes whose first word is none are no line
---     line_read       bytes are the line of their first word and what stands after it
 use Rattle.std.proofs.Common.{◌≡◌, ℕ, ◌<◌, ◌++◌, List, [], ◌∷◌, arith, get_or, length, true, false, cond, Option, Some, None, refl, ap, sym, ◌∙◌, Bor}
 use Rattle.std.specs.Prelude.{Contains, IfSome, IsNone, ◌==◌, ◌≢◌}
 use Rattle.std.specs.Option.{option_map}

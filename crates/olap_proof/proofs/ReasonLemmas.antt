@@ -1,8 +1,4 @@
 -- A line is a reason exactly if it is about the schema and closes its place.
---     unmet_inside    a constraint that is unmet is one of them
---     about_of        a reason is about the schema
---     closes_of       and closes the place
---     closing         a line that does both is a step
 use Rattle.std.proofs.Common.{ℕ, zero, suc, ◌<◌, List, [], ◌∷◌, length, arith}
 use Rattle.olap_ast.specs.Formula.{Formula}
 use Rattle.olap_ast.specs.Frozen.{Candidates}

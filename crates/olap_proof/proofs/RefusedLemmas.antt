@@ -1,5 +1,4 @@
 -- Lines that aren't a certificate.
---     opened, begun, went_on          what the lines above leave open
 --     edges_are_decided_once ..       the laws
 use Rattle.std.proofs.Common.{◌≡◌, ℕ, zero, suc, ◌+◌, ◌++◌, List, [], ◌∷◌, length, get_or, map, true, false, None, refl, ap, sym, subst, ◌∙◌, ◌⊎◌, inl, inr, add-one, arith}
 use Rattle.std.specs.Prelude.{codes}

@@ -1,7 +1,4 @@
 -- The edges that the program has seen are those of the definitions' graphs.
---     possible_seen, seen_possible    those that weren't decided absent
---     leading_seen                    those that were decided present, and ways that are there
---     seen_present, seen_way          and each of these is known to be there
 use Rattle.std.proofs.Common.{◌≡◌, ℕ, ◌<◌, ◌⊎◌, List, [], length, map, false, true, ap, refl, sym, subst, ◌∙◌, inl, inr}
 use Rattle.std.specs.Prelude.{Contains, filter}
 use Rattle.std.specs.List.{range_with_len}

@@ -1,12 +1,7 @@
 -- What a line does where the reading stands.
---     bottoms_here, bottoms_skip, bottoms_end    the bottom categories from a number on
---     bottoms_all                                all of them
 --     head_.., bottom_.., place_..               a line where this is open first
 --     done_none                                  and where nothing is
---     IsRead                                     lines led there
 --     reached_start, reached_more                lines one after another
---     wrong_here, wrong_end, wrong_after         the first wrong line
---     right_end                                  a text at whose end nothing is open is a certificate
 use Rattle.std.proofs.Common.{◌≡◌, ℕ, suc, ◌+◌, ◌-◌, ◌<◌, ◌≤◌, ◌^◌, ◌++◌, List, [], ◌∷◌, length, map, Bool, true, false, cond, refl, ap, sym, subst, ◌∙◌, arith}
 use Rattle.std.specs.Prelude.{◌≢◌, Contains, IfSome, None, Option, Some, filter}
 use Rattle.std.specs.List.{range_with_len}
@@ -111,12 +106,6 @@ module _ (f : Form) (s : Schema) (q : Formula) (k : Candidates) where
       go : FirstStep f s q k line [] (At p ∷ others) left → ⊥
       go (first o new rest e step r) =
           let h : o ≡ At p = cc in n new (subst (λ x. Steps f s q k line x new) h step)
-
-  pub done_none : (line : List ℕ) (left : List Open) → Runs f s q k (line ∷ []) [] left → ⊥
-  done_none line left run = go (first_step f s q k run line [] refl)
-    where
-      go : FirstStep f s q k line [] [] left → ⊥
-      go (first o new rest e step r) = absurd (cc)
 
   -- ---- lines one after another
 

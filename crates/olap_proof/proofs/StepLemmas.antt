@@ -1,9 +1,4 @@
 -- What a line does, if it does anything.
---     AtStep        a line splits a place, or closes it
---     step_at       what it does with a place is one of these
---     step_head     the first line is the form's
---     step_bottom   above a tree the bottom category is named
---     first_step    the first of some lines does something with what is open first
 use Rattle.std.proofs.Common.{◌≡◌, ℕ, ◌<◌, ◌++◌, List, [], ◌∷◌, length, map, true, false, None, refl, ap, subst}
 use Rattle.olap_base.specs.Graph.{IsCategory, IsDeclared}
 use Rattle.olap_ast.specs.Formula.{Formula}

@@ -1,5 +1,4 @@
 -- How many numbers pass a test.
---     tally         the count
 use Rattle.std.proofs.Common.{ℕ, suc, List, [], ◌∷◌, Bool, cond}
 
 -- how many numbers pass

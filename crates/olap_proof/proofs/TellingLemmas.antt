@@ -1,9 +1,4 @@
 -- What the program tells of a place is what is known there.
---     walk_test         a look at a walk's set says what is reached
---     known_category    what is known to have a member is a category
---     no_way_out        from what is no category nothing is reached
---     no_edge_out       and no edge leads
---     named_index       a name that was decided is one of the category's
 use Rattle.std.proofs.Common.{◌≡◌, ℕ, ◌<◌, ◌≤◌, [], length, get_or, map, true, Option, Some, None, refl, ap, sym, subst, ◌∙◌, inl, inr, arith, Bool, false, not, ◌↔◌}
 use Rattle.std.specs.Prelude.{◌||◌, ◌==◌, Contains, filter}
 use Rattle.std.specs.FinSet.{FinSet, contains}

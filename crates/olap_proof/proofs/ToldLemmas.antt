@@ -1,8 +1,5 @@
 -- Values that aren't unknown.
---     IsTold           the value isn't Unknown
---     truth_told       what is told and isn't false is true
 --     formula_told     a formula is told where what it asks is
---     unmet_listed     a constraint that is unmet has a number
 use Rattle.std.proofs.Common.{◌≡◌, ℕ, ℤ, zero, suc, List, [], ◌∷◌, Bool, true, false, refl, subst, sym, inl, inr, arith}
 use Rattle.std.specs.Prelude.{Contains, ◌&&◌, ◌||◌, not}
 use Rattle.olap_base.specs.Deciding.{contains_cases}

@@ -1,9 +1,5 @@
 -- Which categories are known to have a member: the root, and the ends of what was seen.
 --     touched_both, touched_none    what adding both ends does
---     touched_by                    one edge more
---     touched_some, touched_from_none    what adding all that a category leads to does, and it
---     touched_more                  one category more
---     known_is                      what was touched is what is known
 use Rattle.std.proofs.Common.{◌≡◌, ℕ, ◌+◌, ◌<◌, ◌⊎◌, ◌↔◌, List, length, Bool, true, false, eqb, refl, ap, sym, subst, ◌∙◌, inl, inr, arith}
 use Rattle.std.specs.Prelude.{◌||◌, ◌==◌, Contains}
 use Rattle.std.specs.FinSet.{FinSet, contains, contains-empty, empty, insert, union}
@@ -55,13 +51,6 @@ touched_both old new joins c d j e = λ x. (
       | inr b ↦ (put_in (insert old c) d x).1 (inr b)
     ]
   ]),
-)
-
--- or none was
-pub touched_none : (old : FinSet nat_cmp) (joins : Bool) (c d : ℕ) → joins ≡ false → IsTouched old joins c d old
-touched_none old joins c d j = λ x. (
-  λ h. inl h,
-  λ h. elim h [ inl a ↦ a | inr a ↦ absurd (false_true joins j a.0) ],
 )
 
 -- one edge more

@@ -3,11 +3,6 @@
 --     adds_leaf               a line that closes a place
 --     adds_edge               an edge's line, with the trees below it
 --     adds_names              a category's line, with those below it
---     open_edges, open_names  how much is left to decide
---     adds_below              a bottom category's line, with the tree below it
---     edge_below, name_below  a place with one decision more
---     place_edge, place_name  a place with one decision more
---     place_within            its decisions are about what is in the schema
 use Rattle.std.proofs.Common.{◌≡◌, ℕ, ◌+◌, ◌<◌, ◌≤◌, List, [], ◌∷◌, ◌++◌, length, map, Bool, true, false, None, inl, inr, refl, ap, sym, subst, ◌∙◌, arith}
 use Rattle.std.specs.Prelude.{◌≢◌, All, Contains, Err, Ok, OnOk, Result, is_none}
 use Rattle.std.proofs.lemmas.List.FromFn.{map-range_with_len_more}
@@ -59,9 +54,6 @@ module _ (m : Form) (s : Schema) (q : Formula) (k : Candidates) where
   close_names p c d u ls f after rest end r = more (names d u) (f after rest end r)
 
   -- ---- bytes
-
-  pub adds_none : (old : List ℕ) → Adds m s q k [] old old
-  adds_none old = ([], sym (append-nil old), λ after rest end r. r)
 
   pub adds_more : (os us : List Open) (a b c : List ℕ) → Adds m s q k os a b → Adds m s q k us b c
       → Adds m s q k (os ++ us) a c

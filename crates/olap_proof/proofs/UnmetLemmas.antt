@@ -1,5 +1,4 @@
 -- The constraint at a place of the list is unmet.
---     unmet_at    it is the one that stands there
 use Rattle.std.proofs.Common.{◌↔◌, ℕ, zero, suc, ◌<◌, List, [], ◌∷◌, length, get_or, arith}
 use Rattle.olap_ast.specs.Frozen.{Candidates}
 use Rattle.olap_ast.specs.Schema.{Constraint}

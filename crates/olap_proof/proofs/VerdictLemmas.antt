@@ -1,6 +1,4 @@
 -- A text has one first wrong line, or none and is a certificate.
---     steps_once       a line does one thing
---     Behind           one run of lines goes on where another has ended
 --     one_behind       of two runs over one text, one is after the other
 --     verdicts_are_one
 use Rattle.std.proofs.Common.{◌≡◌, ◌⊎◌, ◌∙◌, ℕ, ◌+◌, ◌<◌, ◌^◌, List, [], ◌∷◌, ◌++◌, length, inl, inr, refl, ap, sym, subst, arith}

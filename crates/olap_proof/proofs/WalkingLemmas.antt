@@ -1,16 +1,8 @@
 -- Sets of categories that grow by edges until they have all that is reached.
 --     added_is, added_none    what adding one does
 --     grows_none              where no edge was seen
---     grows_by                after one edge more
 --     added_from_is, added_from_none, one_left, none_left    what adding all that a category leads to does
---     grows_from              after one category more
---     grows_on                where what was seen grew by nothing
---     grows_then              one growth after another
---     missing                 how many numbers below this one aren't in a set
---     missing_less            fewer after it grew
 --     IsOnWay, way_begins ..  a walk while it grows
---     walk_done               where nothing grows, the set has all that is reached
---     fewer_missing           and less is missing after each round
 use Rattle.std.proofs.Common.{◌≡◌, ℕ, zero, suc, ◌+◌, ◌<◌, ◌≤◌, ◌⊎◌, ◌↔◌, Bool, true, false, cond, eqb, not, refl, ap, sym, subst, ◌∙◌, inl, inr, arith}
 use Rattle.std.specs.Prelude.{◌&&◌, ◌||◌}
 use Rattle.std.specs.Cmp.{nat_cmp_total}
@@ -47,27 +39,6 @@ added_is old new joins c d grew e j there absent = record {
     either : (a b : Bool) → b ≡ true → a || b ≡ true
     either true b h = refl
     either false b h = h
-
--- else nothing is
-pub added_none : (old : FinSet nat_cmp) (joins : Bool) (c d : ℕ) (grew : Bool)
-    → (joins ≡ true → IsIn old c → IsIn old d) → IsAdded old joins c d grew old grew
-added_none old joins c d grew h = record {
-  kept = λ x i. i;
-  only = λ x i. inl i;
-  same = λ f. (f, refl, h);
-  more = λ t. inl t;
-}
-
--- where no edge was seen nothing grows
-pub grows_none : (g : Graph) (n : ℕ) (Seen : ℕ → ℕ → Type 0) (s : FinSet nat_cmp) → ((c d : ℕ) → Seen c d → ⊥)
-    → Grows g n Seen s s false
-grows_none g n Seen s none = record {
-  kept = λ x i. i;
-  sound = λ a all x i. all x i;
-  same = λ f. refl;
-  closed = λ f c d i. absurd (none c d i);
-  more = λ t. absurd (let z : false ≡ true = t in cc);
-}
 
 -- and after one edge more
 pub grows_by : (g : Graph) (n : ℕ) (takes : ℕ → Bool) (child parent : ℕ → ℕ) (i : ℕ) (old mid new : FinSet nat_cmp)
@@ -113,16 +84,6 @@ added_from_is old to new c x grew e m out there = record {
   only = λ y h. elim ((has_union old to y).0 (subst (λ s. IsIn s y) e h)) [ inl a ↦ inl a | inr a ↦ inr (there, a) ];
   same = λ f. absurd (let z : true ≡ false = f in cc);
   more = λ t. inr (x, m, subst (λ s. IsIn s x) (sym e) ((has_union old to x).1 (inr m)), out);
-}
-
--- else nothing is
-pub added_from_none : (old to : FinSet nat_cmp) (c : ℕ) (grew : Bool)
-    → (IsIn old c → (x : ℕ) → IsIn to x → IsIn old x) → IsAddedFrom old c to grew old grew
-added_from_none old to c grew h = record {
-  kept = λ x i. i;
-  only = λ x i. inl i;
-  same = λ f. (f, refl, h);
-  more = λ t. inl t;
 }
 
 -- what is left without the set isn't in it

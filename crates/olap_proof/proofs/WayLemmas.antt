@@ -1,7 +1,5 @@
 -- A frozen dimension that has what was decided has all that is known, and where a line closes there is none.
---     LikeToo        the frozen dimension has the edges, the names and the ways that were decided
 --     known_there    what is known to have a member has one
---     leads_is       what is known to lead somewhere does
 --     reached_is     so what is known of reaching is so
 --     name_is        and what is known of names
 --     number_is      and of comparisons

@@ -1,7 +1,4 @@
 -- Where choices lead, decisions are about what is in the schema.
---     within_start     nothing is decided
---     within_more      one legal choice more
---     branch_within    so it is along a branch
 use Rattle.std.proofs.Common.{◌≡◌, ◌++◌, ◌<◌, ◌≤◌, ℕ, List, [], ◌∷◌, length, get_or, inl, inr, refl, sym, subst, arith}
 use Rattle.std.specs.Prelude.{All}
 use Rattle.std.proofs.lemmas.List.Elements.{Contains-append_cases, Contains-get_or}

@@ -1,8 +1,4 @@
 -- A file whose text has a fault is refused, and so is the run.
---     fault_read    where a text comes to a refusal, the file does
---     content_read  where it comes to a value, the file does
---     fault_told    the same of a file that has no more bytes than a limit
---     step_told     where a text of such a file comes to a step that reads nothing, the file does
 use Rattle.std.proofs.Common.{◌≡◌, ◌≤◌, ◌++◌, ◌∙◌, ℕ, List, Option, None, Some, MatchOption, Result, Err, Ok, false, length, codes, refl, subst, sym, arith, nat_lt}
 use Rattle.std.specs.Prelude.{if◌then◌else◌}
 use Rattle.std.proofs.lemmas.Bool.Decides.{nat_tests}

@@ -1,12 +1,4 @@
 -- A file of facts that is read piece by piece.
---     IsSoFar       a roller has taken the bytes so far
---     parts-more    a piece more
---     long-or-end   a piece is long, or the file is at its end
---     no-memory     out of memory
---     told-fault    a refusal is that of the whole, whether it was read or not
---     told-end      at the end of the file
---     fault-out     the first fault of the facts in a file
---     facts-out     the facts in a file, and views of them
 use Rattle.std.proofs.Common.{◌≡◌, ◌<◌, ◌≤◌, ◌⊎◌, ◌++◌, ◌∙◌, ℕ, List, Option, None, Some, Result, [], length, false, true, inl, inr, refl, sym, ap, arith, subst, append_assoc, length-append}
 use Rattle.std.specs.Prelude.{IfErr, IfSome, Ok, Err, codes}
 use Rattle.std.specs.Result.{IsErrAnd}

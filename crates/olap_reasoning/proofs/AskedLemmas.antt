@@ -1,5 +1,4 @@
 -- Each question that an order of this family comes to is about a valid schema, and a formula is one of it.
---     asked_named    of whatever words
 use Rattle.std.proofs.Common.{ℕ, List, [], drop}
 use Rattle.std.specs.Prelude.{codes}
 use Rattle.olap_ast.specs.Schema.{Schema}

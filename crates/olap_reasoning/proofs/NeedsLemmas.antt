@@ -1,9 +1,4 @@
 -- What a target needs answers its question, and has one answer.
---     one_needs                      there is one answer
---     as_many                        as many are told as are needed
---     emptied_are_categories         what is left without members are categories
---     lines_of, emptied_text         the lines of both
---     needs_listed, needs_emptied    they are answers
 use Rattle.std.proofs.Common.{◌≡◌, ◌≢◌, ◌∙◌, ℕ, List, [], ◌∷◌, ◌++◌, Ok, true, false, codes, length, map, ap, refl, sym, subst, arith}
 use Rattle.std.specs.Prelude.{◌==◌, All, flat_map}
 use Rattle.std.proofs.lemmas.List.{length-map}

@@ -1,6 +1,4 @@
 -- What a reply with a status and these bytes answers, where none means that memory ran out.
---     answers_by           a reply answers what its status and its bytes answer
---     replies_or_memory    so does a result
 use Rattle.std.proofs.Common.{◌≡◌, ℕ, List, Result, Ok, Err, subst, sym}
 use Rattle.std.specs.Prelude.{IfErr, IfOk}
 use Rattle.olap_order.specs.Judged.{IsVerdict, Replies}

@@ -1,6 +1,5 @@
 -- Of a valid schema there is what a target needs: the categories whose members needn't reach it by one source, and
 -- those of them that are left without members.
---     needs_exist    the constraints are told, or whom they empty, or that they are too many
 use Rattle.std.proofs.Common.{◌≡◌, ℕ, zero, suc, ◌+◌, ◌<◌, ◌≤◌, List, [], ◌∷◌, ◌++◌, length, refl, subst, sym, inl, inr, arith}
 use Rattle.std.proofs.Math.Decide.{dec_le}
 use Rattle.std.specs.Prelude.{◌⊎◌, Contains, codes, flat_map, sum_by}

@@ -1,7 +1,4 @@
 -- Of a valid schema there is a list of the shapes of each root, or it has more than may be listed.
---     least_ones      of a list in order those that are least with their edges
---     shapes_listed   the shapes of a root are listed
---     shapes_exist    they are told, or that they are too many
 use Rattle.std.proofs.Common.{◌≡◌, ℕ, List, [], ◌∷◌, ◌++◌, length, refl, ap, subst, sym, ◌∙◌, inl, inr}
 use Rattle.std.specs.Prelude.{◌⊎◌, ◌≢◌, AllPairs, Contains, codes, flat_map}
 use Rattle.std.specs.Fmt.{decimal}

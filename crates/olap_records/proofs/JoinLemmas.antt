@@ -1,22 +1,13 @@
 -- What was read before stays in front.
---     behind-joins   the earlier records stay before those of a piece
 --     cutter-behind  a splitter's place after some records
---     fed-more       a piece more
---     end-behind     the same at the end of the text
---     begins         the records so far stand at the front of all, whatever comes
-use Rattle.std.proofs.Common.{◌≡◌, ◌∷◌, ◌++◌, ◌∙◌, ℕ, Bool, true, false, List, [], refl, sym, ap, inl, inr, append_assoc}
+use Rattle.std.proofs.Common.{◌≡◌, ◌∷◌, ◌++◌, ◌∙◌, ℕ, List, [], refl, sym, ap, inl, inr, append_assoc}
 use Rattle.std.proofs.lemmas.Bool.{cases_Bool}
-use Rattle.std.proofs.lemmas.List.{append-nil}
 use Rattle.csv.specs.Machine.{ends_at_end, step}
 use Rattle.csv.specs.Reading.{default_config}
-use Rattle.csv.specs.Records.{fields_of, partial_of}
 use Rattle.csv.specs.declared.parser.State.{State}
 use Rattle.csv.specs.declared.parser.Action.{Action}
 use Rattle.csv.specs.declared.parser.Action.TheVariants as act
 use Rattle.olap_records.specs.Standing.{Standing, after_action, after_byte, at_end, at_start, behind, records_fed, standing}
-use Rattle.olap_records.specs.CutterInside.{stand_by, stand_of}
-use Rattle.olap_records.specs.declared.steps.Place.{Place}
-use Rattle.olap_records.specs.declared.cutting.Cutter.{Cutter}
 use Rattle.olap_records.proofs.StandingLemmas.{pieces-join, records-begin}
 
 -- one action
@@ -39,16 +30,6 @@ behind-joins d t (c ∷ xs) =
 -- some records after others
 twice-behind : (d rs : List (List (List ℕ))) (t : Standing) → behind (d ++ rs) t ≡ behind d (behind rs t)
 twice-behind d rs t = rw (append_assoc d rs t.done) refl
-
--- a splitter's place after some records
-place-behind : (d : List (List (List ℕ))) (w : Bool) (fields : List (List ℕ)) (field : List ℕ) (p : Place)
-    → stand_by d w fields field p ≡ behind d (stand_by [] w fields field p)
-place-behind d true fields field p = rw (append-nil d) refl
-place-behind d false fields field p = rw (append-nil d) refl
-
--- a splitter's place after some records
-pub cutter-behind : (d : List (List (List ℕ))) (s : Cutter) → stand_of d s ≡ behind d (stand_of [] s)
-cutter-behind d s = place-behind d s.whole (fields_of s.row) (partial_of s.row ++ s.field.items) s.place
 
 -- a piece more
 pub fed-more : (fed xs : List ℕ) (done rs : List (List (List ℕ))) (s new : Standing)

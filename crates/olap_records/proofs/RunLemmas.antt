@@ -1,8 +1,4 @@
 -- Parts of a piece, and bytes that only join the field at hand.
---     between         the part of a text between two places
---     between-none, between-more, between-join    no byte, one more, and part after part
---     runs-more       one byte more that only joins the field
---     run-at-hand, copied-at-hand, none-at-hand   the bytes of the field at hand
 --     copied-run      a byte that is copied, and the bytes after it that only join the field
 use Rattle.std.proofs.Common.{◌≡◌, ◌<◌, ◌≤◌, ◌+◌, ◌-◌, ◌∷◌, ◌++◌, ◌∙◌, ℕ, Bool, false, List, [], length, take, drop, get_or, refl, sym, ap, arith, append_assoc, append-nil, length-drop, get_or-drop, take-add}
 use Rattle.std.proofs.lemmas.List.{drop-drop, take_more}

@@ -1,5 +1,4 @@
 -- A loop over records (or over pieces of a field) that looks for the first fault.
---     HasSeen     the records seen so far have no fault
 --     see-none    at the start none is seen
 --     see-more    one record more passes
 --     see-fault   a record has a fault, which is the first

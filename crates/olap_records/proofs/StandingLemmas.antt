@@ -1,9 +1,4 @@
 -- The reader byte by byte against the definition of a text's records.
---     pieces-join      piece after piece
---     records-end      the records from here on
---     records-at-end   the records of a text
---     records-begin    the records so far stand at the front
---     one-more         one byte more of a piece
 use Rattle.std.proofs.Common.{◌≡◌, ◌<◌, ◌≤◌, ◌+◌, ◌∷◌, ◌++◌, ◌∙◌, ℕ, zero, suc, List, [], Some, length, take, get_or, refl, sym, ap, inl, inr, arith, add-one, append_assoc}
 use Rattle.std.specs.Prelude.{if◌then◌else◌}
 use Rattle.std.proofs.lemmas.Bool.{cases_Bool}

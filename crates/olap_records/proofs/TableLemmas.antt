@@ -1,12 +1,8 @@
 -- What the records of a table stand for, from their first fault.
---     or_value              a fault, or else a value
---     all_read-or_value     where a record stands for a value of its own, all that is read is the first fault, or else
---                           the values
 --     check-named, given-named
 --                           one check of a record by the name of its fault
 --     all_read-passed, all_read-named, at_record-named, table_meant-named
 --                           the same by the names of faults
---     all_read-fault        the fault of all that is read is the first one
 use Rattle.std.proofs.Common.{◌≡◌, ◌++◌, ◌∷◌, ◌∙◌, ◌↔◌, ℕ, zero, suc, Bool, true, false, cond, List, [], codes, drop, length, map, take, slice_get, Option, Some, None, Result, Ok, Err, refl, sym, ap, subst, arith, append_assoc}
 use Rattle.std.proofs.lemmas.List.{append-nil}
 use Rattle.std.specs.Option.{option_map}

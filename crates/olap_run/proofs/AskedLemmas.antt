@@ -1,6 +1,4 @@
 -- Each question that an order comes to is about what was read: of valid schemas, a formula of one, a size.
---     IsAsked      so it is of a question
---     all_asked    and of all that the order of whatever words comes to
 use Rattle.std.proofs.Common.{List, [], ◌∷◌, ℕ, length}
 use Rattle.std.specs.Prelude.{None, Some, codes, nat_lt, unwrap_or}
 use Rattle.std.specs.Option.{option_or}

@@ -1,6 +1,4 @@
 -- There is one outcome at most: the words and the files leave no choice of the status and the bytes.
---     one_answer        what is asked has one answer
---     one_given         and an order that comes to such questions gives one
 --     outcome_is_one    the law
 use Rattle.std.proofs.Common.{◌≡◌, ◌⊎◌, List, ℕ, inl, sym, ◌∙◌}
 use Rattle.std.specs.Prelude.{MatchOption, None, Option, Some}

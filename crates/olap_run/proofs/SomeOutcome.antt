@@ -1,5 +1,4 @@
 -- There is an outcome, wherever each file that the order comes to is held.
---     given             of an order that comes to questions that have answers
 --     outcome_exists    the law
 use Rattle.std.proofs.Common.{◌≡◌, ℕ, List, Option, None, Some, refl, sym, subst, inl, inr}
 use Rattle.std.specs.Prelude.{IsSome, MatchOption}

@@ -1,7 +1,4 @@
 -- What can't come over a library that is sure, and with an answer.
---     held_is_read      if it holds every file of the order, no read is refused
---     not_the_second    of three, where the second can't be
---     written_is_told   an answer is neither a read fault nor out of memory
 use Rattle.std.proofs.Common.{◌≡◌, ◌⊎◌, ◌∙◌, ℕ, List, Option, None, Some, inl, inr, subst, sym}
 use Rattle.std.specs.Prelude.{IsSome, IsTrue}
 use Rattle.olap_outside.specs.Files.{Files}

@@ -1,6 +1,4 @@
 -- There are no more distinct pairs where fewer atoms stand.
---     few_pairs      of atoms on names that all stand among others, no more than of those
---     few_numbers    the same of atoms on numbers
 use Rattle.std.proofs.Common.{◌≡◌, ◌≤◌, Bool, true, false, cond, ◌||◌, List, [], ◌∷◌, ◌++◌, length, fold, refl, ap, sym, ◌∙◌}
 use Rattle.std.specs.Prelude.{Contains}
 use Rattle.std.specs.Cmp.{IsEquivalence, and_equiv, on_equiv}

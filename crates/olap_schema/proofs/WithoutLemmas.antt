@@ -1,9 +1,4 @@
 -- A schema stays readable where a constraint is taken out.
---     without_is_readable    it is valid, and its constants can stand in a line
---     same_readable          the same, of the parts
---     left_over              what is left, copied in two parts
---     Contains-remove        what is left stood there
---     atoms_left, number_atoms_left    the atoms that are left stood there
 use Rattle.std.proofs.Common.{◌≡◌, ◌<◌, ◌≤◌, ◌+◌, ℕ, suc, List, ◌++◌, length, get_or, take, drop, inl, inr, map, ap, sym, subst, ◌∙◌, arith}
 use Rattle.std.specs.Prelude.{Contains, flat_map, remove, sum_by}
 use Rattle.std.proofs.lemmas.List.{drop-map, take-append-drop, take-map}

@@ -1,5 +1,4 @@
 -- The bytes of printed lines: UTF-8 without control characters.
---     IsPlain          a text of such bytes
 --     formula_is_plain  and so on: what is printed is one
 use Rattle.std.proofs.Common.{◌≡◌, ◌==◌, ◌||◌, ◌&&◌, not, ◌<◌, ◌≤◌, ◌+◌, ◌/◌, ◌%◌, ℕ, zero, suc, Bool, true, false, cond, List, [], ◌∷◌, ◌++◌, All, refl, append_assoc, append-nil, arith, ap, sym, ◌∙◌, nat_lt, lit<, flat_map}
 use Rattle.std.specs.List.{list_any}

@@ -1,6 +1,4 @@
 -- A printed constraint's line is read as the constraint.
---     ruled             what is known on the way
---     add_constraint    a constraint's line adds it
 use Rattle.std.proofs.Common.{◌≡◌, ◌==◌, ◌≤◌, ◌+◌, ℕ, suc, Bool, true, false, cond, List, [], ◌∷◌, ◌++◌, Some, length, refl, arith, ap, sym, ◌∙◌, nat_lt, nat_le, append_assoc}
 use Rattle.std.specs.Prelude.{Contains, Ok, flat_map, fold, sum_by}
 use Rattle.std.specs.List.{list_any}

@@ -1,5 +1,4 @@
 -- A printed formula over words is resolved to the formula.
---     written_is_resolved   so it is
 use Rattle.std.proofs.Common.{◌≡◌, ◌≢◌, ◌==◌, ℕ, suc, true, false, List, [], ◌∷◌, Option, Some, None, All, map, refl, arith, sym}
 use Rattle.std.specs.Prelude.{AllPairs, Ok, is_some}
 use Rattle.std.specs.List.{list_any}

@@ -1,7 +1,4 @@
 -- Printed lines of categories and edges are read as the graph.
---     growing        what is known on the way
---     add_category   a category's line adds it
---     add_edge       an edge's line adds it
 use Rattle.std.proofs.Common.{◌≡◌, ◌≢◌, ◌==◌, ◌<◌, ◌≤◌, ◌+◌, ℕ, zero, suc, Bool, true, false, List, [], ◌∷◌, ◌++◌, Option, Some, None, length, get_or, refl, arith, ap, sym, ◌∙◌, codes, nat_lt, nat_le, not, ◌&&◌, inl, inr}
 use Rattle.std.specs.Prelude.{AllPairs, Contains, Ok}
 use Rattle.std.specs.Bool.{Decides}

@@ -1,6 +1,4 @@
 -- The lines of a printed text, and what a line of plain bytes says.
---     lines_are       the lines of the text are the lines
---     line_says       a line is read by what its tokens say
 use Rattle.std.proofs.Common.{◌≡◌, ◌==◌, ◌||◌, ◌+◌, ◌-◌, ℕ, zero, suc, Bool, true, false, List, [], ◌∷◌, ◌++◌, Some, length, refl, arith, ap, ◌∙◌}
 use Rattle.std.specs.Prelude.{Ok, slice_index}
 use Rattle.std.specs.List.{list_any, onto_first}

@@ -1,6 +1,4 @@
 -- The numbers of a printed formula.
---     atom_is_no_number    the word of an atom is no number token
---     none_is_bad          no number token of the formula is other than a numeral
 use Rattle.std.proofs.Common.{◌≡◌, ◌==◌, ℕ, ℤ, pos, negsuc, Bool, true, false, cond, List, [], ◌∷◌, codes, refl, append-nil}
 use Rattle.std.specs.List.{list_any}
 use Rattle.olap_base.specs.Graph.{Graph, IsCategory, IsHierarchy}

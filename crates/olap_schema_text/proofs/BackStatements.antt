@@ -1,5 +1,4 @@
 -- What the tokens of printed lines say.
---     kind_tokens    the tokens after the name of a category
 use Rattle.std.proofs.Common.{◌≡◌, ℕ, Bool, true, false, List, [], ◌∷◌, refl, codes}
 use Rattle.olap_base.specs.Reaching.{is_category_name}
 use Rattle.olap_grammar.specs.declared.tokens.Token.{Token}

@@ -1,6 +1,4 @@
 -- The checks of a printed formula's tokens that look at no graph.
---     nodes_are       the tokens have as many nodes as the formula
---     few_open        no more brackets are open than the formula is deep
 use Rattle.std.proofs.Common.{◌≡◌, ◌≤◌, ◌+◌, ℕ, ℤ, pos, negsuc, true, false, List, [], ◌∷◌, ◌++◌, max, refl, append_assoc, append-nil, arith, ap, sym, ◌∙◌, codes, nat_lt, zero-add}
 use Rattle.olap_base.specs.Graph.{Graph}
 use Rattle.olap_ast.specs.Formula as Meaning

@@ -1,6 +1,4 @@
 -- Brackets that are open: gone over from the left, and counted in a beginning.
---     found      what is found is so of some beginning
---     counted    what is so of some beginning is found
 use Rattle.std.proofs.Common.{◌≡◌, ◌+◌, ◌<◌, ◌≤◌, ℕ, zero, suc, Bool, true, false, cond, List, [], ◌∷◌, nat_lt, refl, ap, ◌∙◌, take, arith}
 use Rattle.std.specs.Prelude.{count_by}
 use Rattle.std.proofs.lemmas.Bool.{ltb-false, ltb-true}

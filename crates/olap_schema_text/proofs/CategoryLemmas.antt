@@ -1,11 +1,4 @@
 -- Categories of names, gone over from the left.
---     known_at, unknown_at, none_known    whether all names are known, by the first
---     none_so_far    before the first name
---     one_unknown    a name that no category has
---     one_behind     one that is found, whatever follows
---     one_more       one more is found
---     none_left      no name is left
---     joined_on      an edge leads to the next category
 use Rattle.std.proofs.Common.{◌≡◌, ◌++◌, ◌∷◌, ◌∙◌, ℕ, false, true, List, [], None, Option, Some, append_assoc, append-nil, refl, ap, is_some, sym}
 use Rattle.std.specs.Option.{option_map}
 use Rattle.std.specs.Borrow.{Bor}

@@ -1,9 +1,4 @@
 -- The distinct constants of the constraints so far, as the reader keeps them.
---     one_behind      the atoms of one constraint more
---     counted_more    with one constraint more the pairs are still those of the constraints
---     counted_is      with a formula more there are as many constants as pairs
---     added           a constraint is added where the pairs are few enough
---     not_added       and refused where they aren't
 use Rattle.std.proofs.Common.{◌≡◌, ◌∙◌, ◌+◌, ℕ, Bool, true, false, List, [], ◌∷◌, ◌++◌, Option, Some, None, Result, Ok, Err, append-nil, length, fold, refl, ap, sym}
 use Rattle.std.specs.Prelude.{codes, flat_map, if◌then◌else◌, nat_lt}
 use Rattle.std.proofs.lemmas.List.Concat.{flat_map-append}

@@ -1,6 +1,4 @@
 -- What a reader of tokens says is what they are read as.
---     same_answer    whatever the formula is
---     few_alone, few_in_all, not_too_many    not too many nodes are few, in the formula alone and in all of them
 use Rattle.std.proofs.Common.{◌≡◌, ◌≤◌, ◌+◌, ℕ, Bool, true, false, cond, Option, None, Some, Ok, Err, nat_le, nat_lt, refl, arith, codes}
 use Rattle.std.proofs.lemmas.Bool.{le-ltb, ltb-false, or_from, or_parts}
 use Rattle.olap_base.specs.Limits.{most_depth, most_nodes, most_schema_nodes}

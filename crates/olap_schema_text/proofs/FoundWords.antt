@@ -1,6 +1,4 @@
 -- What stands in a formula over words that was found among tokens.
---     AreSpelt            each path has two names or more, and each text is one that can stand there
---     found_are_spelt     that of the tokens of a line without a long text
 use Rattle.std.proofs.Common.{◌≡◌, ◌≢◌, ◌≤◌, ℕ, Bool, true, false, cond, List, [], ◌∷◌, ◌++◌, Option, Some, None, length, codes, refl, subst, arith, nat_lt, ap}
 use Rattle.std.specs.Prelude.{◌&&◌, option_and_then}
 use Rattle.std.specs.List.{list_all, list_any}

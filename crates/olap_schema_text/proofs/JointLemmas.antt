@@ -1,7 +1,4 @@
 -- Two formulas that a connective joins, whichever it is.
---     joined_by        a tree of two parts is joined by its connective
---     counted          the same tree has as many nodes
---     joint_nodes, joint_text, joint_equalities, joint_comparisons    what is counted, printed and asked of it
 use Rattle.std.proofs.Common.{◌≡◌, ◌+◌, ◌++◌, ◌⊎◌, ◌∙◌, ℕ, refl, ap, inl, inr}
 use Rattle.olap_base.specs.Graph.{Graph}
 use Rattle.olap_ast.specs.Atoms.{comparisons, equalities}

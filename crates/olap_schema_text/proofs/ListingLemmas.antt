@@ -1,5 +1,4 @@
 -- One part more of a list of parts.
---     part_on              after those that are resolved
 use Rattle.std.proofs.Common.{◌≡◌, ℕ, List, [], ◌∷◌, ◌++◌, Result, Ok, Err, map, refl, ap, sym}
 use Rattle.olap_ast.specs.Formula as Meaning
 use Rattle.olap_ast.specs.Listing.{parts_before}

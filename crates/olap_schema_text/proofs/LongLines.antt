@@ -1,7 +1,6 @@
 -- Tokens that are more than a formula may have, of which only the first are kept: why they are refused.
 --     many_nodes, too_deep, bad_form    the fault of the formula, by what was counted
 --     unversioned, no_constraint, no_formula    the fault of the line
---     no_question    the fault of the question
 use Rattle.std.proofs.Common.{◌≡◌, ◌≤◌, ◌<◌, ◌+◌, ◌-◌, ◌++◌, ◌∷◌, ◌∙◌, true, false, ℕ, suc, List, length, Option, None, Some, Err, refl, sym, ap, subst, arith, inl, inr}
 use Rattle.std.specs.Borrow.{Bor}
 use Rattle.std.specs.Prelude.{is_some, unwrap_or, codes}

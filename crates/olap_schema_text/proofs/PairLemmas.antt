@@ -1,7 +1,4 @@
 -- Tests over what the stored pairs stand for.
---     found_pair, new_pair        a pair with a text that is there, or that is new
---     found_number, new_number    the same of a number
---     same_atoms, both_added, rest_added    what is added of a formula is added of its atoms, one part after the other
 use Rattle.std.proofs.Common.{◌≡◌, ℕ, ℤ, ◌||◌, Bool, true, false, List, [], ◌∷◌, ◌++◌, map, refl, ap, subst, ◌∙◌, sym}
 use Rattle.std.specs.Prelude.{Result, Ok, Err, OnOk}
 use Rattle.std.specs.List.{fold, list_any}

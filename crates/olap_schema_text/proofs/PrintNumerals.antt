@@ -1,7 +1,4 @@
 -- The bytes of canonical numerals.
---     digits_in_decimal     those of a number are decimal digits
---     numeral_is_number     a canonical numeral is a number token
---     no_number             a word that begins with a category's name is none
 use Rattle.std.proofs.Common.{◌≡◌, ◌<◌, ◌≤◌, ◌==◌, ◌&&◌, ◌++◌, true, false, ℕ, ℤ, pos, negsuc, suc, List, [], ◌∷◌, length, Some, refl, arith, nat_lt, decimal}
 use Rattle.std.specs.Char.{is_ascii_digit}
 use Rattle.std.specs.Str.{all_ascii_digits}

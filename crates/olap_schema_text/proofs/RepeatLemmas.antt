@@ -1,8 +1,4 @@
 -- A category that comes twice, gone over from the left with those before it.
---     first_once    before the first none comes twice
---     twice         one that stood before comes twice, whatever follows
---     kept_once     one that didn't is kept
---     all_once      where none does, these are all
 use Rattle.std.proofs.Common.{◌≡◌, ◌||◌, ◌++◌, ◌∷◌, ◌∙◌, Bool, true, false, ℕ, List, [], None, Option, Some, arith, cond, map, refl, sym, ap, subst}
 use Rattle.std.specs.List.{list_any}
 use Rattle.std.specs.Option.{option_map}

@@ -1,6 +1,4 @@
 -- What a formula over words is resolved to.
---     IsSound             one of the graph, with as many nodes and levels, whose constants can stand in a line
---     resolved_is_sound   so it is
 use Rattle.std.proofs.Common.{◌≡◌, ◌≢◌, ◌+◌, ◌∙◌, ℕ, Bool, true, false, cond, List, [], ◌∷◌, Option, Some, None, length, refl, sym, ap, subst, arith}
 use Rattle.std.specs.Prelude.{◌==◌, Result, Ok, Err, option_and_then, codes}
 use Rattle.std.specs.Option.{option_map}

@@ -1,6 +1,4 @@
 -- What holds of tokens that say something.
---     is_said      a category's name is one, and a constraint's tokens end with its formula
---     long_says    what a line of four tokens and more says is said by its beginning
 use Rattle.std.proofs.Common.{◌≡◌, ◌≤◌, ◌&&◌, ◌++◌, ◌∷◌, Bool, true, false, cond, ℕ, List, [], codes, length, refl, arith}
 use Rattle.std.specs.Str.{bytes_eq}
 use Rattle.olap_base.specs.Reaching.{is_category_name}

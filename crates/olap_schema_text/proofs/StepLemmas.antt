@@ -1,7 +1,4 @@
 -- What a line that has no fault does to what the lines above it say.
---     Step        the ways in which a line goes on
---     stepped     a line without a fault goes on in one of them
---     all_steps   what each line keeps, all lines keep
 use Rattle.std.proofs.Common.{◌≡◌, ◌+◌, ℕ, Bool, true, false, cond, List, [], ◌∷◌, ◌++◌, Option, Some, None, length, refl, sym, subst}
 use Rattle.std.specs.Prelude.{◌==◌, ◌||◌, ◌&&◌, Result, Ok, Err, not, nat_lt, nat_le}
 use Rattle.std.specs.List.{list_any}

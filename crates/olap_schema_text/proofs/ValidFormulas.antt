@@ -1,6 +1,4 @@
 -- A formula over words has as many nodes as its tokens; a formula of a graph is one of a larger graph.
---     form_nodes          how many nodes it has
---     grown_is_valid      it is one of a larger graph too
 use Rattle.std.proofs.Common.{◌≡◌, ◌+◌, ℕ, false, cond, List, [], ◌∷◌, ◌++◌, Option, Some, None, append-nil, append_assoc, refl, ap, ◌∙◌, subst, arith}
 use Rattle.std.specs.Prelude.{codes}
 use Rattle.std.specs.Option.{option_map}

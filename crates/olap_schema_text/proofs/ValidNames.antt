@@ -1,7 +1,4 @@
 -- Names that are known in a graph, and the paths through their categories.
---     name_at        the name of a category that was found
---     follows        categories that lack no edge follow edges
---     differ         categories of which none is repeated differ
 use Rattle.std.proofs.Common.{◌≡◌, ◌≢◌, ℕ, Bool, true, false, List, [], ◌∷◌, Option, Some, None, get_or, refl, arith, subst, inl, inr, is_some}
 use Rattle.std.specs.Prelude.{◌==◌, AllPairs, Contains}
 use Rattle.std.specs.List.{list_any}
@@ -17,10 +14,6 @@ use Rattle.olap_schema_text.specs.Resolving.{is_repeated, lacks_edge}
 use Rattle.std.proofs.lemmas.Bool.{not-false, or_parts}
 
 -- ---- tests
-
--- texts that the test takes for one are equal
-pub same_bytes : (x y : List ℕ) → bytes_eq x y ≡ true → x ≡ y
-same_bytes x y e = (bytes_eq-Decides x y).0 e
 
 -- ---- known names
 

@@ -1,5 +1,4 @@
 -- A question's formula that is read may be handed on.
---     question_is_valid       the law
 --     asked_is_question       in the words of the code: it is one of the schema, and keeps the limits
 --     asked_has_texts         its constants are UTF-8 without control characters
 use Rattle.std.proofs.Common.{◌≡◌, ℕ, false, List, Option, Some, None, Result, Ok, Err, refl, sym, subst, arith}

@@ -1,6 +1,4 @@
 -- A schema that is read is valid, and its constants are text.
---     sound_kept          a line without a fault keeps what holds of those above it
---     read_is_readable    what all lines say is so, if each category reaches `All`
 use Rattle.std.proofs.Common.{◌≡◌, ℕ, zero, suc, Bool, true, false, not, cond, List, [], ◌∷◌, Option, Some, None, Ok, Err, length, refl, sym, arith, subst, inl, inr}
 use Rattle.std.specs.Prelude.{Contains, find, flat_map, is_some, codes}
 use Rattle.std.specs.List.{range_with_len}

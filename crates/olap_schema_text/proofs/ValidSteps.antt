@@ -1,8 +1,4 @@
 -- A line without a fault keeps what holds of what the lines above it say.
---     IsSoundSoFar       what holds of what they say
---     category_kept      a category keeps it
---     edge_kept          an edge does
---     constraint_kept    a constraint does
 use Rattle.std.proofs.Common.{◌≡◌, ◌≢◌, ◌+◌, ◌<◌, ◌≤◌, ℕ, zero, suc, Bool, true, false, List, [], ◌∷◌, ◌++◌, Option, Some, None, Ok, length, is_some, refl, sym, ◌∙◌, arith, subst, inl, inr}
 use Rattle.std.specs.Prelude.{Contains, flat_map, nat_lt, sum_by}
 use Rattle.std.proofs.lemmas.Bool.{eqb-false, leb-false, ltb-false}

@@ -1,7 +1,4 @@
 -- The constants of a line that is UTF-8 without control characters are so too.
---     AreFine            each string among the tokens is such a text
---     line_is_fine       the tokens of such a line
---     all_texts          the constants of all constraints
 use Rattle.std.proofs.Common.{◌≡◌, ◌<◌, ◌≤◌, ℕ, zero, suc, true, false, List, [], ◌∷◌, ◌++◌, Some, length, get_or, drop, append_assoc, refl, sym, arith, subst, inl, inr}
 use Rattle.std.specs.Prelude.{◌==◌, ◌||◌, Contains, flat_map}
 use Rattle.std.specs.Char.{is_ascii_alphanumeric, is_ascii_digit}

@@ -1,6 +1,4 @@
 -- The formula over words that a printed formula is.
---     written         its words are the names of its categories, the root's first
---     written_depth   it has as many levels
 use Rattle.std.proofs.Common.{◌≡◌, ℕ, map, refl}
 use Rattle.olap_base.specs.Graph.{Graph}
 use Rattle.olap_graph.specs.Lookups.{name_of_category}

@@ -1,6 +1,4 @@
 -- What is found of the frozen dimensions of a root, or isn't, in all legal instances.
---     found_is_one    what was found as it was wanted is one
---     none_exactly    none was found exactly if the question is true nowhere
 use Rattle.std.proofs.Common.{ℕ, refl, ◌↔◌}
 use Rattle.std.specs.Prelude.{Option, Some, None, Result, Ok, Err, IfOk, IfSome, IsNone}
 use Rattle.olap_base.specs.Graph.{IsHierarchy}

@@ -1,7 +1,4 @@
 -- The questions of an audit.
---     unused_is       the question at an edge's child
---     redundant_is    the question of the schema without a constraint
---     path_of         the path of one edge
 use Rattle.std.proofs.Common.{◌≡◌, ℕ, ◌<◌, List, [], ◌∷◌, ◌++◌, length, get_or, refl, ap, sym, subst, ◌∙◌, ◌↔◌, inl, inr, map, Some, arith}
 use Rattle.std.specs.Prelude.{◌≤◌, Contains, flat_map, remove, slice_get}
 use Rattle.std.proofs.lemmas.List.{length-map}

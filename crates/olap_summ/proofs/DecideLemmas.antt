@@ -1,9 +1,4 @@
 -- A decision, as its searches are asked in turn.
---     with_searches      the decision with these searches
---     IsKept, kept       it is one for the same questions, with the same names and sizes
---     IsShown, shown     what it shows once a search found something
---     put_back           the searches with one in its place again
---     IsTurn, turn       what the next search says, as it comes back
 use Rattle.std.proofs.Common.{◌≡◌, ◌<◌, ◌+◌, ℕ, List, length, get_or, refl, sym, ◌∙◌}
 use Rattle.std.specs.Prelude.{slice_set}
 use Rattle.std.specs.Vec.{with_items}

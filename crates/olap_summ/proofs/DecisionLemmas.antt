@@ -1,11 +1,5 @@
 -- The searches of a decision: as they are made, asked and given up.
---     first_names, own_names      the names of the first search of a category, and of each; `place_within`
---     AreMadeBefore               the searches so far, as they are made; `none_made`, `one_made`, `none_to_make`,
 -- `all_made`
---     asked_at, asked_few         what is asked may be asked
---     AreThose                    the searches after some were asked; `one_asked`
---     all_asked, found_here       what the searches answered
---     answer_is_yes, answer_is_no, shows_no    and what the answer is
 use Rattle.std.proofs.Common.{◌≡◌, ◌==◌, ◌<◌, ◌≤◌, ◌+◌, ◌↔◌, ◌⊎◌, ◌∷◌, ◌++◌, ◌∙◌, ℕ, zero, suc, List, [], length, get_or, take, drop, if◌then◌else◌, inl, inr, refl, ap, sym, subst, eq-eqb, arith}
 use Rattle.std.specs.Prelude.{All, AllPairs, Contains, slice_index, slice_set}
 use Rattle.std.proofs.lemmas.Bool.{ne_eqb}
@@ -93,14 +87,6 @@ pub record AreMadeBefore (s : Schema) (q : Formula) (n : ℕ) (xs : List Asked) 
   pub ordered : AllPairs ◌<◌ (roots_of xs)
   pub bottoms : (b : ℕ) → Contains (roots_of xs) b ↔ (IsBottom s.graph b × (b < n))
 
--- before the first bottom category no search was made
-pub none_made : (s : Schema) (q : Formula) → AreMadeBefore s q 0 []
-none_made s q = record {
-  asked = λ k d h. absurd (omega arith);
-  ordered = λ i j d h l. absurd (omega arith);
-  bottoms = λ b. (λ t. absurd (let l : t.0 < 0 = t.1 in omega arith), λ t. absurd (let l : b < 0 = t.1 in omega arith));
-}
-
 -- a category that isn't a bottom one
 pub none_to_make : (s : Schema) (q : Formula) (n : ℕ) (xs : List Asked) → AreMadeBefore s q n xs
     → (IsBottom s.graph n → ⊥) → AreMadeBefore s q (n + 1) xs
@@ -171,10 +157,6 @@ pub record AreThose (s : Schema) (q : Formula) (old new : List Asked) : Type 0 w
   pub asked : All (IsAskedOf s q) new
   pub roots : roots_of new ≡ roots_of old
   pub names : (r : ℕ) → names_among new r ≡ names_among old r
-
--- searches of which none was asked are those that were made
-pub none_asked : (s : Schema) (q : Formula) (xs : List Asked) → All (IsAskedOf s q) xs → AreThose s q xs xs
-none_asked s q xs h = record { asked = h; roots = refl; names = λ r. refl }
 
 -- a search that was asked has the names that it had
 names_kept : (xs : List Asked) (k : ℕ) (a d : Asked) → a.root.0 ≡ (get_or xs k d).root.0

@@ -1,22 +1,15 @@
 -- The findings so far, and one more.
---     none_yet     the empty list is before all
---     one_more     with a finding at this place; `added` in the words of the code
---     no_more      with none at this place; `none_added` likewise
---     to_constraints, to_edges    on to the next kind
---     all_found    after the last
 use Rattle.std.proofs.Common.{◌≡◌, ℕ, zero, suc, ◌+◌, ◌<◌, ◌≤◌, List, [], ◌∷◌, ◌++◌, length, get_or, map, refl, ap, sym, subst, ◌∙◌, ◌⊎◌, inl, inr, arith}
 use Rattle.std.specs.Prelude.{Contains}
 use Rattle.std.proofs.lemmas.List.{map-append}
 use Rattle.std.proofs.lemmas.List.Elements.{Contains-append_left, Contains-get_or, Contains-push, Contains-push_cases}
 use Rattle.std.proofs.lemmas.List.Quantifiers.{all_pairs_push}
 use Rattle.std.proofs.lemmas.Option.{get_or_from_slice_get, slice_get-get_or, slice_get_within}
-use Rattle.olap_base.specs.Graph.{category_count}
-use Rattle.olap_base.proofs.ListLemmas.{Contains-nil}
 use Rattle.olap_ast.specs.Findings.{AreFindings, Finding, Finding.Unsatisfiable, Finding.Redundant, Finding.Unused, IsFinding, IsRedundant, IsUnsatisfiable, IsUnused, finding_rank}
 use Rattle.olap_ast.specs.Schema.{Schema}
 use Rattle.olap_base.specs.Ranks.{IsNotAfter}
 use Rattle.olap_graph.specs.Lookups.{edge_at}
-use Rattle.olap_summ.specs.Audits.{AreFindingsBefore, IsBefore, IsEarlier, finding_of, kind_of, place_of, redundant, unsatisfiable, unused}
+use Rattle.olap_summ.specs.Audits.{AreFindingsBefore, IsBefore, IsEarlier, finding_of, kind_of, place_of, redundant, unused}
 use Rattle.olap_summ.specs.declared.auditing.Finding.{Finding as Told}
 
 -- ---- kinds and places
@@ -189,40 +182,6 @@ next_kind s kind place next first list b e within from = record {
     back : (g : Finding) → IsFinding s g → IsBefore next first g → IsBefore kind place g
     back g is (inl l) = elim (split (kind_of g) l) [ inl h ↦ inl h | inr q ↦ inr (q, within g q is) ]
     back g is (inr h) = let l = h.1 in let m = from g h.0 is in absurd (omega (arith, l, m))
-
--- before the first place there are no findings
-pub none_yet : (s : Schema) → AreFindingsBefore s unsatisfiable 1 []
-none_yet s = record {
-  ordered = λ i j d h l. absurd (omega arith);
-  sound = λ f c. absurd (Contains-nil f c);
-  complete = λ f is before. absurd (none f is before);
-}
-  where
-    none : (f : Finding) → IsFinding s f → IsBefore 1 1 f → ⊥
-    none (Unsatisfiable zero) is b = is.0.0 refl
-    none (Unsatisfiable (suc c)) is (inl l) = omega (arith, l)
-    none (Unsatisfiable (suc c)) is (inr h) = let l = h.1 in omega (arith, l)
-    none (Redundant n) is (inl l) = omega (arith, l)
-    none (Redundant n) is (inr h) = let q = h.0 in omega (arith, q)
-    none (Unused e) is (inl l) = omega (arith, l)
-    none (Unused e) is (inr h) = let q = h.0 in omega (arith, q)
-
--- after the categories come the constraints, counted from 1
-pub to_constraints : (s : Schema) (list : List Finding)
-    → AreFindingsBefore s unsatisfiable (category_count s.graph) list
-    → AreFindingsBefore s redundant 1 list
-to_constraints s list b = next_kind s 1 (category_count s.graph) 2 1 list b refl within from
-  where
-    within : (f : Finding) → kind_of f ≡ 1 → IsFinding s f → place_of f < category_count s.graph
-    within (Unsatisfiable c) k is = is.0.1
-    within (Redundant n) k is = absurd (omega (arith, k))
-    within (Unused e) k is = absurd (omega (arith, k))
-
-    from : (f : Finding) → kind_of f ≡ 2 → IsFinding s f → 1 ≤ place_of f
-    from (Unsatisfiable c) k is = absurd (omega (arith, k))
-    from (Redundant zero) k is = absurd is
-    from (Redundant (suc n)) k is = omega arith
-    from (Unused e) k is = absurd (omega (arith, k))
 
 -- after the constraints come the edges
 pub to_edges : (s : Schema) (n : ℕ) (list : List Finding) → n ≡ length s.constraints + 1

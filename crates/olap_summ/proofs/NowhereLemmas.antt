@@ -43,11 +43,6 @@ one_of s q r found l = record {
 pub none_is : (A P : Type 0) → P → IsNone {T = A} None ↔ P
 none_is A P p = (λ e. p, λ q. refl)
 
--- what holds anyway holds of what was found
-pub some_of : {A : Type 0} (o : Option A) (P : Type 0) → P → IfSome o (λ _. P)
-some_of None P p = tt
-some_of (Some a) P p = p
-
 -- some, where it isn't so
 pub some_is : {A : Type 0} (a : A) (P : Type 0) → (P → ⊥) → IsNone (Some a) ↔ P
 some_is a P n = (λ e. absurd (let z : true ≡ false = e in cc), λ p. absurd (n p))

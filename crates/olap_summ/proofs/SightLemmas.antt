@@ -1,8 +1,4 @@
 -- What a frozen dimension that was found shows of categories and edges.
---     seen_chosen                    the marks stay facts where those of a chosen edge are added
---     seen_root, root_marked         and where that of the root is
---     root_keeps, edge_keeps         no mark is lost by either; `keeps_both`
---     settled_next                   the categories that are settled stay so, and one more is
 use Rattle.std.proofs.Common.{◌≡◌, ℕ, zero, suc, ◌+◌, ◌<◌, List, [], ◌∷◌, Bool, true, false, length, get_or, refl, ap, sym, subst, ◌∙◌, ◌⊎◌, inl, inr, arith}
 use Rattle.std.specs.Prelude.{slice_set, slice_index_or}
 use Rattle.std.proofs.lemmas.List.{get_or-set_other, length-set}

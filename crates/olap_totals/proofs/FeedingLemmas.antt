@@ -1,7 +1,4 @@
 -- Stored views that change by the facts of a file that is read piece by piece.
---     IsSoFar      a changer has taken the bytes so far
---     change_out   a file by whose facts stored views don't change
---     change_in    a file by whose facts they do
 use Rattle.std.proofs.Common.{◌≡◌, ◌≤◌, ◌∙◌, ℕ, List, Option, Result, Ok, Err, length, codes, ap, refl}
 use Rattle.std.specs.Io.KnownBytes.{Consumes}
 use Rattle.std.specs.Result.{result_map_both}

@@ -1,6 +1,4 @@
 -- Each question that an order of this family comes to is about a valid schema.
---     verify_comes    so it is along the order of a command
---     asked_named     and of whatever words
 use Rattle.std.proofs.Common.{ℕ, List, [], None, drop}
 use Rattle.std.specs.Prelude.{codes, if◌then◌else◌}
 use Rattle.std.specs.Str.{bytes_eq}

@@ -1,8 +1,5 @@
 -- Rows at members of a category, in file order.
---     all-rows      what holds of the rows of a function of members
 --     each-in-order they stand so
---     store-of      such views may stand in a store
---     rows-back     rows that stand so are those of the function that finds each at its member
 use Rattle.std.proofs.Common.{◌≡◌, ◌≢◌, ◌+◌, ◌<◌, ◌≤◌, ◌==◌, ◌∷◌, ◌∙◌, [], ℕ, zero, suc, Bool, true, false, cond, List, length, get_or, map, filter, filter_map, Option, Some, None, IfSome, option_map, refl, sym, ap, subst, inl, inr, arith}
 use Rattle.std.specs.Prelude.{All, AllPairs, Contains}
 use Rattle.std.specs.List.{cons_option, range_with_len}

@@ -1,7 +1,4 @@
 -- Who is found by a name or an id that is another's.
---     member-found   a member is found by its id
---     member-is      so is one that has the id
---     category-is    a category that has the name is found by it
 use Rattle.std.proofs.Common.{◌≡◌, ◌<◌, ◌∙◌, ℕ, List, [], length, get_or, map, Some, sym, ap, arith, zero-add}
 use Rattle.std.proofs.lemmas.List.{get_or-map, length-map}
 use Rattle.olap_base.specs.Graph.{Graph, IsCategory, IsHierarchy}

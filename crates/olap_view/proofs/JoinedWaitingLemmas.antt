@@ -1,22 +1,19 @@
 -- What waits is joined to a summary table, member by member.
---     HasJoined                               what the first members had waiting stands in the table
---     joined_start, joined_some, joined_none  no member, and one more, at which something waits or nothing
 --     joined_room                             no sum wraps
-use Rattle.std.proofs.Common.{◌≡◌, ℕ, ◌+◌, ◌*◌, ◌<◌, ◌≤◌, length, get_or, take, Bool, true, false, cond, refl, sym, ap, subst, ◌∙◌, Option, Some, None, IfSome, arith}
+use Rattle.std.proofs.Common.{◌≡◌, ℕ, ◌+◌, ◌*◌, ◌<◌, length, get_or, take, Bool, true, false, cond, refl, sym, ap, subst, ◌∙◌, Option, Some, None, IfSome, arith}
 use Rattle.std.specs.Option.{option_map}
 use Rattle.olap_base.specs.Instance.{Instance}
-use Rattle.olap_base.specs.Limits.{most_count, most_members}
+use Rattle.olap_base.specs.Limits.{most_count}
 use Rattle.olap_base.specs.Reaching.{reaches}
 use Rattle.olap_base.specs.Summaries.{Summary, ◌⊕◌}
 use Rattle.olap_base.proofs.TotalLemmas.{⊕_assoc, ⊕_none}
-use Rattle.olap_view.specs.Bounds.{IsJoinable}
 use Rattle.olap_view.specs.Seen.{summary_of}
 use Rattle.olap_view.specs.SummaryTables.{Summarized, stands_at}
 use Rattle.olap_view.specs.Tables.{IsAmong, when}
 use Rattle.olap_view.specs.Tallies.{IsTableWithin, IsWaitingWithin, IsWithin, Waiting, waiting_at}
 use Rattle.olap_view.specs.declared.summaries.Summary as told
 use Rattle.olap_view.proofs.TallyLemmas.{among}
-use Rattle.olap_view.proofs.WaitingLemmas.{waiting_taken, within_cond, within_joinable, within_joined, within_more}
+use Rattle.olap_view.proofs.WaitingLemmas.{waiting_taken, within_cond, within_joined, within_more}
 
 -- what waits at each of the first n members is joined to what stands in t at the members that it reaches
 pub record HasJoined (t u : Summarized) (ws : Waiting) (n : ℕ) : Type 0 where
@@ -34,19 +31,6 @@ joined_start t ws h = record {
   at = λ y m. sym (⊕_none (stands_at t y));
   small = λ y m. within_more most_count ((0 + 1) * most_count) (stands_at t y) (omega arith) (h y m);
 }
-
--- what stands there, and what waits, may be joined
-pub joined_room : (t u : Summarized) (ws : Waiting) (n : ℕ) → n < length ws → length ws ≤ length t.instance
-    → length t.instance ≤ most_members → HasJoined t u ws n
-    → (y : ℕ) → IsAmong u.instance u.categories y → IfSome (stands_at u y) IsJoinable
-joined_room t u ws n h l k j y m =
-    within_joinable ((n + 1) * most_count) (stands_at u y) (omega arith) (j.small y m)
-
--- what waits may be joined
-pub waiting_joinable : (ws : Waiting) (n : ℕ) (s : told.Summary) → get_or ws n None ≡ Some s
-    → IsWaitingWithin most_count ws → IsJoinable (summary_of s)
-waiting_joinable ws n s e w = within_joinable most_count (Some (summary_of s)) (omega arith)
-    (subst (λ (o : Option told.Summary). IfSome (option_map summary_of o) (IsWithin most_count)) e (w n))
 
 module _ (t u : Summarized) (ws : Waiting) (n : ℕ) (h : n < length ws) (j : HasJoined t u ws n) where
   -- what waits at one member more, or nothing

@@ -1,6 +1,4 @@
 -- What a record of a text of stored views says, check by check.
---     too-many, may-begin         a record that begins a view
---     some-seen                   something is there, whatever it is seen as
 --     no-view, row-twice, row-is  a row's record
 use Rattle.std.proofs.Common.{◌≡◌, ◌↔◌, ◌<◌, ◌≤◌, ◌==◌, ◌∙◌, ℕ, Bool, true, false, not, List, length, Option, Some, None, IsTrue, is_some, is_none, unwrap_or, if◌then◌else◌, nat_le, refl, sym, ap, subst, arith}
 use Rattle.std.specs.Prelude.{Contains}

@@ -1,7 +1,4 @@
 -- Rows of views that are joined.
---     merged_start, merged_more    no row, and one row more
---     holds_room                   no sum wraps
---     stored_small                 a stored row is small
 use Rattle.std.proofs.Common.{◌≡◌, ℕ, ◌*◌, ◌≤◌, List, [], ◌∷◌, ◌++◌, length, map, Bool, true, false, cond, ap, sym, subst, ◌∙◌, arith, Option, Some, None, IfSome}
 use Rattle.std.specs.Prelude.{All, filter}
 use Rattle.std.proofs.lemmas.List.{append-nil, map-append}

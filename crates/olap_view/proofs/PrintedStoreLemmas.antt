@@ -1,8 +1,4 @@
 -- A printed store is read whole: no record has a fault, and each row is found at its member.
---     rows-pass, views-pass    no record of a view has a fault after the views before it, nor one of the views
---     said-views               what the records say of a member is its row
---     printed-stores           the views are read as they were
---     direct-views             so are direct views
 use Rattle.std.proofs.Common.{◌≡◌, ◌≢◌, ◌+◌, ◌<◌, ◌≤◌, ◌==◌, ◌&&◌, ◌||◌, ◌++◌, ◌∷◌, ◌∙◌, [], ℕ, zero, suc, Bool, true, false, not, cond, List, drop, length, get_or, map, filter, find, flat_map, decimal, Option, Some, None, Ok, is_none, nat_le, option_map, option_and_then, unwrap_or, if◌then◌else◌, refl, sym, ap, subst, arith, append_assoc}
 use Rattle.std.specs.Prelude.{All, AllPairs}
 use Rattle.std.specs.List.{list_any}

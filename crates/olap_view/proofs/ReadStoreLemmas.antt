@@ -1,8 +1,4 @@
 -- Stored views that are read are a sound store.
---     summary-fits    the numbers that a record spells are within the bounds of stored rows
---     all-few         the categories that records without a fault begin are few, and differ
---     number-is       a record's category is one of the graph
---     read-stores     the theorem
 use Rattle.std.proofs.Common.{◌≡◌, ◌≢◌, ℕ, ℤ, suc, pos, negsuc, ◌+◌, ◌<◌, ◌≤◌, List, [], ◌∷◌, ◌++◌, Bool, true, false, cond, length, get_or, Option, None, Some, IfSome, option_map, refl, ap, sym, subst, arith, append_assoc}
 use Rattle.std.specs.Prelude.{◌&&◌, ◌==◌, ◌≤ℤ◌, neg_ℤ, AllPairs, Ok, Err, drop, filter, find, nat_le, nat_lt, not, unwrap_or}
 use Rattle.std.specs.List.{list_any, position_from}

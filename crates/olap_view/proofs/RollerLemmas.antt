@@ -1,10 +1,4 @@
 -- A roller takes a piece more, and the text ends.
---     whole-taken   a whole text as one piece
---     IsAdded       a tally has these facts more
---     no-fact       there is no last fact
---     taken-more    a piece more
---     refused-by    a refusal of the feed's text is that of the roller's
---     rolled-up     at the end the tally gives the views of the text
 use Rattle.std.proofs.Common.{◌≡◌, ◌++◌, ◌∙◌, [], ℕ, List, Option, None, Some, MatchResult, ap, map, refl, subst, sym}
 use Rattle.std.specs.Prelude.{Ok, Err, Result}
 use Rattle.std.proofs.lemmas.List.{append-nil}

@@ -1,7 +1,4 @@
 -- The views of a table that tells the records of a text: those that the records stand for, which a store may hold.
---     views-told      the views are those that the records stand for
---     views-sound     a store may hold them
---     views-ordered   their rows stand in file order
 use Rattle.std.proofs.Common.{◌≡◌, ◌≢◌, ◌∷◌, ◌∙◌, [], ℕ, List, length, get_or, map, Option, Some, None, IfSome, refl, sym, ap, subst, arith}
 use Rattle.std.specs.Prelude.{All, AllPairs}
 use Rattle.std.proofs.lemmas.List.Elements.{All-map}

@@ -1,6 +1,4 @@
 -- What is read of a text of stored views is what it means.
---     store-named    a text
---     meant-store    the views of a text that has no fault
 use Rattle.std.proofs.Common.{◌≡◌, ◌∙◌, ◌∷◌, ◌++◌, ap, sym, subst, ℕ, pos, Bool, true, false, cond, List, [], length, map, Option, Some, None, Result, Ok, refl}
 use Rattle.std.specs.Prelude.{◌==◌, ◌&&◌, ◌||◌, ⊤, Err, codes, filter, filter_map, find, is_none, nat_le, not, unwrap_or}
 use Rattle.std.specs.List.{cons_option, list_any}

@@ -1,5 +1,4 @@
 -- Rows that tell what the records so far say, record by record.
---     tells-view     one record more, which begins a view
 --     tells-row      one record more, which is a row
 use Rattle.std.proofs.Common.{◌≡◌, ◌≢◌, ◌<◌, ◌==◌, ◌&&◌, ◌||◌, ◌∷◌, ◌++◌, ◌∙◌, [], ℕ, zero, suc, Bool, true, false, not, cond, List, length, get_or, map, filter, find, Option, Some, None, IfSome, is_some, option_and_then, refl, sym, ap, subst, inl, inr, arith, length-append}
 use Rattle.std.specs.Prelude.{All, AllPairs}

@@ -1,7 +1,4 @@
 -- The text of stored views: its records, printed one after the other and read back.
---     stored-view   one view more
---     store-reads   the printed text reads back
---     header-is     whether the first record is the header
 use Rattle.std.proofs.Common.{◌≡◌, ◌↔◌, ◌+◌, ◌<◌, ◌++◌, ◌∷◌, ◌∙◌, Bool, ℕ, zero, suc, List, [], length, map, take, flat_map, get_or, IsTrue, refl, sym, ap, arith, append_assoc}
 use Rattle.std.specs.Prelude.{All}
 use Rattle.std.specs.Bool.{one_answer}

@@ -1,6 +1,4 @@
 -- The numbers that std's parse gives, by the words of this crate.
---     digits-parses, digits-of-text   a number of 64 bits
---     wide-decides                    the test of 128 bits
 use Rattle.std.proofs.Common.{◌≡◌, ◌<◌, ◌==◌, ◌^◌, ◌&&◌, ℕ, ℤ, pos, negsuc, false, List, Result, None, refl, nat_lt, slice_index}
 use Rattle.std.specs.Bool.{Decides}
 use Rattle.std.specs.Result.{result_ok}

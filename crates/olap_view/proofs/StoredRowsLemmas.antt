@@ -1,5 +1,4 @@
 -- The rows of stored views while they are read: numbers of summaries, and one row more.
---     room      there is a number for one row more
 --     put-is    one row more
 use Rattle.std.proofs.Common.{◌≡◌, ◌≢◌, ◌+◌, ◌<◌, ◌≤◌, ◌∷◌, ◌++◌, ◌∙◌, [], ℕ, zero, suc, true, cond, List, length, get_or, set, count_by, nat_lt, Some, None, option_map, refl, sym, ap, subst, arith}
 use Rattle.std.specs.List.{slice_get}

@@ -1,8 +1,4 @@
 -- How large totals may be.
---     joinable                         a small summary may be joined
---     joined_up_to, joined_of_values   two summaries together
---     total_of_stored                  the total of stored rows
---     total_of_value_list              the total of values of 64 bits
 use Rattle.std.proofs.Common.{ℕ, suc, ◌+◌, ◌*◌, ◌^◌, ◌≤◌, List, [], ◌∷◌, length, map, arith, ℤ, Option, Some, None, IfSome, w64}
 use Rattle.std.specs.Prelude.{All, int_lt}
 use mir.Val.{SFits}

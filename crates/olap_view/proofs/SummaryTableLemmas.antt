@@ -1,10 +1,5 @@
 -- What stands in summary tables.
---     summarized_is              what stands at a member is what the table has there
---     put_at, joined_at          after a change
---     view_at-is, views_at-are   the views of the table
 --     filled_start, filled_more  rows of stored views, one after another
---     filled_first, filled_next, filled_all   stored views, one after another
---     categories_more            the category of one view more
 use Rattle.std.proofs.Common.{◌≡◌, ◌≢◌, ℕ, suc, ◌+◌, ◌<◌, ◌≤◌, List, [], ◌∷◌, ◌++◌, length, get_or, set, map, take, Bool, true, false, cond, refl, ap, sym, subst, ◌∙◌, inl, inr, arith, Option, Some, None, IfSome, get_or-set_same, get_or-set_other}
 use Rattle.std.specs.Prelude.{◌==◌, ◌⊎◌, All, AllPairs, Contains, filter_map, find}
 use Rattle.std.specs.List.{range_with_len}
@@ -42,14 +37,6 @@ summarized_is i t y h = get_or-map (summary_at t) (range_with_len 0 (length i)) 
   where
     zero_more : (y : ℕ) → 0 + y ≡ y
     zero_more y = omega arith
-
--- the same members where the categories are the same
-pub among_as : (i : Instance) (t u : Table) → u.categories ≡ t.categories → (y : ℕ) → IsAmong i (categories_of t) y
-    → IsAmong i (categories_of u) y
-among_as i t u e y m = record {
-  member = m.member;
-  category = subst (λ l. Contains l (category_of i y)) (sym (ap (λ v. map (λ d. d.0) v.items) e)) m.category;
-}
 
 -- after a summary was put at y
 pub put_at : (i : Instance) (t u : Table) (y : ℕ) (s : told.Summary) → HasPlaces i t → IsAmong i (categories_of t) y

@@ -1,10 +1,6 @@
 -- Tables: their places, and what joining a summary leaves.
 --     places_start, _add, _skip, _done     places, member by member
---     joined_some, joined_none             joining in one category
---     so_far_start, so_far_step, joined_all  joining in all
---     places_kept                          what is as large has the same places
 --     ids_more, ids_taken, id_in, id_fresh   categories one by one
---     views_more                           their views
 use Rattle.std.proofs.Common.{◌≡◌, ◌≢◌, ℕ, ◌+◌, ◌<◌, List, [], ◌∷◌, ◌++◌, length, get_or, set, take, map, Bool, true, false, ◌&&◌, ◌||◌, refl, ap, sym, subst, ◌∙◌, arith, Option, Some, None, get_or-set_same, get_or-set_other}
 use Rattle.std.specs.Prelude.{◌==◌, Contains, AllPairs}
 use Rattle.std.specs.List.{list_any}
@@ -89,16 +85,6 @@ module _ (i : Instance) (cs : List ℕ) (n k : ℕ) (places : List ℕ) (p : Pla
       ]
     ];
   }
-
--- all members have their places
-pub places_done : (i : Instance) (t : Table) (n k : ℕ) → n ≡ length i → length t.summaries.items ≡ k
-    → PlacesSoFar i (categories_of t) n k t.places.items → HasPlaces i t
-places_done i t n k e l p = record {
-  size = p.size;
-  inside = λ y a. let m = a.member in let b : y < n = omega arith in let f = p.inside y b a.category in omega arith;
-  apart = λ y z a b q. let m = a.member in let r = b.member in
-      p.apart y z (omega arith) (omega arith) a.category b.category q;
-}
 
 -- ---- joining in one category
 
@@ -304,10 +290,6 @@ module _ (cs : List CatId) (k : ℕ) (c : CatId) (h : k < length cs) (e : c ≡ 
   -- its number stands at its place
   id_at : get_or (ids cs) k 0 ≡ c.0
   id_at = get_or-map (λ (d : CatId). d.0) cs k c 0 h ∙ ap (λ (d : CatId). d.0) (sym e)
-
-  -- the first numbers with one more
-  pub ids_taken : take (k + 1) (ids cs) ≡ take k (ids cs) ++ c.0 ∷ []
-  ids_taken = take_more (ids cs) k 0 (simp length-map h) ∙ ap (λ d. take k (ids cs) ++ d ∷ []) id_at
 
   -- it isn't among those before it
   pub id_fresh : AllPairs ◌≢◌ (ids cs) → Contains (ids (take k cs)) c.0 → ⊥

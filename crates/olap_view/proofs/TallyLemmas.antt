@@ -1,12 +1,4 @@
 -- For which fact tables a tally stands.
---     tallied_is                   what stands at a member
---     tally_start, stands_start    no fact
---     IsAdded, stands_more         one fact more
---     table_within, waiting_within   how great what it has counted is
---     IsInTable, IsInWaiting       a fact's value goes into the table, or waits
---     among                        the members of the same categories
---     view_is, view_stored         the view of a category
---     views_are, views_stored      the views of all of them
 use Rattle.std.proofs.Common.{◌≡◌, ℕ, ◌+◌, ◌<◌, ◌≤◌, List, [], ◌∷◌, ◌++◌, length, get_or, set, map, Bool, true, false, cond, refl, ap, sym, subst, ◌∙◌, arith, Option, Some, None, IfSome, w64, length-append, get_or-set_same, get_or-set_other}
 use Rattle.std.specs.Prelude.{All, Contains, filter, filter_map}
 use Rattle.std.specs.List.{range_with_len}

@@ -1,5 +1,4 @@
 -- Summaries that wait at members.
---     waiting_none, waiting_set, waiting_taken   what they come to at a member that theirs reach
 --     within_more, within_joined, within_joinable, within_value   how great they are
 use Rattle.std.proofs.Common.{◌≡◌, ℕ, zero, suc, ◌+◌, ◌*◌, ◌^◌, ◌<◌, ◌≤◌, [], ◌∷◌, ◌++◌, length, get_or, set, take, Bool, true, false, cond, refl, sym, ap, ◌∙◌, ℤ, Option, Some, None, IfSome, w64, arith}
 use mir.Val.{SFits}
@@ -9,12 +8,11 @@ use Rattle.olap_base.specs.Instance.{Instance}
 use Rattle.olap_base.specs.Reaching.{reaches}
 use Rattle.olap_base.specs.Summaries.{Summary, joined, of_value, ◌⊕◌}
 use Rattle.olap_base.proofs.TotalLemmas.{⊕_assoc, ⊕_comm, ⊕_none}
-use Rattle.olap_view.specs.Bounds.{IsJoinable}
 use Rattle.olap_view.specs.Seen.{summary_of}
 use Rattle.olap_view.specs.Tables.{when}
 use Rattle.olap_view.specs.Tallies.{IsWithin, Waiting, waiting_from}
 use Rattle.olap_view.specs.declared.summaries.Summary as told
-use Rattle.olap_view.proofs.SummaryLemmas.{joinable, joined_up_to, up_to_more, value_up_to}
+use Rattle.olap_view.proofs.SummaryLemmas.{joined_up_to, up_to_more, value_up_to}
 
 -- ---- what waits at the members that reach one
 
@@ -91,11 +89,6 @@ within_joined n k (Some s) None a b = within_more n (n + k) (Some s) (omega arit
 within_joined n k (Some s) (Some t) a b =
     up_to_more (n + k) (n * 2 ^ 63 + k * 2 ^ 63) (n + k) ((n + k) * 2 ^ 63) (joined s t) (omega arith) (omega arith)
     (joined_up_to n (n * 2 ^ 63) k (k * 2 ^ 63) s t a b)
-
--- what is within this many may be joined
-pub within_joinable : (n : ℕ) (o : Option Summary) → n ≤ 2 ^ 62 → IfSome o (IsWithin n) → IfSome o IsJoinable
-within_joinable n None h q = tt
-within_joinable n (Some s) h q = joinable n (n * 2 ^ 63) s h (omega arith) q
 
 -- under a test, what is within this many
 pub within_cond : (n : ℕ) (b : Bool) (o : Option Summary) → IfSome o (IsWithin n) → IfSome (cond b o None) (IsWithin n)

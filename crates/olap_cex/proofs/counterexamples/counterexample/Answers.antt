@@ -10,14 +10,8 @@ use Rattle.olap_cex.proofs.counterexamples.counterexample.Goals.{then-ways-eq0, 
 
 pub returns-clause-cex : goal.returns-clause-cex
 returns-clause-cex c =
-    let g = c.args.graph.now in
-    let f = c.args.found.now in
-    let ok = c.requires.found in
     let hier = c.in_ok-ways.ensures.hierarchy in
-    let t = c.args.target.0 in
     let sources : List ℕ = map (λ s. s.0) c.args.sources.now in
-    let y = c.requires.reaches.0 in
-    let n = c.in_ok-ways.ways in
     let told = views_are g f ok hier t sources c.requires.reaches n c.in_ok-ways.ensures.count in
     let views : views_sum (found_instance g f) (found_place g f) t sources ≡ option_map pos c.if-ways-eq0.result =
     elim c.if-ways-eq0.branch [
@@ -31,6 +25,15 @@ returns-clause-cex c =
       target = refl;
       direct = direct_is g f ok hier t sources c.requires.reaches n c.in_ok-ways.ensures.count;
       views = views;
+    }
+  where
+    open c use {
+      args.graph.now as g,
+      args.found.now as f,
+      args.target.0 as t,
+      requires.found as ok,
+      requires.reaches.0 as y,
+      in_ok-ways.ways as n,
     }
 
 pub returns-clause-text : goal.returns-clause-text

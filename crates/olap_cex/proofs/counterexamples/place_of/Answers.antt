@@ -15,11 +15,7 @@ overflow_add-place c =
 
 pub categories-preserved : goal.categories-preserved
 categories-preserved c =
-    let g = c.args.graph.now in
-    let f = c.args.found.now in
-    let r = f.frozen.root.0 in
     let es = found_edges g f in
-    let x = c.categories.d in
     let some : 1 ≤ x = omega arith in
     let tells = c.has_member.ensures ∙ ap (λ bits. is_present r (chosen g.edges bits) x) c.items.ensures in
     elim c.if-has_member.branch [
@@ -30,3 +26,5 @@ categories-preserved c =
           count_same r es x c.categories.place c.if-has_member.place some (sym tells ∙ w.if-has_member.false)
           c.categories.invariant w.place-is
     ]
+  where
+    open c use {args.graph.now as g, args.found.now as f, args.found.now.frozen.root.0 as r, categories.d as x}

@@ -11,9 +11,6 @@ use Rattle.olap_cex.proofs.counting.count_reaching.Goals as goal
 
 pub returns-clause-count : goal.returns-clause-count
 returns-clause-count c =
-    let g = c.args.graph.now in
-    let f = c.args.found.now in
-    let rows = c.close.new.rows in
     let drawn = subst (λ bits. AreRows g (chosen g.edges bits) rows) c.items.ensures c.close.ensures.rows in
     holds_swap (IsWay rows f.frozen.root.0 c.args.target.0)
     (λ s. ReachesVia (found_instance g f) (found_place g f) s c.args.target.0)
@@ -21,3 +18,5 @@ returns-clause-count c =
     (λ s k. way_is g f c.requires.found.root c.close.ensures.hierarchy rows drawn c.args.target.0 s
     (among (IsCategory g) c.args.sources.now c.requires.sources s k))
     c.count_ways.ensures
+  where
+    open c use {args.graph.now as g, args.found.now as f, close.new.rows}

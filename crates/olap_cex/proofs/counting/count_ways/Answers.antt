@@ -11,13 +11,10 @@ use Rattle.olap_cex.proofs.counting.count_ways.Goals.{then-is_way, else-is_way}
 pub sources-preserved : goal.sources-preserved
 sources-preserved c =
     let P = IsWay c.args.rows.now c.args.root.0 c.args.target.0 in
-    let xs = c.args.sources.now in
-    let i = c.sources.source-index in
     let x : CatId = get_or xs i (record { 0 = 0 }) in
     let front : List ℕ = map (λ s. s.0) (take i xs) in
     let inside : i < length xs = omega arith in
     let more = sym (map_more (λ (s : CatId). s.0) xs i (record { 0 = 0 }) inside) in
-    let few = c.sources.invariant.few in
     elim c.if-is_way.branch [
       | then-is_way w ↦ record {
         few = let e = w.ways-is in omega arith;
@@ -33,3 +30,5 @@ sources-preserved c =
             (λ h. let t : false ≡ true = sym w.if-is_way.false ∙ c.is_way.ensures.1 h in cc)));
       }
     ]
+  where
+    open c use {args.sources.now as xs, sources.source-index as i, sources.invariant.few}

@@ -13,8 +13,6 @@ use Rattle.olap_cex.proofs.lines.push_members.Goals.{then-is_present+in_ok-push_
 
 pub categories-preserved : goal.categories-preserved
 categories-preserved c =
-    let g = c.args.graph.now in
-    let f = c.args.frozen.now in
     let text = member_text g (candidates_of c.args.candidates.now) (frozen_of f) in
     let es = chosen g.edges f.edges in
     let tells = c.is_present.ensures
@@ -33,3 +31,5 @@ categories-preserved c =
           c.if-is_present.out.items
           some (sym tells ∙ w.if-is_present.false) c.categories.invariant out
     ]
+  where
+    open c use {args.graph.now as g, args.frozen.now as f}

@@ -11,9 +11,6 @@ edges-init c = ends_none c.args.graph.now.edges c.args.edges.now (members c.empt
 
 pub edges-preserved : goal.edges-preserved
 edges-preserved c =
-    let es = c.args.graph.now.edges in
-    let bits = c.args.edges.now in
-    let k = c.edges.e in
     let at = ap (λ n. get_or bits n false) (sym c.from.ensures) in
     elim c.if-edges-from.branch [
       | then-edges-from w ↦ subst (λ s. AreEnds es bits (k + 1) (members s)) (sym w.found-is)
@@ -23,6 +20,8 @@ edges-preserved c =
       | else-edges-from w ↦ subst (λ s. AreEnds es bits (k + 1) (members s)) (sym w.found-is)
           (ends_less es bits k (members c.edges.found) (at ∙ w.if-edges-from.false) c.edges.invariant)
     ]
+  where
+    open c use {args.graph.now.edges as es, args.edges.now as bits, edges.e as k}
 
 pub returns : goal.returns
 returns c = λ x.

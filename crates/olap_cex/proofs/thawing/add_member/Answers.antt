@@ -38,9 +38,6 @@ unreachable-requires c =
 
 pub returns-in-Ok-clause-added : goal.returns-in-Ok-clause-added
 returns-in-Ok-clause-added c =
-    let r = c.requires in
-    let g = c.args.graph.now in
-    let f = c.args.found.now in
     let id = c.in_ok-id.ensures ∙ c.bytes.ensures ∙ c.name.ensures in
     let name = c.in_ok-name.ensures ∙ c.bytes-2.ensures ∙ c.name-2.ensures in
     let old = found_draft g f (c.args.c.0 - 1) [] in
@@ -49,3 +46,5 @@ returns-in-Ok-clause-added c =
     ∙ ap (λ i. with_member old i c.args.c.0 c.in_ok-name.name) id
     ∙ ap (λ n. with_member old (name_of_category g c.args.c.0) c.args.c.0 n) name
     ∙ member_added g f r.found r.hierarchy c.args.c.0 r.declared r.category r.present
+  where
+    open c use {requires as r, args.graph.now as g, args.found.now as f}

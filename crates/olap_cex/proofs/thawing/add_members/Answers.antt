@@ -10,11 +10,7 @@ use Rattle.olap_cex.proofs.thawing.add_members.Goals.{then-has_member+in_ok-add_
 
 pub categories-preserved : goal.categories-preserved
 categories-preserved c =
-    let g = c.args.graph.now in
-    let f = c.args.found.now in
-    let r = f.frozen.root.0 in
     let es = found_edges g f in
-    let x = c.categories.c in
     let some : 1 ≤ x = omega arith in
     let back : x ≡ x + 1 - 1 = omega arith in
     let tells = c.has_member.ensures ∙ ap (λ bits. is_present r (chosen g.edges bits) x) c.items.ensures in
@@ -37,3 +33,5 @@ categories-preserved c =
           (place_or_all r es) c.in_ok-push-2.ensures.items c.categories.invariant.count
           c.categories.invariant.places here;
     }
+  where
+    open c use {args.graph.now as g, args.found.now as f, args.found.now.frozen.root.0 as r, categories.c as x}

@@ -6,8 +6,6 @@ use Rattle.olap_cex.proofs.thawing.add_parents.Goals.{then-edges-from+in-Some+in
 
 pub unreachable-requires : goal.unreachable-requires
 unreachable-requires c =
-    let g = c.args.graph.now in
-    let r = c.requires in
     let inside : c.edges.e < length g.edges = omega (arith, c.edges-e-end.ensures.count) in
     let bit = sym (ap (λ b. get_or b c.edges.e false) c.items-edges.ensures)
     ∙ sym (ap (λ i. get_or c.items-edges.result.now i false) c.from.ensures) ∙ c.if-edges-from.true in
@@ -15,11 +13,11 @@ unreachable-requires c =
     c.ends.result.0.0 c.ends.result.1.0 c.ends.ensures.edge c.ends.ensures.child c.ends.ensures.parent
     c.from-then-edges-from.result c.ends.result.1.0 c.from-then-edges-from.ensures refl
     c.edges.builder c.edges.invariant c.in_default.not-Some
+  where
+    open c use {args.graph.now as g, requires as r}
 
 pub add_parent-requires-clause-child : goal.add_parent-requires-clause-child
 add_parent-requires-clause-child c =
-    let g = c.args.graph.now in
-    let r = c.requires in
     let inside : c.edges.e < length g.edges = omega (arith, c.edges-e-end.ensures.count) in
     let bit = sym (ap (λ b. get_or b c.edges.e false) c.items-edges.ensures)
     ∙ sym (ap (λ i. get_or c.items-edges.result.now i false) c.from.ensures) ∙ c.if-edges-from.true in
@@ -27,11 +25,11 @@ add_parent-requires-clause-child c =
     c.ends.result.0.0 c.ends.result.1.0 c.ends.ensures.edge c.ends.ensures.child c.ends.ensures.parent
     c.from-then-edges-from.result c.from-then-edges-from-2.result c.from-then-edges-from.ensures
     c.from-then-edges-from-2.ensures c.edges.builder c.edges.invariant c.in-Some.member c.in-Some.is
+  where
+    open c use {args.graph.now as g, requires as r}
 
 pub add_parent-requires-clause-parent : goal.add_parent-requires-clause-parent
 add_parent-requires-clause-parent c =
-    let g = c.args.graph.now in
-    let r = c.requires in
     let inside : c.edges.e < length g.edges = omega (arith, c.edges-e-end.ensures.count) in
     let bit = sym (ap (λ b. get_or b c.edges.e false) c.items-edges.ensures)
     ∙ sym (ap (λ i. get_or c.items-edges.result.now i false) c.from.ensures) ∙ c.if-edges-from.true in
@@ -39,11 +37,11 @@ add_parent-requires-clause-parent c =
     c.ends.result.0.0 c.ends.result.1.0 c.ends.ensures.edge c.ends.ensures.child c.ends.ensures.parent
     c.from-then-edges-from.result c.from-then-edges-from-2.result c.from-then-edges-from.ensures
     c.from-then-edges-from-2.ensures c.edges.builder c.edges.invariant
+  where
+    open c use {args.graph.now as g, requires as r}
 
 pub add_parent-requires-clause-new : goal.add_parent-requires-clause-new
 add_parent-requires-clause-new c =
-    let g = c.args.graph.now in
-    let r = c.requires in
     let inside : c.edges.e < length g.edges = omega (arith, c.edges-e-end.ensures.count) in
     let bit = sym (ap (λ b. get_or b c.edges.e false) c.items-edges.ensures)
     ∙ sym (ap (λ i. get_or c.items-edges.result.now i false) c.from.ensures) ∙ c.if-edges-from.true in
@@ -51,11 +49,11 @@ add_parent-requires-clause-new c =
     c.ends.result.0.0 c.ends.result.1.0 c.ends.ensures.edge c.ends.ensures.child c.ends.ensures.parent
     c.from-then-edges-from.result c.from-then-edges-from-2.result c.from-then-edges-from.ensures
     c.from-then-edges-from-2.ensures c.edges.builder c.edges.invariant c.in-Some.member c.in-Some.is
+  where
+    open c use {args.graph.now as g, requires as r}
 
 pub edges-preserved : goal.edges-preserved
 edges-preserved c =
-    let g = c.args.graph.now in
-    let r = c.requires in
     let inside : c.edges.e < length g.edges = omega (arith, c.edges-e-end.ensures.count) in
     let same = sym (ap (λ b. get_or b c.edges.e false) c.items-edges.ensures)
     ∙ sym (ap (λ i. get_or c.items-edges.result.now i false) c.from.ensures) in
@@ -71,3 +69,5 @@ edges-preserved c =
           edge_skipped g c.args.found.now c.edges.e inside (same ∙ w.if-edges-from.false) c.edges.builder
           c.if-edges-from.builder c.edges.invariant w.builder-is
     ]
+  where
+    open c use {args.graph.now as g, requires as r}

@@ -53,11 +53,11 @@ pub returns-in-Some-first_shortcut-clause-err : goal.returns-in-Some-first_short
 returns-in-Some-first_shortcut-clause-err c =
     let strata = (rw c.in_default-2.is at c.in_ok-x.ensures.none) refl in
     let table = rw c.in-Ok.is at c.in_ok-table.ensures.ok in
-    let first = c.in-Some-first_shortcut in
-    let above = c.parent-above-in-Some-first_shortcut in
     report5 c.args.instance.now c.args.categories c.args.edges.now c.requires.bounded c.args.graph.now c.requires.edges
     (c.in_default.ensures.none refl) (c.in_default-first_orphan.ensures.none refl) strata c.in-Ok.table table first.x
     first.k above.result first.ensures.some above.ensures
+  where
+    open c use {in-Some-first_shortcut as first, parent-above-in-Some-first_shortcut as above}
 
 pub returns-clause-table : goal.returns-clause-table
 returns-clause-table c = rw c.in-Ok.is at c.in_ok-table.ensures.ok

@@ -9,13 +9,13 @@ use Rattle.olap_check.proofs.parting.above.Goals as goal
 
 pub listed-init : goal.listed-init
 listed-init c =
-    let n = c.args.categories in
-    let count = c.members-count in
     let e = c.in_ok-seen.ensures.items_if_clones_equal (λ y e. e) in
     let closed = closed_start c.args.instance.now n count.result c.in_ok-seen.seen.items e count.ensures.count in
     let none = unmarked_start count.result c.in_ok-seen.seen.items e in
     let marked = whole_marking c.args.x c.requires.bounded c.in_ok-_first.ensures in
     climbing_start c.args.x c.requires.bounded closed none c.new-list.ensures.items marked
+  where
+    open c use {args.categories as n, members-count as count}
 
 pub mark-requires-in-Some-clause-z : goal.mark-requires-in-Some-clause-z
 mark-requires-in-Some-clause-z c =

@@ -14,8 +14,6 @@ members-init c = record {
 
 pub members-preserved : goal.members-preserved
 members-preserved c =
-    let i = c.args.instance.now in
-    let v = c.members.invariant in
     elim c.else-category.branch [
       | else-category-via-then-category+in_ok-repeats+else-branch w ↦
           let m = w.in_ok-repeats.ensures.closed w.if-branch.false in
@@ -30,6 +28,8 @@ members-preserved c =
                 (λ e. absurd (w.if-category.false (c.category.ensures ∙ e)));
           }
     ]
+  where
+    open c use {args.instance.now as i, members.invariant as v}
 
 pub returns : goal.returns
 returns c = first_at_limit c.args.instance.now c.args.category c.args.limit c.members.x c.members-test.false

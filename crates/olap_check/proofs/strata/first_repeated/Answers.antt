@@ -10,9 +10,6 @@ categories-init c = first_start c.args.instance.now c.members-first.result c.mem
 
 pub categories-preserved : goal.categories-preserved
 categories-preserved c =
-    let i = c.args.instance.now in
-    let d = c.categories.category in
-    let first = c.categories.first in
     elim c.if-is_on_cycle.branch [
       | then-is_on_cycle+in_ok-first w ↦
           subst (IsFirstOf i (d + 1)) (sym w.first-is)
@@ -24,3 +21,5 @@ categories-preserved c =
           (first_step i d first first c.categories.invariant
           (first_off_cycle c.args.graph.now i d first c.requires.linked off))
     ]
+  where
+    open c use {args.instance.now as i, categories.category as d, categories.first}

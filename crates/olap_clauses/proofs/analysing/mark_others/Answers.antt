@@ -10,11 +10,6 @@ use Rattle.olap_clauses.proofs.analysing.mark_others.Goals.{else-ne-via-then-ne+
 pub lits-preserved : goal.lits-preserved
 lits-preserved c =
     let vs = values_of c.args.trail.now in
-    let clause = c.args.clause.now in
-    let i = c.lits.k in
-    let old = c.lits.seen in
-    let grows = c.lits.invariant.grows in
-    let tested = c.lits.invariant.tested in
     let Grown = λ (seen : List Bool). Grows c.args.seen.now seen in
     let Tested = λ (seen : List Bool). AreOthersTested vs clause c.args.lit (i + 1) seen in
     elim c.else-ne.branch [
@@ -34,6 +29,14 @@ lits-preserved c =
                 (others_more vs clause c.args.lit i old old (λ x h. h) tested (inl same));
           }
     ]
+  where
+    open c use {
+      args.clause.now as clause,
+      lits.k as i,
+      lits.seen as old,
+      lits.invariant.grows,
+      lits.invariant.tested,
+    }
 
 pub returns-clause-right : goal.returns-clause-right
 returns-clause-right c = λ _ v sat a.

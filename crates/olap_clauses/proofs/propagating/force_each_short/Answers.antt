@@ -1,5 +1,5 @@
 -- What was forced so far, and what is forced now.
-use Rattle.olap_clauses.proofs.AdmitsLemmas.{extends_again, extends_none}
+use Rattle.olap_clauses.proofs.AdmitsLemmas.{extends_again}
 use Rattle.olap_clauses.proofs.propagating.force_each_short.Goals as goal
 
 pub returns-then-is_some-clause-extends : goal.returns-then-is_some-clause-extends

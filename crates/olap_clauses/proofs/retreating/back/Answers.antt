@@ -8,8 +8,6 @@ use Rattle.olap_clauses.proofs.retreating.back.Goals as goal
 
 pub steps-preserved : goal.steps-preserved
 steps-preserved c =
-    let i = c.steps.invariant in
-    let e = c.in-Some.ensures in
     let left = steps_of c.pop.new.self in
     let last : Grown left (steps_of c.steps.trail) = record {
       more = c.in-Some.step ∷ [];
@@ -26,3 +24,5 @@ steps-preserved c =
           omega arith;
       variables = e.variables ∙ i.variables;
     }
+  where
+    open c use {steps.invariant as i, in-Some.ensures as e}

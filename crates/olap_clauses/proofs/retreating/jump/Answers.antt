@@ -7,9 +7,9 @@ use Rattle.olap_clauses.proofs.retreating.jump.Goals as goal
 
 pub returns-clause-forces : goal.returns-clause-forces
 returns-clause-forces c = λ v t a.
-    let from = c.learned_from-from.result in
-    let at = c.branch_from-at.result in
     let below : from ≤ at = let h = c.branch_from-at.ensures.above in omega arith in
     c.learned_from-from.ensures.right v t
     (agrees_take v (steps_of c.args.trail.now) from at below
     (subst (λ ss. Agrees v ss) c.cut.ensures.steps a))
+  where
+    open c use {learned_from-from.result as from, branch_from-at.result as at}

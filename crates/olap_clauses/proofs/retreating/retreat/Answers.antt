@@ -57,9 +57,7 @@ returns-in-Open c =
 
 pub returns-in-None : goal.returns-in-None
 returns-in-None c =
-    let r = c.branches.invariant in
     let b = c.in-None.ensures.back in
-    let new = c.back.new.trail in
     record {
       on = λ e. absurd (false≢true e);
       off = λ e v a n h. goes_off new r b.0 b.1 v a n
@@ -69,3 +67,5 @@ returns-in-None c =
       variables = c.in-None.ensures.variables ∙ r.variables;
       less = λ e. absurd (false≢true e);
     }
+  where
+    open c use {branches.invariant as r, back.new.trail as new}

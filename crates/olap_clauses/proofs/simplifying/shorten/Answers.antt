@@ -8,9 +8,6 @@ use Rattle.olap_clauses.proofs.simplifying.shorten.Goals as goal
 
 pub lits-preserved : goal.lits-preserved
 lits-preserved c =
-    let k = c.lits.k in
-    let clause = c.args.clause.now in
-    let new = c.write_unless.new.work.items in
     record {
       kept =
           kept_more (steps_of c.args.trail.now) clause k c.lits.work.items new c.write_unless.ensures.kept
@@ -23,6 +20,8 @@ lits-preserved c =
       count = let h = c.write_unless.ensures.count in let i = c.lits.invariant.count in omega arith;
       room = let h = c.write_unless.ensures.room in let i = c.lits.invariant.room in omega arith;
     }
+  where
+    open c use {lits.k, args.clause.now as clause, write_unless.new.work.items as new}
 
 pub returns-clause-right : goal.returns-clause-right
 returns-clause-right c = λ v a sat.

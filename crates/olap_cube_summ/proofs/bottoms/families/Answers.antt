@@ -15,8 +15,6 @@ patterns_of-requires-clause-root c =
 pub categories-preserved : goal.categories-preserved
 categories-preserved c =
     let s = schema_of c.args.schema.now in
-    let q = c.args.question.now in
-    let before = c.categories.invariant.families in
     elim c.if-is_bottom.branch [
       | then-is_bottom+in_ok-patterns+in_ok-push w ↦ record {
         families = family_added s q c.categories.b c.categories.families.items before
@@ -33,6 +31,8 @@ categories-preserved c =
         room = ap (λ (r : Room). length r.rows.items) w.room-is ∙ c.categories.invariant.room;
       }
     ]
+  where
+    open c use {args.question.now as q, categories.invariant.families as before}
 
 pub returns : goal.returns
 returns c =

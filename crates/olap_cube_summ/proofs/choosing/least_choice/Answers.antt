@@ -39,8 +39,6 @@ take_least-requires-clause-dimension c =
 pub take_least-requires-clause-bad : goal.take_least-requires-clause-bad
 take_least-requires-clause-bad c =
     let ss = schemas_of c.args.cube.now in
-    let qs = c.args.questions.now in
-    let fs = c.args.families.now in
     let inside = c.dimensions-test.true in
     let d : Dimension = record {
       schema = schema_of c.schema-schema.result.now;
@@ -61,12 +59,12 @@ take_least-requires-clause-bad c =
     (sets_left ss qs fs c.deref.result.now (c.dimensions.i + 1) c.requires.questions c.requires.families
     (c.deref.ensures.value ∙ c.in_ok-sets.ensures))
     c.dimensions.invariant.bad)
+  where
+    open c use {args.questions.now as qs, args.families.now as fs}
 
 pub dimensions-preserved : goal.dimensions-preserved
 dimensions-preserved c =
     let ss = schemas_of c.args.cube.now in
-    let qs = c.args.questions.now in
-    let fs = c.args.families.now in
     let inside = c.dimensions-test.true in
     let all = dimensions_of ss qs fs in
     let d : Dimension = record {
@@ -92,6 +90,8 @@ dimensions-preserved c =
           c.in_ok-taken.taken.found left least;
       small = c.in_ok-taken.ensures.small;
     }
+  where
+    open c use {args.questions.now as qs, args.families.now as fs}
 
 pub returns : goal.returns
 returns c =

@@ -12,10 +12,7 @@ use Rattle.olap_cube_summ.proofs.formulas.has_pattern.Goals as goal
 pub sources-preserved : goal.sources-preserved
 sources-preserved c = let column = numbers_of c.args.column.now in
     let few = length-map c.args.column.now (λ (x : CatId). x.0) in
-    let l = c.sources-test.true in
     let at = get_or-map (λ (x : CatId). x.0) c.args.column.now c.sources.k c.args.target 0 l in
-    let told = c.in_ok-way.ensures in
-    let bit = c.has_bit-is_way.ensures in
     record {
       says = subst (λ f. IsAboutWays c.args.target.0 column
           (λ i x. HasWaysTo (c.sources.k + 1) i x c.args.target.0 column c.args.pattern) f)
@@ -25,6 +22,8 @@ sources-preserved c = let column = numbers_of c.args.column.now in
           (formula_of c.sources.formula) (formula_of c.in_ok-way.way) (slice_index column c.sources.k) refl
           (grind (arith, common_steps, at, told, bit)) c.sources.invariant.says);
     }
+  where
+    open c use {sources-test.true as l, in_ok-way.ensures as told, has_bit-is_way.ensures as bit}
 
 pub returns : goal.returns
 returns c = all_sources c.args.target.0 (numbers_of c.args.column.now) c.args.pattern c.sources.k

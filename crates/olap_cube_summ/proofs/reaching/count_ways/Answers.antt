@@ -21,14 +21,11 @@ pub sources-preserved : goal.sources-preserved
 sources-preserved c =
     let P : List ℕ → Type 0 = λ t. ReachBy (schemas_of c.args.cube.now) c.args.founds.now t (tuple_of c.args.target.now)
     in
-    let xs = c.args.sources.now in
-    let i = c.sources.source-index in
     let t = c.source-item.result in
     let front : List (List ℕ) = tuples_in (take i xs) in
     let inside : i < length xs = omega arith in
     let more : tuples_in (take (i + 1) xs) ≡ front ++ tuple_of t ∷ [] = map_more tuple_of xs i t inside
     ∙ ap (λ (u : Tuple). front ++ tuple_of u ∷ []) (sym c.source-item.is) in
-    let few = c.sources.invariant.few in
     elim c.if-reach_by.branch [
       | then-reach_by w ↦ record {
         few = let e = w.ways-is in omega arith;
@@ -45,3 +42,5 @@ sources-preserved c =
             (λ h. let t : false ≡ true = sym w.if-reach_by.false ∙ c.reach_by.ensures.1 h in cc)));
       }
     ]
+  where
+    open c use {args.sources.now as xs, sources.source-index as i, sources.invariant.few}

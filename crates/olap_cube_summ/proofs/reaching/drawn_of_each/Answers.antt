@@ -21,10 +21,6 @@ drawn-requires c =
 pub dimensions-preserved : goal.dimensions-preserved
 dimensions-preserved c =
     let ss = schemas_of c.args.cube.now in
-    let fs = c.args.founds.now in
-    let i = c.dimensions.i in
-    let f = c.index-founds-i.result in
-    let room = c.in_ok-room.room in
     let l : i < length ss = omega (arith, c.len-i-end.ensures.count) in
     let m : i < length fs = omega (arith, c.len-i-end.ensures.count, found_count ss fs c.requires) in
     let one : IsDrawn (get_or ss i no_schema) (get_or fs i f) room =
@@ -32,6 +28,8 @@ dimensions-preserved c =
     (subst (λ (h : Found). IsDrawn (schema_of c.schema.result.now) h room) c.index-founds-i.is c.in_ok-room.ensures) in
     subst (λ (rooms : List Room). AreDrawn (take (i + 1) ss) (take (i + 1) fs) rooms) (sym c.in_ok-push.ensures.items)
     (drawn_more ss fs c.dimensions.rooms.items i f room l m c.dimensions.invariant one)
+  where
+    open c use {args.founds.now as fs, dimensions.i, index-founds-i.result as f, in_ok-room.room}
 
 pub returns : goal.returns
 returns c =

@@ -76,8 +76,6 @@ is_way-requires-clause-source c =
 pub returns : goal.returns
 returns c =
     let ss = schemas_of c.args.cube.now in
-    let f = c.index-founds-i.result in
-    let room = c.index-rooms-i.result in
     let w = way_at ss c.args.founds.now c.args.rooms.now (tuple_of c.args.source.now)
     (tuple_of c.args.target.now) c.args.i f room c.requires.drawn c.requires.source c.requires.inside
     c.index-founds-i.is c.index-rooms-i.is in
@@ -104,3 +102,5 @@ returns c =
     (subst (λ t. IsTrue c.is_way.result ↔ IsWay c.deref.result.now f.frozen.root.0 t
     (get_or c.items-from.result.now c.args.i (record { 0 = 0 })).0) to c.is_way.ensures)) in
     (λ e d. (w.ways d).0 (told.0 e), λ h. told.1 ((w.ways f).1 (h f)))
+  where
+    open c use {index-founds-i.result as f, index-rooms-i.result as room}

@@ -38,11 +38,8 @@ returns-then-not-can_be_bad-clause-none c =
     let ss = schemas_of c.args.cube.now in
     let t = tuple_of c.args.target.now in
     let ts = tuples_in c.args.sources.now in
-    let qs = c.in_ok-questions.questions.items in
-    let fss = c.in_ok-families.families.items in
     let count = length-map c.args.sources.now tuple_of in
     let few : length ts ≤ most_views = subst (λ w. w ≤ most_views) (sym count) c.requires.few in
-    let asked = c.in_ok-questions.ensures in
     let of = are_questions_of ss t ts qs c.requires.target c.requires.sources few asked in
     let families = subst (λ w. AreFamiliesOf ss w fss) c.deref.ensures.value c.in_ok-families.ensures.families in
     let unions = subst (λ w. AreUnions w c.in_ok-sets.sets) c.deref-2.ensures.value c.in_ok-sets.ensures in (
@@ -52,6 +49,12 @@ returns-then-not-can_be_bad-clause-none c =
           c.if-not-can_be_bad.true,
       λ z. refl,
     )
+  where
+    open c use {
+      in_ok-questions.questions.items as qs,
+      in_ok-questions.ensures as asked,
+      in_ok-families.families.items as fss,
+    }
 
 pub first_families-requires-clause-ordered : goal.first_families-requires-clause-ordered
 first_families-requires-clause-ordered c =
@@ -82,11 +85,8 @@ least_choice-requires-clause-dimensions c =
     let ss = schemas_of c.args.cube.now in
     let t = tuple_of c.args.target.now in
     let ts = tuples_in c.args.sources.now in
-    let qs = c.in_ok-questions.questions.items in
-    let fss = c.in_ok-families.families.items in
     let count = length-map c.args.sources.now tuple_of in
     let few : length ts ≤ most_views = subst (λ w. w ≤ most_views) (sym count) c.requires.few in
-    let asked = c.in_ok-questions.ensures in
     let of = are_questions_of ss t ts qs c.requires.target c.requires.sources few asked in
     let families = subst (λ w. AreFamiliesOf ss w fss) c.deref.ensures.value c.in_ok-families.ensures.families in
     let first = subst (λ (w : List (List Family)). AreFirst (length c.args.sources.now) w c.in_ok-first.first)
@@ -95,17 +95,20 @@ least_choice-requires-clause-dimensions c =
     (subst (λ w. All (IsDimension (length ts)) (dimensions_of ss w c.items-3.result.now)) (sym c.deref-4.ensures.value)
     (subst (λ w. All (IsDimension (length ts)) (dimensions_of ss qs w)) (sym c.items-3.ensures)
     (dimensions ss t ts qs fss asked of families c.in_ok-first.first first.are_of)))
+  where
+    open c use {
+      in_ok-questions.questions.items as qs,
+      in_ok-questions.ensures as asked,
+      in_ok-families.families.items as fss,
+    }
 
 pub returns-clause-none : goal.returns-clause-none
 returns-clause-none c =
     let ss = schemas_of c.args.cube.now in
     let t = tuple_of c.args.target.now in
     let ts = tuples_in c.args.sources.now in
-    let qs = c.in_ok-questions.questions.items in
-    let fss = c.in_ok-families.families.items in
     let count = length-map c.args.sources.now tuple_of in
     let few : length ts ≤ most_views = subst (λ w. w ≤ most_views) (sym count) c.requires.few in
-    let asked = c.in_ok-questions.ensures in
     let of = are_questions_of ss t ts qs c.requires.target c.requires.sources few asked in
     let families = subst (λ w. AreFamiliesOf ss w fss) c.deref.ensures.value c.in_ok-families.ensures.families in
     let first = subst (λ w. AreFirst w fss c.in_ok-first.first) (sym count)
@@ -122,17 +125,20 @@ returns-clause-none c =
           (hierarchies ss c.in_ok-families.ensures.valid) (kinded ss c.in_ok-families.ensures.valid)).0 z _
           (is_bad ss t ts qs fss asked of families c.in_ok-first.first first c.in_ok-founds.founds least)),
     )
+  where
+    open c use {
+      in_ok-questions.questions.items as qs,
+      in_ok-questions.ensures as asked,
+      in_ok-families.families.items as fss,
+    }
 
 pub returns-clause-found : goal.returns-clause-found
 returns-clause-found c =
     let ss = schemas_of c.args.cube.now in
     let t = tuple_of c.args.target.now in
     let ts = tuples_in c.args.sources.now in
-    let qs = c.in_ok-questions.questions.items in
-    let fss = c.in_ok-families.families.items in
     let count = length-map c.args.sources.now tuple_of in
     let few : length ts ≤ most_views = subst (λ w. w ≤ most_views) (sym count) c.requires.few in
-    let asked = c.in_ok-questions.ensures in
     let of = are_questions_of ss t ts qs c.requires.target c.requires.sources few asked in
     let families = subst (λ w. AreFamiliesOf ss w fss) c.deref.ensures.value c.in_ok-families.ensures.families in
     let first = subst (λ w. AreFirst w fss c.in_ok-first.first) (sym count)
@@ -145,3 +151,9 @@ returns-clause-found c =
     (subst (λ w. AreLeast (length c.args.sources.now) (dimensions_of ss w c.items-3.result.now)
     (all_of (length c.args.sources.now)) c.in_ok-founds.founds) c.deref-4.ensures.value c.in_ok-founds.ensures)) in
     is_counterexample ss t ts qs fss asked of families c.in_ok-first.first first c.in_ok-founds.founds least
+  where
+    open c use {
+      in_ok-questions.questions.items as qs,
+      in_ok-questions.ensures as asked,
+      in_ok-families.families.items as fss,
+    }

@@ -22,9 +22,6 @@ push_dimension-requires c =
 pub dimensions-preserved : goal.dimensions-preserved
 dimensions-preserved c =
     let ss = schemas_of c.args.cube.now in
-    let fs = c.args.founds.now in
-    let i = c.dimensions.i in
-    let f = c.index-founds-i.result in
     let l : i < length ss = omega (arith, c.len-i-end.ensures.count) in
     let m : i < length fs = omega (arith, c.len-i-end.ensures.count, found_count ss fs c.requires) in
     let here : dimension_text (i + 1) (schema_of c.schema.result.now) (chosen_of f)
@@ -33,6 +30,8 @@ dimensions-preserved c =
     ∙ ap (λ (h : Found). dimension_text (i + 1) (get_or ss i no_schema) (chosen_of h)) c.index-founds-i.is in
     dimensions_more ss fs i f c.args.out.now.items c.dimensions.out.items c.push_dimension.new.out.items l m
     c.dimensions.invariant (c.in_ok-push_dimension.ensures ∙ ap (λ t. c.dimensions.out.items ++ t) here)
+  where
+    open c use {args.founds.now as fs, dimensions.i, index-founds-i.result as f}
 
 pub returns : goal.returns
 returns c =

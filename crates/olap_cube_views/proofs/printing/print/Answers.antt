@@ -31,8 +31,6 @@ pub rows-preserved : goal.rows-preserved
 rows-preserved c =
     let is = instances_of c.args.instances.now in
     let n = length c.args.view.now.target in
-    let out = c.rows.out.text in
-    let items = c.items-row-items.result.now in
     record {
       text = cube_view_more (header (length is)) (fields_in is) n items c.rows.row-index
           _ out c.print_row.new.out.text c.rows-test.true c.rows.invariant.text
@@ -41,3 +39,5 @@ rows-preserved c =
           (lent_rows is n c.args.view.now.rows items c.items-row-items.ensures c.requires.at_members)));
       width = c.in_ok-print_row.ensures.width ∙ c.rows.invariant.width;
     }
+  where
+    open c use {rows.out.text as out, items-row-items.result.now as items}

@@ -14,14 +14,8 @@ pub returns-clause-text : goal.returns-clause-text
 returns-clause-text c =
     let is = instances_of c.args.instances.now in
     let ms = take (length is) c.args.row.now.members.places in
-    let old = c.ids.fields.items in
     let m = length-map c.args.instances.now (λ (i : Bor Instance). i.now) in
     let ids = ids_end is ms c.ids.k _ (omega arith) c.ids.invariant in
-    let a = c.as_bytes.result in
-    let b = c.as_bytes-2.result in
-    let d = c.as_bytes-3.result in
-    let e = c.as_bytes-4.result in
-    let r = c.args.row.now.summary in
     let count : c.as_bytes.result.now ≡ decimal c.args.row.now.summary.count = search rules in
     let sum : c.as_bytes-2.result.now ≡ signed_decimal c.args.row.now.summary.sum = search rules in
     let least : c.as_bytes-3.result.now ≡ signed_decimal c.args.row.now.summary.least = search rules in
@@ -34,3 +28,12 @@ returns-clause-text c =
     (signed_decimal r.least) (signed_decimal r.greatest) count sum least greatest in
     subst (λ (fs : List (List ℕ)). OnOk c.row.result (c.row.new.self.text ≡ c.args.out.now.text ++ text_of_row fs))
     fields c.row.ensures.text
+  where
+    open c use {
+      ids.fields.items as old,
+      as_bytes.result as a,
+      as_bytes-2.result as b,
+      as_bytes-3.result as d,
+      as_bytes-4.result as e,
+      args.row.now.summary as r,
+    }

@@ -21,8 +21,6 @@ pub member-requires : goal.member-requires
 member-requires c =
     let gs = graphs_of c.args.graphs.now in
     let is = instances_of c.args.instances.now in
-    let row = c.args.rows.now.row in
-    let k = c.dimensions.k in
     let n = made_length gs is c.requires.made in
     let l = length-map c.args.graphs.now (λ (g : Bor Graph). g.now) in
     let m = length-map c.args.instances.now (λ (i : Bor Instance). i.now) in
@@ -35,21 +33,19 @@ member-requires c =
           (pointed_from c.args.instances.now k i (omega arith) c.index-instances-k.is)
           (drop_more row k [] (omega arith) ∙ ap (λ (f : List ℕ). f ∷ drop (k + 1) row) (sym c.field.ensures));
     }
+  where
+    open c use {args.rows.now.row, dimensions.k}
 
 pub dimensions-preserved : goal.dimensions-preserved
 dimensions-preserved c =
     let gs = graphs_of c.args.graphs.now in
     let is = instances_of c.args.instances.now in
-    let row = c.args.rows.now.row in
-    let k = c.dimensions.k in
     let n = made_length gs is c.requires.made in
     let l = length-map c.args.graphs.now (λ (g : Bor Graph). g.now) in
     let m = length-map c.args.instances.now (λ (i : Bor Instance). i.now) in
     let w = c.requires.width in
     let g = c.index-graphs-k.result in
     let i = c.index-instances-k.result in
-    let x = c.in-Ok.member in
-    let old = c.dimensions.members.items in
     subst (MembersSoFar gs is row (k + 1))
     (sym (ap members_of c.in_ok-push-in-Ok.ensures.items ∙ map-append (λ (y : MemberId). y.0) old (x ∷ [])))
     (members_more gs is row k _ c.dimensions.invariant g.now i.now c.field.result.now
@@ -57,13 +53,13 @@ dimensions-preserved c =
     (pointed_from c.args.instances.now k i (omega arith) c.index-instances-k.is)
     (drop_more row k [] (omega arith) ∙ ap (λ (f : List ℕ). f ∷ drop (k + 1) row) (sym c.field.ensures))
     x.0 c.in-Ok.ensures.member.0 c.in-Ok.ensures.member.1 c.in-Ok.ensures.inside c.in-Ok.ensures.bottom)
+  where
+    open c use {args.rows.now.row, dimensions.k, dimensions.members.items as old, in-Ok.member as x}
 
 pub returns-in-Err-clause-read : goal.returns-in-Err-clause-read
 returns-in-Err-clause-read c =
     let gs = graphs_of c.args.graphs.now in
     let is = instances_of c.args.instances.now in
-    let row = c.args.rows.now.row in
-    let k = c.dimensions.k in
     let n = made_length gs is c.requires.made in
     let l = length-map c.args.graphs.now (λ (g : Bor Graph). g.now) in
     let m = length-map c.args.instances.now (λ (i : Bor Instance). i.now) in
@@ -77,6 +73,8 @@ returns-in-Err-clause-read c =
           (drop_more row k [] (omega arith) ∙ ap (λ (f : List ℕ). f ∷ drop (k + 1) row) (sym c.field.ensures))
           c.in-Err.kind c.in-Err.ensures.member,
     )
+  where
+    open c use {args.rows.now.row, dimensions.k}
 
 pub returns-clause-read : goal.returns-clause-read
 returns-clause-read c =

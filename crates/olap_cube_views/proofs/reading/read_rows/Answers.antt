@@ -15,11 +15,6 @@ pub rows-preserved : goal.rows-preserved
 rows-preserved c =
     let gs = graphs_of c.args.graphs.now in
     let is = instances_of c.args.instances.now in
-    let inv = c.rows.invariant in
-    let seen = inv.seen in
-    let row = c.advance.new.self.row in
-    let old = c.rows.facts.items in
-    let f = c.in_ok-fact.fact in
     let left = rw c.if-branch.true at c.in_ok-advance.ensures in
     let same = same_length cube_fact_of (cube_fact_read is) old seen inv.facts in
     let size : length c.rows.invariant.seen ≡ c.len.result = search rules in
@@ -35,13 +30,19 @@ rows-preserved c =
           (cube_table_more gs is (map cube_fact_of old) (cube_fact_of f) inv.table c.in_ok-fact.ensures.bottom);
       few = omega (arith, ap length items, length-append old (f ∷ []), same, size, c.in_ok-fact.ensures.few);
     }
+  where
+    open c use {
+      rows.invariant as inv,
+      rows.invariant.seen,
+      rows.facts.items as old,
+      advance.new.self.row,
+      in_ok-fact.fact as f,
+    }
 
 pub returns-in_err-fact-clause-facts : goal.returns-in_err-fact-clause-facts
 returns-in_err-fact-clause-facts c =
     let gs = graphs_of c.args.graphs.now in
     let is = instances_of c.args.instances.now in
-    let inv = c.rows.invariant in
-    let seen = inv.seen in
     let left = rw c.if-branch.true at c.in_ok-advance.ensures in
     let same = same_length cube_fact_of (cube_fact_read is) c.rows.facts.items seen inv.facts in
     let size : length c.rows.invariant.seen ≡ c.len.result = search rules in
@@ -49,3 +50,5 @@ returns-in_err-fact-clause-facts c =
     rw (p.1, p.2) (told_cause (cube_fact_fault gs is) c.args.rows.now.left seen c.rows.rows.left c.advance.new.self.left
     c.advance.new.self.row c.len.result c.in_err-fact.field-0.0 inv.has_seen left size
     (c.in_err-fact.ensures.fact seen size))
+  where
+    open c use {rows.invariant as inv, rows.invariant.seen}

@@ -60,8 +60,6 @@ add-requires-clause-members c =
 pub returns-in_ok-add-in-Ok-clause-counts : goal.returns-in_ok-add-in-Ok-clause-counts
 returns-in_ok-add-in-Ok-clause-counts c = λ done facts h s.
     let is = instances_in c.args.columns.now in
-    let ms = c.in-Ok.fact.members in
-    let value = c.in-Ok.fact.value in
     let fits : SFits w64 c.in-Ok.fact.value = search rules in
     let going = h.going c.if-not-begun.false in
     let size = sym (length-map going.rows (cube_fact_read is)) ∙ sym (ap length going.facts_are) ∙ sym s.added
@@ -76,3 +74,5 @@ returns-in_ok-add-in-Ok-clause-counts c = λ done facts h s.
       stands_for = subst (λ (f : Fact (List ℕ)). CubeStandsFor c.add.new.self (facts ++ f ∷ [])) same
           (c.in_ok-add-in-Ok.ensures.stands facts s);
     }
+  where
+    open c use {in-Ok.fact.members as ms, in-Ok.fact.value}

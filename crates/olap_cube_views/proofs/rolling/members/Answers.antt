@@ -23,8 +23,6 @@ pub member-requires : goal.member-requires
 member-requires c =
     let gs = graphs_of c.args.graphs.now in
     let is = instances_in c.args.columns.now in
-    let row = c.args.row.now.row in
-    let k = c.dimensions.k in
     let n = made_length gs is c.requires.made in
     let l = length-map c.args.graphs.now (λ (g : Bor Graph). g.now) in
     let m = length-map c.args.columns.now (λ (a : Ascent). a.instance) in
@@ -36,21 +34,18 @@ member-requires c =
           (column_from c.args.columns.now k c.instance.result.now (omega arith) c.instance.ensures)
           (drop_more row k [] (omega arith) ∙ ap (λ (f : List ℕ). f ∷ drop (k + 1) row) (sym c.field.ensures));
     }
+  where
+    open c use {args.row.now.row, dimensions.k}
 
 pub dimensions-preserved : goal.dimensions-preserved
 dimensions-preserved c =
     let gs = graphs_of c.args.graphs.now in
     let is = instances_in c.args.columns.now in
-    let row = c.args.row.now.row in
-    let k = c.dimensions.k in
     let n = made_length gs is c.requires.made in
     let l = length-map c.args.graphs.now (λ (g : Bor Graph). g.now) in
     let m = length-map c.args.columns.now (λ (a : Ascent). a.instance) in
     let w = c.requires.width in
     let g = c.index-graphs-k.result in
-    let x = c.in_ok-place.place in
-    let old = c.dimensions.members in
-    let size = c.dimensions.invariant.size in
     record {
       so_far = subst (MembersSoFar gs is row (k + 1))
           (sym (ap members_of (take_more_set old k x (omega arith))
@@ -64,13 +59,19 @@ dimensions-preserved c =
       size = length-set old k x ∙ size;
       most = omega arith;
     }
+  where
+    open c use {
+      args.row.now.row,
+      dimensions.k,
+      dimensions.members as old,
+      dimensions.invariant.size,
+      in_ok-place.place as x,
+    }
 
 pub returns-in_err-place-clause-read : goal.returns-in_err-place-clause-read
 returns-in_err-place-clause-read c =
     let gs = graphs_of c.args.graphs.now in
     let is = instances_in c.args.columns.now in
-    let row = c.args.row.now.row in
-    let k = c.dimensions.k in
     let n = made_length gs is c.requires.made in
     let l = length-map c.args.graphs.now (λ (g : Bor Graph). g.now) in
     let m = length-map c.args.columns.now (λ (a : Ascent). a.instance) in
@@ -83,6 +84,8 @@ returns-in_err-place-clause-read c =
     (column_from c.args.columns.now k c.instance.result.now (omega arith) c.instance.ensures)
     (drop_more row k [] (omega arith) ∙ ap (λ (f : List ℕ). f ∷ drop (k + 1) row) (sym c.field.ensures))
     c.in_err-place.field-0.0 c.in_err-place.ensures.member)
+  where
+    open c use {args.row.now.row, dimensions.k}
 
 pub returns-clause-read : goal.returns-clause-read
 returns-clause-read c =

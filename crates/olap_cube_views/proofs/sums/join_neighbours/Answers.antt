@@ -24,8 +24,6 @@ joined-requires-clause-that c =
 
 pub rows-preserved : goal.rows-preserved
 rows-preserved c =
-    let old = c.args.rows.now in
-    let now = c.rows.rows in
     let here : c.rows.next < length old = omega arith in
     let same = slice_eq-Decides Decides-eqb _ _ _ c.eq.ensures in
     elim c.if-eq.branch [
@@ -36,6 +34,8 @@ rows-preserved c =
           (step_moved old now c.rows.last c.rows.next most_count _ c.requires.sorted c.rows.invariant here
           c.requires.within (λ e. cc (same.1 e, w.if-eq.false)))
     ]
+  where
+    open c use {args.rows.now as old, rows.rows as now}
 
 pub returns-clause-same : goal.returns-clause-same
 returns-clause-same c = λ q.

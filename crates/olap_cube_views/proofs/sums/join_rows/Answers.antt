@@ -15,11 +15,11 @@ use Rattle.olap_cube_views.proofs.sums.join_rows.Goals as goal
 
 pub join_neighbours-count-requires-clause-within : goal.join_neighbours-count-requires-clause-within
 join_neighbours-count-requires-clause-within c =
-    let old = c.args.rows.now.items in
-    let sorted = c.sort_unstable_by_key.new.self.items in
     subst (λ (rs : List told.CubeRow). IsWithin most_count (entries_of rs)) (sym c.as_mut_slice.ensures.value)
     (within_permuted most_count (entries_of old) (entries_of sorted)
     (IsPermutation-map entry_of old sorted c.sort_unstable_by_key.ensures.permutation) c.requires)
+  where
+    open c use {args.rows.now.items as old, sort_unstable_by_key.new.self.items as sorted}
 
 pub join_neighbours-count-requires-clause-sorted : goal.join_neighbours-count-requires-clause-sorted
 join_neighbours-count-requires-clause-sorted c =
@@ -29,8 +29,6 @@ join_neighbours-count-requires-clause-sorted c =
 
 pub returns-then-not-is_empty-clause-same : goal.returns-then-not-is_empty-clause-same
 returns-then-not-is_empty-clause-same c = λ q.
-    let old = c.args.rows.now.items in
-    let sorted = c.sort_unstable_by_key.new.self.items in
     let cut : c.truncate.new.self.items ≡ take c.join_neighbours-count.result c.join_neighbours-count.new.rows =
     c.truncate.ensures.items ∙ ap (take c.join_neighbours-count.result)
     (with_items_is c.sort_unstable_by_key.new.self c.join_neighbours-count.new.rows
@@ -40,11 +38,11 @@ returns-then-not-is_empty-clause-same c = λ q.
     ∙ ap (λ (rs : List told.CubeRow). summary_at (entries_of rs) q) c.as_mut_slice.ensures.value
     ∙ summary_permuted (entries_of old) (entries_of sorted)
     (IsPermutation-map entry_of old sorted c.sort_unstable_by_key.ensures.permutation) q
+  where
+    open c use {args.rows.now.items as old, sort_unstable_by_key.new.self.items as sorted}
 
 pub returns-then-not-is_empty-clause-within : goal.returns-then-not-is_empty-clause-within
 returns-then-not-is_empty-clause-within c = λ n w.
-    let old = c.args.rows.now.items in
-    let sorted = c.sort_unstable_by_key.new.self.items in
     let cut : c.truncate.new.self.items ≡ take c.join_neighbours-count.result c.join_neighbours-count.new.rows =
     c.truncate.ensures.items ∙ ap (take c.join_neighbours-count.result)
     (with_items_is c.sort_unstable_by_key.new.self c.join_neighbours-count.new.rows
@@ -54,6 +52,8 @@ returns-then-not-is_empty-clause-within c = λ n w.
     (subst (λ (rs : List told.CubeRow). IsWithin n (entries_of rs)) (sym c.as_mut_slice.ensures.value)
     (within_permuted n (entries_of old) (entries_of sorted)
     (IsPermutation-map entry_of old sorted c.sort_unstable_by_key.ensures.permutation) w)))
+  where
+    open c use {args.rows.now.items as old, sort_unstable_by_key.new.self.items as sorted}
 
 pub returns-else-not-is_empty-clause-order : goal.returns-else-not-is_empty-clause-order
 returns-else-not-is_empty-clause-order c =

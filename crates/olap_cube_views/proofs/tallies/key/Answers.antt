@@ -8,31 +8,32 @@ use Rattle.olap_cube_views.proofs.tallies.key.Goals as goal
 
 pub dimensions-preserved : goal.dimensions-preserved
 dimensions-preserved c =
-    let columns = c.args.columns.now in
-    let members = c.args.members.now in
-    let k = c.dimensions.k in
     let n = as_many columns members c.requires.members in
     let here : k < length columns = omega arith in
     let there : k < length members = omega arith in
     let few : k < most_dimensions = let f = c.requires.few in omega arith in
-    let a = c.index-columns-k.result in
-    let m = c.in-Some.y in
     key_more columns members k c.dimensions.key c.dimensions.invariant a _
     (drop_more columns k a here ∙ ap (λ (u : Ascent). u ∷ drop (k + 1) columns) (sym c.index-columns-k.is))
     (drop_more members k (record { 0 = 0 }) there) m.0 _ few c.in-Some.ensures.some refl
+  where
+    open c use {
+      args.columns.now as columns,
+      args.members.now as members,
+      dimensions.k,
+      index-columns-k.result as a,
+      in-Some.y as m,
+    }
 
 pub returns-in-None-clause-none : goal.returns-in-None-clause-none
 returns-in-None-clause-none c = λ e.
-    let columns = c.args.columns.now in
-    let members = c.args.members.now in
-    let k = c.dimensions.k in
     let n = as_many columns members c.requires.members in
     let here : k < length columns = omega arith in
     let there : k < length members = omega arith in
-    let a = c.index-columns-k.result in
     none_reached columns members k c.dimensions.key c.dimensions.invariant a _
     (drop_more columns k a here ∙ ap (λ (u : Ascent). u ∷ drop (k + 1) columns) (sym c.index-columns-k.is))
     (drop_more members k (record { 0 = 0 }) there) (c.in-None.ensures.none refl)
+  where
+    open c use {args.columns.now as columns, args.members.now as members, dimensions.k, index-columns-k.result as a}
 
 pub returns-clause-some : goal.returns-clause-some
 returns-clause-some c =

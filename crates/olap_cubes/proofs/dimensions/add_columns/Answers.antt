@@ -34,8 +34,6 @@ pub files-init : goal.files-init
 files-init g c =
     let schemas = schemas_of c.args.cube.now in
     let files = texts c.args.files.now in
-    let lib = c.args.lib.now in
-    let none = c.requires.none in
     record {
       read = subst (λ (cs : List Ascent). AreReadTo g.L.Library lib (legal_files_from 1 [] schemas files)
           (behind schemas files) 0 lib (instances_in cs)) (sym none)
@@ -44,6 +42,8 @@ files-init g c =
       made = subst (λ (cs : List Ascent). AreMadeFor (take 0 (graphs_of schemas)) (instances_in cs)) (sym none) tt;
       categories = ap categories_in none;
     }
+  where
+    open c use {args.lib.now as lib, requires.none}
 
 pub bounds-target-k : goal.bounds-target-k
 bounds-target-k g c = omega (arith, c.requires.target, c.len-k-end.ensures.count, c.files-test.true)
@@ -52,8 +52,6 @@ pub returns-in_err-column-clause-step : goal.returns-in_err-column-clause-step
 returns-in_err-column-clause-step g c =
     let schemas = schemas_of c.args.cube.now in
     let files = texts c.args.files.now in
-    let k = c.files.k in
-    let stop = c.in_err-column.field-0.0 in
     let there : k < length c.args.files.now = omega (arith, c.requires.each, c.len-k-end.ensures.count) in
     let file : c.as_str-file.result.now ≡ get_or files k [] = c.as_str-file.ensures.value
     ∙ word_is c.args.files.now k c.index-files-k.result there c.index-files-k.is in
@@ -71,6 +69,8 @@ returns-in_err-column-clause-step g c =
     (subst (λ (s : Schema). FileStep g.L.Library c.files.lib c.dimension_column.new.lib
     (legal_file s (numbered (codes "instance") (k + 1)) c.as_str-file.result.now) (λ (a : Ascent). a.instance)
     (Err stop)) c.schema-schema.ensures c.in_err-column.ensures.step))))
+  where
+    open c use {files.k, in_err-column.field-0.0 as stop}
 
 pub push-requires : goal.push-requires
 push-requires g c = omega (arith, c.files.invariant.each, c.len-k-end.ensures.count, c.len-k-end.ensures.few)
@@ -80,11 +80,7 @@ unfolding nobody
 files-preserved g c =
     let schemas = schemas_of c.args.cube.now in
     let files = texts c.args.files.now in
-    let target = c.args.target.now in
-    let k = c.files.k in
     let category = get_or target k nobody in
-    let column = c.in_ok-column.column in
-    let old = c.files.columns in
     let there : k < length c.args.files.now = omega (arith, c.requires.each, c.len-k-end.ensures.count) in
     let inside : k < length target = omega (arith, c.requires.target, c.len-k-end.ensures.count) in
     let file : c.as_str-file.result.now ≡ get_or files k [] = c.as_str-file.ensures.value
@@ -117,6 +113,8 @@ files-preserved g c =
           ∙ ap (λ n. ids (take k target) ++ n ∷ []) c.in_ok-column.ensures.category
           ∙ sym (ids_more target k category inside (get_or_default target k nobody category inside));
     }
+  where
+    open c use {args.target.now as target, files.k, files.columns as old, in_ok-column.column}
 
 pub returns-in-Err-clause-step : goal.returns-in-Err-clause-step
 returns-in-Err-clause-step g c =

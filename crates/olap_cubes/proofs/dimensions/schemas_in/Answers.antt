@@ -22,8 +22,6 @@ behind files k read = schema_files_from (k + 1) read (drop k files)
 pub returns-in_err-schema-clause-step : goal.returns-in_err-schema-clause-step
 returns-in_err-schema-clause-step g c =
     let files = texts c.args.files.now in
-    let k = c.files.k in
-    let stop = c.in_err-schema.field-0.0 in
     let file : c.as_str.result.now ≡ get_or files k [] = c.as_str.ensures.value
     ∙ word_is c.args.files.now k c.index-files-k.result c.files-test.true c.index-files-k.is in
     let here : k < length files = omega (arith, length-map c.args.files.now string_bytes) in
@@ -34,6 +32,8 @@ returns-in_err-schema-clause-step g c =
     c.files.invariant.read (schemas_from files k (schemas_of c.files.cube) here)
     (subst (λ w. FileStep g.L.Library c.files.lib c.dimension_schema.new.lib
     (schema_file (numbered (codes "schema") (k + 1)) w) schema_of (Err stop)) file c.in_err-schema.ensures.step)))
+  where
+    open c use {files.k, in_err-schema.field-0.0 as stop}
 
 pub returns-in-Err-clause-step : goal.returns-in-Err-clause-step
 returns-in-Err-clause-step g c =
@@ -45,8 +45,6 @@ returns-in-Err-clause-step g c =
 pub files-preserved : goal.files-preserved
 files-preserved g c =
     let files = texts c.args.files.now in
-    let k = c.files.k in
-    let schema = c.in_ok-schema.schema in
     let file : c.as_str.result.now ≡ get_or files k [] = c.as_str.ensures.value
     ∙ word_is c.args.files.now k c.index-files-k.result c.files-test.true c.index-files-k.is in
     let here : k < length files = omega (arith, length-map c.args.files.now string_bytes) in
@@ -62,6 +60,8 @@ files-preserved g c =
       each = ap length more ∙ length_push (schemas_of c.files.cube) (schema_of schema)
           ∙ ap (λ n. n + 1) c.files.invariant.each;
     }
+  where
+    open c use {files.k, in_ok-schema.schema}
 
 pub returns-clause-step : goal.returns-clause-step
 returns-clause-step g c =

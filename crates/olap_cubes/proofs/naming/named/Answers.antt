@@ -12,8 +12,6 @@ use Rattle.olap_cubes.proofs.naming.named.Goals as goal
 pub names-preserved : goal.names-preserved
 names-preserved c =
     let schemas = schemas_of c.args.cube.now in
-    let names = c.args.names.now in
-    let k = c.names.k in
     let graph : c.graph.result.now ≡ (get_or schemas k no_schema).graph =
     c.graph.ensures ∙ ap (λ (s : Schema). s.graph) c.schema.ensures in
     let name : c.bytes.result.now ≡ get_or names k [] =
@@ -26,12 +24,12 @@ names-preserved c =
     (subst (λ (g : Graph). IsCategory g c.in-Some.category.0) graph c.in-Some.ensures.category)
     (ap numbers_of c.in_ok-push-in-Some.ensures.items
     ∙ map-append (λ (s : CatId). s.0) c.names.categories.items (c.in-Some.category ∷ []))
+  where
+    open c use {args.names.now as names, names.k}
 
 pub returns-in-None-clause-named : goal.returns-in-None-clause-named
 returns-in-None-clause-named c =
     let schemas = schemas_of c.args.cube.now in
-    let names = c.args.names.now in
-    let k = c.names.k in
     let graph : c.graph.result.now ≡ (get_or schemas k no_schema).graph =
     c.graph.ensures ∙ ap (λ (s : Schema). s.graph) c.schema.ensures in
     let name : c.bytes.result.now ≡ get_or names k [] =
@@ -41,6 +39,8 @@ returns-in-None-clause-named c =
     ∙ sym (ap (λ (g : Graph). category_named g c.bytes.result.now) graph) ∙ sym c.in-None.ensures.place in
     sym (named_not schemas names k (numbers_of c.names.categories.items) (omega (arith, c.requires.one_each))
     c.names-test.true c.names.invariant unknown)
+  where
+    open c use {args.names.now as names, names.k}
 
 pub returns-clause-named : goal.returns-clause-named
 returns-clause-named c =

@@ -20,8 +20,6 @@ returns-in_err-categories-clause-step c =
 pub returns-in-Some-clause-step : goal.returns-in-Some-clause-step
 returns-in-Some-clause-step c =
     let schemas = schemas_of c.args.cube.now in
-    let names = c.in_ok-names.names.items in
-    let word = c.args.word.now in
     let split : names ≡ pieces_of 44 word = c.in_ok-names.ensures.found ∙ ap (pieces_of 44) c.as_bytes.ensures.value in
     let fits : length names ≡ length schemas = omega arith in
     record {
@@ -30,12 +28,12 @@ returns-in-Some-clause-step c =
           ∙ ap (categories_named schemas) c.deref.ensures.value);
       ends = tt;
     }
+  where
+    open c use {in_ok-names.names.items as names, args.word.now as word}
 
 pub returns-clause-step : goal.returns-clause-step
 returns-clause-step c =
     let schemas = schemas_of c.args.cube.now in
-    let names = c.in_ok-names.names.items in
-    let word = c.args.word.now in
     let split : names ≡ pieces_of 44 word = c.in_ok-names.ensures.found ∙ ap (pieces_of 44) c.as_bytes.ensures.value in
     let fits : length names ≡ length schemas = omega arith in
     plain_refused (tuple_word schemas c.args.at word)
@@ -43,3 +41,5 @@ returns-clause-step c =
     (tuple_is schemas c.args.at word names None split fits
     (rw c.in-None.is at c.in_ok-categories.ensures.named ∙ ap (categories_named schemas) c.deref.ensures.value))
     c.refuse_at-in-None.ensures.refused
+  where
+    open c use {in_ok-names.names.items as names, args.word.now as word}

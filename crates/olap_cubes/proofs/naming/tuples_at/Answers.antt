@@ -20,9 +20,7 @@ pub returns-in_err-tuple-clause-step : goal.returns-in_err-tuple-clause-step
 returns-in_err-tuple-clause-step c =
     let schemas = schemas_of c.args.cube.now in
     let words = texts c.args.words.now in
-    let k = c.words.k in
     let at = c.args.at + k in
-    let stop = c.in_err-tuple.field-0.0 in
     let word : c.as_str.result.now ≡ get_or words k [] = c.as_str.ensures.value
     ∙ word_is c.args.words.now k c.index-words-k.result c.words-test.true c.index-words-k.is in
     let here : k < length words = omega (arith, length-map c.args.words.now string_bytes) in
@@ -32,6 +30,8 @@ returns-in_err-tuple-clause-step c =
     (subst (λ (xs : List Tuple).
     Replies NoAnswer (another_tuple schemas at (tuples_in xs) c.as_str.result.now) (Err stop))
     c.deref.ensures.value c.in_err-tuple.ensures.step.ends)))
+  where
+    open c use {words.k, in_err-tuple.field-0.0 as stop}
 
 pub words-preserved : goal.words-preserved
 words-preserved c =

@@ -27,9 +27,6 @@ returns-in_err-roller-2-clause-fault g c =
     let lib = g.L.Library in
     let gr = graphs_of c.args.graphs.now in
     let i = instances_in c.args.columns.now in
-    let n = c.in_ok-count.count in
-    let piece = c.fill.new.piece in
-    let e = c.in_err-roller-2.field-0.0 in
     let size : length piece ≡ 65536 = c.fill.auto.piece in
     let end : n < 65536 → EndsTold (lib.rest c.args.lib.now) (lib.rest c.fill.new.lib) =
     λ l. c.in_ok-count.ensures.end (omega (arith, l, size)) in
@@ -42,14 +39,14 @@ returns-in_err-roller-2-clause-fault g c =
     (λ more. subst (λ (xs : List ℕ). IsRefusedBy e (cube_facts_read_within most_facts gr i (records_fed (xs ++ more))))
     c.without_mark.ensures
     (c.in_err-roller-2.ensures.takes gr i (categories_in c.args.columns.now) [] c.in_ok-roller.ensures.taken more)))
+  where
+    open c use {in_ok-count.count as n, fill.new.piece, in_err-roller-2.field-0.0 as e}
 
 pub pieces-init : goal.pieces-init
 pieces-init g c =
     let gr = graphs_of c.args.graphs.now in
     let i = instances_in c.args.columns.now in
     let cs = categories_in c.args.columns.now in
-    let n = c.in_ok-count.count in
-    let piece = c.fill.new.piece in
     let size : length piece ≡ 65536 = c.fill.auto.piece in
     let bound = c.in_ok-count.ensures.bound in
     let cut = length-take-le n piece bound in
@@ -69,15 +66,15 @@ pieces-init g c =
       later = c.fill.ensures.cause.later;
       kept = c.fill.ensures.kept;
     }
+  where
+    open c use {in_ok-count.count as n, fill.new.piece}
 
 pub returns-in_err-roller-3-clause-fault : goal.returns-in_err-roller-3-clause-fault
 returns-in_err-roller-3-clause-fault g c =
     let lib = g.L.Library in
     let gr = graphs_of c.args.graphs.now in
     let i = instances_in c.args.columns.now in
-    let sf = c.pieces.invariant.so_far in
     let b = take c.in_ok-count-2.count c.fill-in-pieces.new.piece in
-    let e = c.in_err-roller-3.field-0.0 in
     let long = sf.long c.pieces-test.true in
     let stop = err_from_is_err_and c.from_residual-in_err-roller-3.result c.from_residual-in_err-roller-3.ensures.1 in
     rw (stop.1, stop.2)
@@ -89,6 +86,8 @@ returns-in_err-roller-3-clause-fault g c =
     (λ more. subst (λ (xs : List ℕ). IsRefusedBy e (cube_facts_read_within most_facts gr i (records_fed (xs ++ more))))
     (mark-joined sf.text b long)
     (c.in_err-roller-3.ensures.takes gr i (categories_in c.args.columns.now) (unmarked sf.text) sf.taken more)))
+  where
+    open c use {pieces.invariant.so_far as sf, in_err-roller-3.field-0.0 as e}
 
 pub pieces-preserved : goal.pieces-preserved
 pieces-preserved g c =
@@ -96,9 +95,6 @@ pieces-preserved g c =
     let gr = graphs_of c.args.graphs.now in
     let i = instances_in c.args.columns.now in
     let cs = categories_in c.args.columns.now in
-    let inv = c.pieces.invariant in
-    let sf = inv.so_far in
-    let piece = c.fill-in-pieces.new.piece in
     let b = take c.in_ok-count-2.count piece in
     let long = sf.long c.pieces-test.true in
     let size : length piece ≡ 65536 = c.fill-in-pieces.auto.piece ∙ inv.size in
@@ -125,21 +121,22 @@ pieces-preserved g c =
         sure = kept.sure ∙ inv.kept.sure;
       };
     }
+  where
+    open c use {pieces.invariant as inv, pieces.invariant.so_far as sf, fill-in-pieces.new.piece}
 
 pub returns-in_err-finish-clause-fault : goal.returns-in_err-finish-clause-fault
 returns-in_err-finish-clause-fault g c =
     let lib = g.L.Library in
     let gr = graphs_of c.args.graphs.now in
     let i = instances_in c.args.columns.now in
-    let inv = c.pieces.invariant in
-    let sf = inv.so_far in
-    let e = c.in_err-finish.field-0.0 in
     let stop = err_from_is_err_and c.from_residual-in_err-finish.result c.from_residual-in_err-finish.ensures.1 in
     rw (stop.1, stop.2)
     (told-end c.records_are_those_at_the_end.ensures (λ rs. IsRefusedBy e (cube_facts_read_within most_facts gr i rs))
     (lib.rest c.args.lib.now) (lib.rest c.pieces.lib) sf.text sf.parts
     (inv.end (below c.pieces.count inv.most c.pieces-test.false))
     (c.in_err-finish.ensures.view gr i (categories_in c.args.columns.now) (unmarked sf.text) sf.taken))
+  where
+    open c use {pieces.invariant as inv, pieces.invariant.so_far as sf, in_err-finish.field-0.0 as e}
 
 pub returns-clause-view : goal.returns-clause-view
 returns-clause-view g c =
@@ -147,10 +144,10 @@ returns-clause-view g c =
     let gr = graphs_of c.args.graphs.now in
     let i = instances_in c.args.columns.now in
     let cs = categories_in c.args.columns.now in
-    let inv = c.pieces.invariant in
-    let sf = inv.so_far in
     let view = cube_view_of c.in_ok-finish.field-0 in
     told-end c.records_are_those_at_the_end.ensures (λ rs. IsCubeRolledUp gr i rs cs view)
     (lib.rest c.args.lib.now) (lib.rest c.pieces.lib) sf.text sf.parts
     (inv.end (below c.pieces.count inv.most c.pieces-test.false))
     (c.in_ok-finish.ensures.view gr i cs (unmarked sf.text) sf.taken)
+  where
+    open c use {pieces.invariant as inv, pieces.invariant.so_far as sf}

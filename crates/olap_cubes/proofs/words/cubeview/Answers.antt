@@ -9,8 +9,6 @@ use Rattle.olap_cubes.proofs.words.cubeview.Goals as goal
 
 pub returns-clause-order : goal.returns-clause-order
 returns-clause-order c =
-    let k = c.args.dimensions in
-    let words = c.args.words.now in
     let first = c.in_ok-schemas.ensures.cases in
     let second = c.in_ok-instances.ensures.cases in
     let left : c.in_ok-instances.words.now ≡ drop k (drop k words) = second.2 ∙ ap (drop k) first.2 in
@@ -19,3 +17,5 @@ returns-clause-order c =
     ∙ ap (λ (ws : List (String Global)). by_two order (texts ws)) left
     ∙ sym (cut_words words c.in_ok-schemas.schemas.now c.in_ok-instances.instances.now k first.1
     (second.1 ∙ ap (take k) first.2))
+  where
+    open c use {args.dimensions as k, args.words.now as words}

@@ -22,13 +22,7 @@ join_all-requires-clause-storable c =
 
 pub returns-then-join_all : goal.returns-then-join_all
 returns-then-join_all c = λ facts s.
-    let by = c.args.change in
-    let legal = c.args.legal.now in
     let stored = views_of c.args.store.now in
-    let old = c.in_ok-table.table in
-    let new = c.join_all.new.table in
-    let e = c.in_ok-table.ensures in
-    let j = c.join_all.ensures in
     let i : new.instance ≡ legal = j.instance ∙ e.instance in
     let is = sym c.in_ok-views.ensures.views in
     record {
@@ -46,4 +40,13 @@ returns-then-join_all c = λ facts s.
       order = subst (λ (vs : List (View ℕ ℕ)). All (IsInFileOrder legal) vs) is
           (subst (λ (n : Instance). All (IsInFileOrder n) (views_at new)) i (table_order new));
       err = tt;
+    }
+  where
+    open c use {
+      args.change as by,
+      args.legal.now as legal,
+      in_ok-table.table as old,
+      in_ok-table.ensures as e,
+      join_all.new.table as new,
+      join_all.ensures as j,
     }

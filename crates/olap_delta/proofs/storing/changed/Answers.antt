@@ -23,15 +23,18 @@ joined-requires-clause-few c =
 
 pub facts-preserved : goal.facts-preserved
 facts-preserved c =
-    let i = c.args.legal.now in
-    let read = c.items-fact-items.result.now in
-    let k = c.facts.fact-index in
-    let e = c.in_ok-take.ensures in
     record {
       places = e.places ∙ c.facts.invariant.places;
       lots = e.lots;
       stand = subst (λ (fs : List (Fact ℕ)). StandFor i fs c.take.new.self) (sym (one_more read k _ c.facts-test.true))
           (e.stand i (so_far read k) c.facts.invariant.stand);
+    }
+  where
+    open c use {
+      args.legal.now as i,
+      items-fact-items.result.now as read,
+      facts.fact-index as k,
+      in_ok-take.ensures as e,
     }
 
 pub returns-in-Some : goal.returns-in-Some

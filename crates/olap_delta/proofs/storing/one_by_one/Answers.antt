@@ -10,15 +10,18 @@ use Rattle.olap_delta.proofs.storing.one_by_one.Goals as goal
 
 pub returns : goal.returns
 returns c =
-    let by = c.args.change in
-    let i = c.args.legal.now in
     let views = views_of c.args.store.now in
-    let old = c.in_ok-delta.delta in
-    let new = c.take_all.new.self in
-    let d = c.in_ok-delta.ensures in
-    let e = c.into_store.ensures in
     let all = subst (λ (fs : List told.Fact). AreTaken (map fact_of fs) old new) c.items.ensures c.take_all.ensures in
     handed_out_after by i views (facts_of c.args.facts.now) new
     (taken_since by i views [] (facts_of c.args.facts.now) old new
     (taken_none by i views old d.change d.instance d.categories d.taken d.views) all)
     c.into_store.result e.ok e.sound e.order e.err
+  where
+    open c use {
+      args.change as by,
+      args.legal.now as i,
+      in_ok-delta.delta as old,
+      in_ok-delta.ensures as d,
+      take_all.new.self as new,
+      into_store.ensures as e,
+    }

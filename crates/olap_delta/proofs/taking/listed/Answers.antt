@@ -9,15 +9,18 @@ use Rattle.olap_delta.proofs.taking.listed.Goals as goal
 
 pub returns-clause-facts : goal.returns-clause-facts
 returns-clause-facts c =
-    let by = c.args.base.change in
-    let i = c.args.base.legal.now in
     let views = views_of c.args.base.store.now in
     let listed = map fact_of c.args.facts.items in
-    let old = c.in_ok-delta.delta in
-    let mid = c.take_all.new.self in
-    let d = c.in_ok-delta.ensures in
     let first = subst (λ (fs : List told.Fact). AreTaken (map fact_of fs) old mid) c.deref.ensures.value
     c.take_all.ensures in
     taken_since by i views listed (map fact_of c.args.more.now) mid c.take_all-2.new.self
     (taken_since by i views [] listed old mid
     (taken_none by i views old d.change d.instance d.categories d.taken d.views) first) c.take_all-2.ensures
+  where
+    open c use {
+      args.base.change as by,
+      args.base.legal.now as i,
+      in_ok-delta.delta as old,
+      in_ok-delta.ensures as d,
+      take_all.new.self as mid,
+    }

@@ -14,28 +14,29 @@ use Rattle.olap_delta.proofs.texts.change_by_text.Goals as goal
 
 pub returns-in_err-changer-clause-err : goal.returns-in_err-changer-clause-err
 returns-in_err-changer-clause-err c =
-    let by = c.args.change in
-    let g = c.args.graph.now in
-    let i = c.args.legal.now in
     let views = views_of c.args.store.now in
-    let e = c.in_err-changer.field-0.0 in
-    let piece = c.without_mark.result.now in
     let stop = err_from_is_err_and c.from_residual.result c.from_residual.ensures.1 in
     rw (stop.1, stop.2)
     (subst (λ (rs : List (List (List ℕ))). IsRefusedBy e (views_changed (step_of by) i views (facts_read g i rs)))
     (ap records_fed (append-nil piece ∙ c.without_mark.ensures)
     ∙ c.records_are_those_at_the_end.ensures c.args.text.now)
     (c.in_err-changer.ensures.takes by g i views most_listed_facts [] c.new-changer.ensures []))
+  where
+    open c use {
+      args.change as by,
+      args.graph.now as g,
+      args.legal.now as i,
+      in_err-changer.field-0.0 as e,
+      without_mark.result.now as piece,
+    }
 
 pub returns : goal.returns
 returns c =
-    let by = c.args.change in
-    let g = c.args.graph.now in
-    let i = c.args.legal.now in
     let views = views_of c.args.store.now in
-    let piece = c.without_mark.result.now in
     let after = subst (λ (rs : List (List (List ℕ))). IsStoreAfterAll by i views (facts_read g i rs) c.finish.result)
     (ap records_fed c.without_mark.ensures ∙ c.records_are_those_at_the_end.ensures c.args.text.now)
     (c.finish.ensures by g i views most_listed_facts piece
     (c.in_ok-changer.ensures.takes by g i views most_listed_facts [] c.new-changer.ensures)) in
     record { ok = after.ok; sound = after.sound; order = after.order; err = after.err }
+  where
+    open c use {args.change as by, args.graph.now as g, args.legal.now as i, without_mark.result.now as piece}

@@ -12,9 +12,6 @@ use Rattle.olap_dimsat.proofs.fitting.suits_name.Goals as goal
 
 pub returns-clause-no : goal.returns-clause-no
 returns-clause-no c = λ n v r h.
-    let a = c.args.a.now in
-    let edges = c.args.frozen.now.edges in
-    let names = c.args.frozen.now.names in
     let j = c.args.lit.variable - c.index-start.result.now in
     let f : c.from.result ≡ c.args.c.0 = c.from.ensures in
     let s : c.index-start.result.now ≡ slice_index a.layout.now.starts.items c.args.c.0 =
@@ -33,3 +30,5 @@ returns-clause-no c = λ n v r h.
     beq_false (c.from-4.result == (j + 1)) c.args.lit.positive n
     (ap (λ x. x == (j + 1)) q ∙ ap (λ k. index_in (chosen_of edges names) c.args.c.0 == k) next
     ∙ sym (r.named c.args.c.0 j c.requires.category inside) ∙ ap v (sym is) ∙ h)
+  where
+    open c use {args.a.now as a, args.frozen.now.edges, args.frozen.now.names}

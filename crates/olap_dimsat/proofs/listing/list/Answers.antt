@@ -23,12 +23,10 @@ returns-then-len-limit-clause-too_many c =
 pub listed-preserved : goal.listed-preserved
 listed-preserved c =
     let t = task_of c.args.a.now in
-    let i = c.listed.invariant in
     let old = map frozen_of c.listed.list.items in
     let w = frozen_of c.listed.best in
     let y = frozen_of c.next-place.new.best in
     let ahead = subst (λ o. IfSome o (λ p. IsAhead t c.args.apart old w)) c.in-Some.is i.ahead in
-    let s = c.next-place.ensures in
     let e = c.in_ok-add.ensures.listed in record {
       few = let n = c.in_ok-add.ensures.count in let h = c.if-len-limit.false in let l = c.len.ensures in omega arith;
       handed = c.in_ok-add.ensures.handed;
@@ -45,6 +43,8 @@ listed-preserved c =
       suited = s.suited;
       ready = s.ready;
     }
+  where
+    open c use {listed.invariant as i, next-place.ensures as s}
 
 pub returns-clause-all : goal.returns-clause-all
 returns-clause-all c =

@@ -29,13 +29,13 @@ pub rise-requires-clause-pinned : goal.rise-requires-clause-pinned
 rise-requires-clause-pinned c =
     let t = task_of c.args.a.now in
     let w = chosen_of c.args.best.now.edges c.args.best.now.names in
-    let i = c.branches.invariant in
     let ss = trail_of c.branches.engine in
-    let b = c.in-Some.last in
     let all = subst (λ bs. AreBranches t c.args.apart w ss bs) c.in-Some.ensures.items i.branches in
     subst (λ (f : Frozen). IsPinned t b.place (chosen_of f.edges f.names) (trail_of c.undo.new.self)) (sym i.best)
     (subst (λ (xs : List Step). IsPinned t b.place w xs) (sym c.undo.ensures.trail)
     (last_pinned t c.args.apart w ss c.pop.new.self.items b all))
+  where
+    open c use {branches.invariant as i, in-Some.last as b}
 
 pub rise-requires-clause-fits : goal.rise-requires-clause-fits
 rise-requires-clause-fits c =
@@ -51,29 +51,28 @@ returns-then-rise-clause-some c =
     let t = task_of c.args.a.now in
     let w = chosen_of c.args.best.now.edges c.args.best.now.names in
     let y = chosen_of c.rise.new.best.edges c.rise.new.best.names in
-    let i = c.branches.invariant in
     let ss = trail_of c.branches.engine in
-    let b = c.in-Some.last in
     let all = subst (λ bs. AreBranches t c.args.apart w ss bs) c.in-Some.ensures.items i.branches in
     risen_next t c.args.apart w ss c.pop.new.self.items b all y c.requires.one c.requires.places
     (subst (λ (f : Frozen). IsRisen t b.place (chosen_of f.edges f.names) y) i.best (c.if-rise.ensures.some refl))
+  where
+    open c use {branches.invariant as i, in-Some.last as b}
 
 pub returns-then-rise-clause-branches : goal.returns-then-rise-clause-branches
 returns-then-rise-clause-branches c =
     let t = task_of c.args.a.now in
     let w = chosen_of c.args.best.now.edges c.args.best.now.names in
     let y = chosen_of c.rise.new.best.edges c.rise.new.best.names in
-    let i = c.branches.invariant in
     let ss = trail_of c.branches.engine in
     let ts = trail_of c.rise.new.engine in
-    let rest = c.pop.new.self.items in
-    let b = c.in-Some.last in
     let all = subst (λ bs. AreBranches t c.args.apart w ss bs) c.in-Some.ensures.items i.branches in
     let longer = subst (λ (xs : List Step). IsLonger xs ts) c.undo.ensures.trail (c.if-rise.ensures.longer refl) in
     subst (λ (xs : List Step). IsOpen t b.place c.args.apart y xs rest)
     (sym (c.undo-then-rise.ensures.trail ∙ last_mark t c.args.apart w ss rest b all ts longer))
     (risen_open t c.args.apart w ss rest b all y
     (subst (λ (f : Frozen). IsRisen t b.place (chosen_of f.edges f.names) y) i.best (c.if-rise.ensures.some refl)))
+  where
+    open c use {branches.invariant as i, pop.new.self.items as rest, in-Some.last as b}
 
 pub returns-then-rise-clause-ready : goal.returns-then-rise-clause-ready
 returns-then-rise-clause-ready c =
@@ -84,12 +83,8 @@ pub branches-preserved : goal.branches-preserved
 branches-preserved c =
     let t = task_of c.args.a.now in
     let w = chosen_of c.args.best.now.edges c.args.best.now.names in
-    let i = c.branches.invariant in
     let ss = trail_of c.branches.engine in
-    let rest = c.pop.new.self.items in
-    let b = c.in-Some.last in
-    let all = subst (λ bs. AreBranches t c.args.apart w ss bs) c.in-Some.ensures.items i.branches in
-    let r = c.if-rise.ensures in record {
+    let all = subst (λ bs. AreBranches t c.args.apart w ss bs) c.in-Some.ensures.items i.branches in record {
       branches = subst (λ (xs : List Step). AreBranches t c.args.apart w xs rest)
           (sym (r.trail refl ∙ c.undo.ensures.trail))
           (branches_left t c.args.apart w ss rest b all
@@ -98,6 +93,8 @@ branches-preserved c =
       suited = c.rise.ensures.suited;
       ready = c.rise.ensures.ready;
     }
+  where
+    open c use {branches.invariant as i, pop.new.self.items as rest, in-Some.last as b, if-rise.ensures as r}
 
 pub returns-clause-none : goal.returns-clause-none
 returns-clause-none c = λ e.

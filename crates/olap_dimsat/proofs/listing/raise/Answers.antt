@@ -13,8 +13,6 @@ use Rattle.olap_base.proofs.GeneralLemmas.{below_or_same}
 pub replace-requires : goal.replace-requires
 replace-requires c =
     let t = task_of c.args.a.now in
-    let old = c.args.best.now in
-    let i = c.numbers.invariant in
     let b = c.numbers-test.true in record {
       place = c.requires.place;
       number = c.requires.in_range (c.numbers.x + 1) (omega arith);
@@ -25,33 +23,34 @@ replace-requires c =
           (sym i.best) (subst (λ (ss : List Step). IsPinned t c.args.p (chosen_of old.edges old.names) ss)
           (sym i.trail) c.requires.pinned);
     }
+  where
+    open c use {args.best.now as old, numbers.invariant as i}
 
 pub numbers-preserved : goal.numbers-preserved
-numbers-preserved c =
-    let i = c.numbers.invariant in
-    let s = c.if-replace.ensures in record {
-      trail = s.trail refl ∙ i.trail;
-      best = s.stays refl ∙ i.best;
-      none = λ k l h f v one r a q. elim (below_or_same k (c.numbers.x + 1) (omega arith)) [
-        | inl b ↦ i.none k l (omega arith) f v one r a q
-        | inr z ↦ s.no refl f v one r (subst (λ (ss : List Step). AgreesDecisions v ss) (sym i.trail) a) (q ∙ z)
-      ];
-      suited = c.replace.ensures.suited;
-      ready = c.replace.ensures.ready;
-    }
+numbers-preserved c = record {
+  trail = s.trail refl ∙ i.trail;
+  best = s.stays refl ∙ i.best;
+  none = λ k l h f v one r a q. elim (below_or_same k (c.numbers.x + 1) (omega arith)) [
+    | inl b ↦ i.none k l (omega arith) f v one r a q
+    | inr z ↦ s.no refl f v one r (subst (λ (ss : List Step). AgreesDecisions v ss) (sym i.trail) a) (q ∙ z)
+  ];
+  suited = c.replace.ensures.suited;
+  ready = c.replace.ensures.ready;
+}
+  where
+    open c use {numbers.invariant as i, if-replace.ensures as s}
 
 pub returns-then-replace-clause-raised : goal.returns-then-replace-clause-raised
 returns-then-replace-clause-raised c = λ e.
     let t = task_of c.args.a.now in
-    let old = c.args.best.now in
-    let new = c.replace.new.best in
     let x = c.numbers.x + 1 in
-    let i = c.numbers.invariant in
     let r = subst (λ (b : Frozen). IsReplaced t c.args.p x (chosen_of b.edges b.names)
     (chosen_of new.edges new.names) (trail_of c.replace.new.engine)) i.best (c.if-replace.ensures.yes refl) in
     raised t c.args.p c.args.number x (chosen_of old.edges old.names) (chosen_of new.edges new.names)
     (trail_of c.args.engine.now) (trail_of c.replace.new.engine) c.args.engine.now c.requires.ready c.requires.pinned
     c.requires.number (let l = c.numbers.auto.x in omega arith) (λ k l h. i.none k l (omega arith)) r
+  where
+    open c use {args.best.now as old, replace.new.best as new, numbers.invariant as i}
 
 pub returns-clause-none : goal.returns-clause-none
 returns-clause-none c = λ e.

@@ -48,9 +48,6 @@ returns-then-not-raise c = record {
 pub returns : goal.returns
 returns c = record {
   some = λ e.
-      let old = c.args.best.now in
-      let mid = c.raise.new.best in
-      let new = c.settle_from.new.best in
       risen (task_of c.args.a.now) c.args.p (chosen_of old.edges old.names) (chosen_of mid.edges mid.names)
       (chosen_of new.edges new.names) c.settle_from.ensures.one (c.if-not-raise.ensures.raised refl)
       c.settle_from.ensures.same c.settle_from.ensures.least;
@@ -63,3 +60,5 @@ returns c = record {
   suited = c.settle_from.ensures.suited;
   ready = c.settle_from.ensures.ready;
 }
+  where
+    open c use {args.best.now as old, raise.new.best as mid, settle_from.new.best as new}

@@ -40,12 +40,8 @@ into_parts-encoded-requires c = c.in_ok-encoder.ensures.sound
 
 pub returns : goal.returns
 returns c =
-    let a = c.args in
     let s = with_graph a.graph.now (map constraint_of a.constraints.now) in
     let e = encoding_of c.in_ok-encoder.encoder in
-    let layout = c.into_parts-encoded.result.layout in
-    let pool = c.into_parts-encoded.result.pool in
-    let parts = c.into_parts-encoded.ensures in
     let t = task_at s (formula_of a.formula.now) a.root.0 c.in_ok-candidates.candidates layout in
     let i = encoded t e pool
     (record {
@@ -61,4 +57,11 @@ returns c =
       variables = c.in_ok-engine.ensures.variables;
       ready = ready_first t pool c.in_ok-engine.engine i (λ v h. c.in_ok-engine.ensures.admits v h);
       empty = c.in_ok-engine.ensures.empty;
+    }
+  where
+    open c use {
+      args as a,
+      into_parts-encoded.result.layout,
+      into_parts-encoded.result.pool,
+      into_parts-encoded.ensures as parts,
     }

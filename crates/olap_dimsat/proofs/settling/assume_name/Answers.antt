@@ -57,8 +57,6 @@ returns-then-not-assume-clause-admits c = λ v a. c.assume.ensures.admits v (c.i
 
 pub indexes-preserved : goal.indexes-preserved
 indexes-preserved c =
-    let i = c.indexes.invariant in
-    let s = c.if-not-assume.ensures in
     let t = task_of c.args.a.now in
     let above = c.indexes.auto.j in
     let p = c.indexes.j - 1 in
@@ -83,6 +81,8 @@ indexes-preserved c =
       variables = c.assume.ensures.variables ∙ i.variables;
       admits = λ v a. c.assume.ensures.admits v (i.admits v a);
     }
+  where
+    open c use {indexes.invariant as i, if-not-assume.ensures as s}
 
 pub returns-clause-yes : goal.returns-clause-yes
 returns-clause-yes c = λ e f v one r.

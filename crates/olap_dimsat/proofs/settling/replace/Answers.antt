@@ -12,13 +12,13 @@ use Rattle.olap_dimsat.proofs.settling.replace.Goals as goal
 pub returns-then-probe-clause-yes : goal.returns-then-probe-clause-yes
 returns-then-probe-clause-yes c = λ e.
     let t = task_of c.args.a.now in
-    let best = c.args.best.now in
-    let leaf = c.probe.new.leaf.frozen in
     subst (λ (f : Frozen). IsReplaced t c.args.p c.args.x (chosen_of best.edges best.names) (chosen_of f.edges f.names)
     (trail_of c.probe.new.engine)) (sym c.swap.ensures.x_after)
     (replaced t c.args.p c.args.x (chosen_of best.edges best.names) (chosen_of leaf.edges leaf.names)
     (trail_of c.args.engine.now) (trail_of c.probe.new.engine) c.args.engine.now c.requires.ready c.requires.pinned
     c.probe.ensures.shaped (c.if-probe.ensures.yes refl))
+  where
+    open c use {args.best.now as best, probe.new.leaf.frozen as leaf}
 
 pub returns-clause-ready : goal.returns-clause-ready
 returns-clause-ready c = ready_still (task_of c.args.a.now) c.probe.new.engine c.undo.new.self c.probe.ensures.ready

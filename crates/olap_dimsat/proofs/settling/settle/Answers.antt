@@ -14,8 +14,6 @@ use Rattle.olap_base.proofs.GeneralLemmas.{below_or_same}
 pub replace-requires : goal.replace-requires
 replace-requires c =
     let t = task_of c.args.a.now in
-    let old = c.args.best.now in
-    let i = c.numbers.invariant in
     let n = c.number_at-number.ensures.in_range in
     let b = c.numbers-test.true in record {
       place = c.requires.place;
@@ -30,12 +28,12 @@ replace-requires c =
           (sym i.best) (subst (λ (ss : List Step). IsPinned t c.args.p (chosen_of old.edges old.names) ss)
           (sym i.trail) c.requires.pinned);
     }
+  where
+    open c use {args.best.now as old, numbers.invariant as i}
 
 pub keep-requires : goal.keep-requires
 keep-requires c =
-    let t = task_of c.args.a.now in
-    let old = c.args.best.now in
-    let i = c.numbers.invariant in record {
+    let t = task_of c.args.a.now in record {
       task = c.requires.suited.task;
       place = c.requires.place;
       ready = i.ready;
@@ -45,42 +43,43 @@ keep-requires c =
           (sym i.trail) c.requires.pinned);
       variables = i.suited.variables;
     }
+  where
+    open c use {args.best.now as old, numbers.invariant as i}
 
 pub numbers-preserved : goal.numbers-preserved
-numbers-preserved c =
-    let i = c.numbers.invariant in
-    let s = c.if-replace.ensures in record {
-      trail = s.trail refl ∙ i.trail;
-      best = s.stays refl ∙ i.best;
-      none = λ k h f v one r a q. elim (below_or_same k c.numbers.x h) [
-        | inl l ↦ i.none k l f v one r a q
-        | inr z ↦ s.no refl f v one r (subst (λ (ss : List Step). AgreesDecisions v ss) (sym i.trail) a) (q ∙ z)
-      ];
-      suited = c.replace.ensures.suited;
-      ready = c.replace.ensures.ready;
-    }
+numbers-preserved c = record {
+  trail = s.trail refl ∙ i.trail;
+  best = s.stays refl ∙ i.best;
+  none = λ k h f v one r a q. elim (below_or_same k c.numbers.x h) [
+    | inl l ↦ i.none k l f v one r a q
+    | inr z ↦ s.no refl f v one r (subst (λ (ss : List Step). AgreesDecisions v ss) (sym i.trail) a) (q ∙ z)
+  ];
+  suited = c.replace.ensures.suited;
+  ready = c.replace.ensures.ready;
+}
+  where
+    open c use {numbers.invariant as i, if-replace.ensures as s}
 
 pub returns-then-replace-clause-least : goal.returns-then-replace-clause-least
 returns-then-replace-clause-least c =
     let t = task_of c.args.a.now in
-    let old = c.args.best.now in
-    let new = c.replace.new.best in
-    let i = c.numbers.invariant in
     let r = subst (λ (b : Frozen). IsReplaced t c.args.p c.numbers.x (chosen_of b.edges b.names)
     (chosen_of new.edges new.names) (trail_of c.replace.new.engine)) i.best (c.if-replace.ensures.yes refl) in
     none_less t c.args.p c.numbers.x (chosen_of old.edges old.names) (chosen_of new.edges new.names)
     (trail_of c.args.engine.now) c.args.engine.now c.requires.ready c.requires.pinned i.none r.same r.number
+  where
+    open c use {args.best.now as old, replace.new.best as new, numbers.invariant as i}
 
 pub returns-clause-least : goal.returns-clause-least
 returns-clause-least c =
     let t = task_of c.args.a.now in
-    let old = c.args.best.now in
     let w = chosen_of old.edges old.names in
-    let i = c.numbers.invariant in
     subst (λ (b : Frozen). NoneLess t c.args.p (chosen_of b.edges b.names)) (sym i.best)
     (none_less t c.args.p c.number_at-number.result w w (trail_of c.args.engine.now) c.args.engine.now c.requires.ready
     c.requires.pinned (λ k h. i.none k (let b = c.numbers-test.false in omega arith)) (λ k h. refl)
     (sym c.number_at-number.ensures.number))
+  where
+    open c use {args.best.now as old, numbers.invariant as i}
 
 pub returns-then-replace-clause-same : goal.returns-then-replace-clause-same
 returns-then-replace-clause-same c =

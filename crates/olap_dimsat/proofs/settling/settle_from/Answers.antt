@@ -14,10 +14,6 @@ settle_next-known-requires-clause-place c = (c.places-end.ensures c.places.p).0 
 pub places-preserved : goal.places-preserved
 places-preserved c =
     let t = task_of c.args.a.now in
-    let i = c.places.invariant in
-    let s = c.settle_next-known.ensures in
-    let old = c.places.best in
-    let new = c.settle_next-known.new.best in
     let w = chosen_of old.edges old.names in
     let y = chosen_of new.edges new.names in record {
       pinned = s.pinned;
@@ -32,6 +28,13 @@ places-preserved c =
       best = s.best;
       suited = s.suited;
       ready = s.ready;
+    }
+  where
+    open c use {
+      places.invariant as i,
+      places.best as old,
+      settle_next-known.ensures as s,
+      settle_next-known.new.best as new,
     }
 
 pub returns-clause-least : goal.returns-clause-least

@@ -25,12 +25,7 @@ returns-then-not-is_wanted-clause-says c =
 pub returns-clause-says : goal.returns-clause-says
 returns-clause-says c =
     let e = encoding_of c.any.new.e in
-    let d = c.args.d.0 in
-    let j = c.args.j in
     let op = op_of c.args.op in
-    let m = c.args.n in
-    let want = c.args.want in
-    let b = c.name-b.result in
     both_ok c.any.result (λ _. IsNext (encoding_of c.args.e.now) e) (λ o. Says e o (AnyIs c.args.l b))
     (λ o. Says e o (AmongIs d (j + 1) op m want))
     (λ o n s. says_more e d j op m want c.args.l b o (says_still n.later c.requires.says)
@@ -39,3 +34,5 @@ returns-clause-says c =
     (subst (λ names. Wants op m want (get_or names j [])) c.others.ensures.list
     ((rw (to_z-of_z w64 m c.ranges.n) at c.is_wanted.ensures).0 c.if-not-is_wanted.false))))
     c.any.ensures.next c.any.ensures.says
+  where
+    open c use {args.d.0 as d, args.j, args.n as m, args.want, name-b.result as b}

@@ -23,17 +23,15 @@ comparing-requires-clause-category c = category_still c.in_ok-a.ensures.next.lat
 pub returns-clause-says : goal.returns-clause-says
 returns-clause-says c =
     let e = encoding_of c.both.new.e in
-    let a = c.in_ok-a in
-    let b = c.in_ok-b in
-    let d = c.args.d.0 in
     let op = op_of c.args.op in
-    let m = c.args.n in
     both_ok c.both.result (λ _. IsNext (encoding_of c.comparing.new.e) e) (λ l. Says e l (BothAre a.a b.b))
     (λ l. TellsAt e c.args.c.0 l (Compare d op m))
     (λ l n s. tell_compared e n.sound c.args.c.0 l a.a b.b d op m c.requires.speaks.1 s
     (says_still (next_on b.ensures.next n).later a.ensures.says)
     (says_still n.later (rw (to_z-of_z w64 m c.ranges.n) at b.ensures.says)))
     c.both.ensures.next c.both.ensures.says
+  where
+    open c use {in_ok-a as a, in_ok-b as b, args.d.0 as d, args.n as m}
 
 pub returns-clause-next : goal.returns-clause-next
 returns-clause-next c =

@@ -19,14 +19,12 @@ returns-in-Some-clause-says c = rw (to_z-of_z w64 c.args.n c.ranges.n) at c.in-S
 pub returns-clause-says : goal.returns-clause-says
 returns-clause-says c =
     let e = encoding_of c.among.new.e in
-    let d = c.args.d.0 in
     let op = op_of c.args.op in
-    let n = c.args.n in
-    let b = c.first_passes-first.result in
-    let s = c.in_ok-some.ensures in
     number_by_names e s.next.sound d op n (category_still s.next.later d c.requires.category) b c.in_ok-some.some
     c.turned-l.result
     (subst (λ (p : Question). IsTrue b ↔ IsNumbered (first_of p.candidates d) op n) (sym s.next.later.question)
     (rw (to_z-of_z w64 c.args.n c.ranges.n) at c.first_passes-first.ensures))
     (subst (λ (p : Question). Says e c.in_ok-some.some (AmongIs d (length (others_of p.candidates d)) op n (not b)))
     (sym s.next.later.question) (rw (to_z-of_z w64 c.args.n c.ranges.n) at s.says)) c.turned-l.ensures
+  where
+    open c use {args.d.0 as d, args.n, first_passes-first.result as b, in_ok-some.ensures as s}

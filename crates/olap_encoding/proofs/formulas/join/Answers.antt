@@ -26,9 +26,9 @@ returns-in-Implication-clause-joins c =
 
 pub returns-in_ok-o-in-Equivalence-clause-joins : goal.returns-in_ok-o-in-Equivalence-clause-joins
 returns-in_ok-o-in-Equivalence-clause-joins c =
-    let o = c.in_ok-o-in-Equivalence in
-    let l = c.negated-in-Equivalence in
     joins_neither c.args.a c.args.b o.o l.result l.ensures c.in-Equivalence.is o.ensures.next o.ensures.says
+  where
+    open c use {in_ok-o-in-Equivalence as o, negated-in-Equivalence as l}
 
 pub returns-in-Exclusion-clause-joins : goal.returns-in-Exclusion-clause-joins
 returns-in-Exclusion-clause-joins c =

@@ -16,10 +16,10 @@ returns-clause-next c =
 pub returns-clause-says : goal.returns-clause-says
 returns-clause-says c =
     let e = encoding_of c.both.new.e in
-    let a = c.in_ok-a in
-    let b = c.in_ok-b in
     both_ok c.both.result (λ _. IsNext (encoding_of c.reach-2.new.self) e) (λ l. Says e l (BothAre a.a b.b))
     (λ l. TellsAt e c.args.c.0 l (Via c.args.d.0 c.args.k.0))
     (λ l n s. tell_via e n.sound c.args.c.0 l a.a b.b c.args.d.0 c.args.k.0 s
     (says_still (next_on b.ensures.next n).later a.ensures.says) (says_still n.later b.ensures.says))
     c.both.ensures.next c.both.ensures.says
+  where
+    open c use {in_ok-a as a, in_ok-b as b}

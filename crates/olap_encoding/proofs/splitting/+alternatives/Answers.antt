@@ -52,8 +52,6 @@ alternatives-requires-in-Some-2 t c =
 pub returns-in-Not-clause-widened : goal.returns-in-Not-clause-widened
 returns-in-Not-clause-widened t c =
     let e = encoding_of c.alternatives.new.e in
-    let b = c.args.holds in
-    let ls = c.alternatives.new.literals.items in
     IfOk-weaker c.alternatives.result
     (λ _. IsWidened e c.args.c.0 (signed (not b) (formula_of c.deref.result.now)) c.args.literals.now.items ls)
     (λ _. IsWidened e c.args.c.0 (signed b (formula_of c.args.f.now)) c.args.literals.now.items ls)
@@ -61,13 +59,12 @@ returns-in-Not-clause-widened t c =
     (widened_turned e c.args.c.0 b (formula_of c.in-Not.g.value)
     (widened_as (not b) (not b) refl c.deref.ensures w)))
     c.alternatives.ensures.widened
+  where
+    open c use {args.holds as b, alternatives.new.literals.items as ls}
 
 pub returns-in-Some : goal.returns-in-Some
 returns-in-Some t c =
     let e = encoding_of c.alternatives-in-Some-2.new.e in
-    let p = c.in-Some.p in
-    let u = c.in_ok-alternatives.ensures in
-    let ls = c.alternatives-in-Some-2.new.literals.items in
     record {
       next = next_after e c.alternatives-in-Some-2.result u.next c.alternatives-in-Some-2.ensures.next;
       widened = both_ok c.alternatives-in-Some-2.result (λ _. IsNext (encoding_of c.alternatives-in-Some.new.e) e)
@@ -78,3 +75,5 @@ returns-in-Some t c =
           (widened_still n.later u.widened) w)
           c.alternatives-in-Some-2.ensures.next c.alternatives-in-Some-2.ensures.widened;
     }
+  where
+    open c use {in-Some.p, in_ok-alternatives.ensures as u, alternatives-in-Some-2.new.literals.items as ls}

@@ -27,9 +27,7 @@ require-requires t c =
 
 pub require-requires-in-Some : goal.require-requires-in-Some
 require-requires-in-Some t c =
-    let e = encoding_of c.args.e.now in
-    let p = c.in-Some.p in
-    let k = c.in-Some.ensures in (
+    let e = encoding_of c.args.e.now in (
       omega (arith, c.decreases, k.smaller),
       (
         c.requires.sound,
@@ -42,12 +40,12 @@ require-requires-in-Some t c =
         ),
       ),
     )
+  where
+    open c use {in-Some.p, in-Some.ensures as k}
 
 pub require-requires-in-Some-2 : goal.require-requires-in-Some-2
 require-requires-in-Some-2 t c =
     let e = encoding_of c.args.e.now in
-    let p = c.in-Some.p in
-    let k = c.in-Some.ensures in
     let n = c.in_ok-require.ensures.next in (
       omega (arith, c.decreases, k.smaller),
       (
@@ -62,6 +60,8 @@ require-requires-in-Some-2 t c =
         ),
       ),
     )
+  where
+    open c use {in-Some.p, in-Some.ensures as k}
 
 pub returns-in-Some : goal.returns-in-Some
 returns-in-Some t c = record {

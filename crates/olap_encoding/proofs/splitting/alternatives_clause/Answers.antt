@@ -13,14 +13,14 @@ use Rattle.olap_encoding.proofs.splitting.alternatives_clause.Goals as goal
 pub clause-requires-clause-given : goal.clause-requires-clause-given
 clause-requires-clause-given c =
     let e = encoding_of c.alternatives.new.e in
-    let s = c.in_ok-alternatives.ensures in
-    let n = c.negated-not_p.result in
     let x = signed c.args.holds (formula_of c.args.f.now) in
     subst (λ ls. IsGiven e ls) (sym c.deref.ensures.value)
     (given_widened e c.args.c.0 n c.present-p.result x c.negated-not_p.ensures
     (says_still s.next.later c.present-p.ensures)
     (subst (λ ls. Contains ls n) (sym c.in_ok-push.ensures.items) (Contains-push c.args.literals.now.items n))
     (true_still s.next.later c.args.c.0 x c.requires.so) s.widened)
+  where
+    open c use {in_ok-alternatives.ensures as s, negated-not_p.result as n}
 
 pub returns : goal.returns
 returns c = record {

@@ -19,19 +19,19 @@ returns-then-not-begun-clause-counts c = λ done facts h.
 
 pub returns-in-Ok-clause-counts : goal.returns-in-Ok-clause-counts
 returns-in-Ok-clause-counts c = λ done facts h.
-    let s = c.args.setting in
     let going = h.going c.if-not-begun.false in
-    let told = c.told_of.ensures in
     let says = c.in-Ok.ensures.fact going.rows c.args.row.now.row going.count c.nth_field.ensures
     (ap (λ (t : Told). t.is_pair) told) (ap (λ (t : Told). t.value) told) in
     counted-fact s.most s.graph.now s.instance.now c.args.handed done facts c.args.row.now.row going
     (fact_of c.in-Ok.fact) says.0 says.1
+  where
+    open c use {args.setting as s, told_of.ensures as told}
 
 pub returns-in-Err-clause-counts : goal.returns-in-Err-clause-counts
 returns-in-Err-clause-counts c = λ done facts h left.
-    let s = c.args.setting in
     let going = h.going c.if-not-begun.false in
-    let told = c.told_of.ensures in
     fact-fault s.most s.graph.now s.instance.now c.args.handed done facts c.args.row.now.row going
     c.in-Err.kind (c.in-Err.ensures.fact going.rows c.args.row.now.row going.count c.nth_field.ensures
     (ap (λ (t : Told). t.is_pair) told) (ap (λ (t : Told). t.value) told)) left
+  where
+    open c use {args.setting as s, told_of.ensures as told}

@@ -21,12 +21,6 @@ records-init c =
 
 pub records-preserved : goal.records-preserved
 records-preserved c =
-    let s = c.args.setting in
-    let p = c.args.pending.now in
-    let k = c.records.k in
-    let inv = c.records.invariant in
-    let f = c.in-Ok.fact in
-    let old = c.records.batch.items in
     let items = c.in_ok-push-in-Ok.ensures.items in
     let told = ap (map fact_of) items ∙ map-append fact_of old (f ∷ []) in
     let few = c.in-Ok.ensures.few in
@@ -50,12 +44,18 @@ records-preserved c =
           c.in-Ok.ensures.fact earlier (get_or rows k []) n (c.id.ensures ∙ id-at rows p are k within)
           (ap (λ (t : Told). t.is_pair) told) (ap (λ (t : Told). t.value) told)));
     }
+  where
+    open c use {
+      args.setting as s,
+      args.pending.now as p,
+      records.k,
+      records.invariant as inv,
+      records.batch.items as old,
+      in-Ok.fact as f,
+    }
 
 pub returns-in-Err-clause-counts : goal.returns-in-Err-clause-counts
 returns-in-Err-clause-counts c = λ rows done facts are h left.
-    let s = c.args.setting in
-    let p = c.args.pending.now in
-    let k = c.records.k in
     let within : k < length p.told.items = let size = c.len-k-end.ensures in let test = c.records-test.true in
     omega (arith, size, test) in
     let inside : k < length rows = let n = as-many-rows rows p are in omega (arith, n, within) in
@@ -64,6 +64,8 @@ returns-in-Err-clause-counts c = λ rows done facts are h left.
     let told = c.index.ensures ∙ told-at rows p are k _ within in
     c.in-Err.ensures.fact earlier (get_or rows k []) n (c.id.ensures ∙ id-at rows p are k within)
     (ap (λ (t : Told). t.is_pair) told) (ap (λ (t : Told). t.value) told)) left
+  where
+    open c use {args.setting as s, args.pending.now as p, records.k}
 
 pub returns-clause-counts : goal.returns-clause-counts
 returns-clause-counts c = λ rows done facts are h.

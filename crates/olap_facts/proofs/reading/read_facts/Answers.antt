@@ -22,29 +22,22 @@ returns-in_err-take-clause-read c =
 
 pub returns-in_err-last-clause-read : goal.returns-in_err-last-clause-read
 returns-in_err-last-clause-read c =
-    let f = c.new-feed.ensures in
-    let piece = c.without_mark.result.now in
-    let new = c.take.new.self in
     let same = c.in_ok-take.ensures.same in
     let stop = err_from_is_err_and c.from_residual-in_err-last.result c.from_residual-in_err-last.ensures.1 in
     rw (stop.1, stop.2) (subst (λ (t : Result (List (Fact ℕ)) (Fault FactKind)). IsRefusedBy c.in_err-last.field-0.0 t)
     (read-by c.records_are_those_at_the_end.ensures c.args.graph.now c.args.instance.now new (same.graph ∙ f.graph)
     (same.instance ∙ f.instance) (same.most ∙ f.most) c.args.text.now piece c.without_mark.ensures)
     (c.in_err-last.ensures.reads piece (map fact_of c.take.new.batch.items) (c.in_ok-take.ensures.feeds [] [] f.fed)))
+  where
+    open c use {new-feed.ensures as f, without_mark.result.now as piece, take.new.self as new}
 
 pub returns-clause-read : goal.returns-clause-read
 returns-clause-read c =
-    let g = c.args.graph.now in
-    let i = c.args.instance.now in
-    let f = c.new-feed.ensures in
-    let new = c.take.new.self in
     let same = c.in_ok-take.ensures.same in
-    let before = c.take.new.batch.items in
     let table = table-at g i c.new-feed.result f.graph f.instance (map fact_of before) c.in_ok-take.ensures.table in
     let listed : IsListed g i before c.in_ok-last.field-0 c.match-branch-3.facts.items =
     elim c.match-branch-3.branch [
       | in-Some+in_ok-push w ↦
-          let e = c.in_ok-last.ensures in
           let last : c.in_ok-last.field-0 ≡ Some w.in-Some.last = w.in-Some.is in
           let same-items : w.push.new.self.items ≡ c.match-branch-3.facts.items = cc in
           subst (λ (o : Option told.Fact). IsListed g i before o c.match-branch-3.facts.items) (sym last)
@@ -56,25 +49,28 @@ returns-clause-read c =
           subst (λ (fs : List told.Fact). IsListed g i before c.in_ok-last.field-0 fs) same-items
           (none-listed g i before table c.in_ok-last.field-0 w.in_default.not-Some)
     ] in
-    let piece = c.without_mark.result.now in
     let read = c.in_ok-last.ensures.reads piece (map fact_of before) (c.in_ok-take.ensures.feeds [] [] f.fed) in
     sym (read-by c.records_are_those_at_the_end.ensures g i new (same.graph ∙ f.graph) (same.instance ∙ f.instance)
     (same.most ∙ f.most) c.args.text.now piece c.without_mark.ensures)
     ∙ read ∙ ap Ok (sym listed.all) ∙ ap (λ (fs : List told.Fact). Ok (map fact_of fs)) (sym c.from_vec.ensures)
+  where
+    open c use {
+      args.graph.now as g,
+      args.instance.now as i,
+      new-feed.ensures as f,
+      take.new.self as new,
+      take.new.batch.items as before,
+      in_ok-last.ensures as e,
+      without_mark.result.now as piece,
+    }
 
 pub returns-clause-table : goal.returns-clause-table
 returns-clause-table c =
-    let g = c.args.graph.now in
-    let i = c.args.instance.now in
-    let f = c.new-feed.ensures in
-    let new = c.take.new.self in
     let same = c.in_ok-take.ensures.same in
-    let before = c.take.new.batch.items in
     let table = table-at g i c.new-feed.result f.graph f.instance (map fact_of before) c.in_ok-take.ensures.table in
     let listed : IsListed g i before c.in_ok-last.field-0 c.match-branch-3.facts.items =
     elim c.match-branch-3.branch [
       | in-Some+in_ok-push w ↦
-          let e = c.in_ok-last.ensures in
           let last : c.in_ok-last.field-0 ≡ Some w.in-Some.last = w.in-Some.is in
           let same-items : w.push.new.self.items ≡ c.match-branch-3.facts.items = cc in
           subst (λ (o : Option told.Fact). IsListed g i before o c.match-branch-3.facts.items) (sym last)
@@ -87,3 +83,12 @@ returns-clause-table c =
           (none-listed g i before table c.in_ok-last.field-0 w.in_default.not-Some)
     ] in
     subst (λ (fs : List told.Fact). IsFactTable g i (map fact_of fs)) (sym c.from_vec.ensures) listed.table
+  where
+    open c use {
+      args.graph.now as g,
+      args.instance.now as i,
+      new-feed.ensures as f,
+      take.new.self as new,
+      take.new.batch.items as before,
+      in_ok-last.ensures as e,
+    }

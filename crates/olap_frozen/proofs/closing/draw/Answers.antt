@@ -15,9 +15,6 @@ edges-init c = record {
 
 pub edges-preserved : goal.edges-preserved
 edges-preserved c =
-    let g = c.args.graph.now in
-    let bits = c.args.edges.now in
-    let k = c.edges.e in
     let at = ap (λ n. get_or bits n false) (sym c.from.ensures) in
     elim c.if-edges-from.branch [
       | then-edges-from w ↦
@@ -41,3 +38,5 @@ edges-preserved c =
             (draw_skip g bits k c.edges.rows (at ∙ w.if-edges-from.false) c.edges.invariant.drawn);
       }
     ]
+  where
+    open c use {args.graph.now as g, args.edges.now as bits, edges.e as k}

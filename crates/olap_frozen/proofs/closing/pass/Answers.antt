@@ -10,10 +10,6 @@ use Rattle.olap_frozen.proofs.closing.pass.Goals.{then-has, else-has}
 
 pub categories-preserved : goal.categories-preserved
 categories-preserved c =
-    let old = c.args.rows.now in
-    let new = c.categories.rows in
-    let k = c.args.k in
-    let at = c.categories.c in
     let inside : at < length new = let n = c.categories.invariant.count in omega arith in
     let of_k : members c.index-rows-from.result ≡ row old k =
     row_read old c.from.result c.index-rows-from.result
@@ -30,6 +26,8 @@ categories-preserved c =
       | else-has w ↦ subst (λ rs. IsPassing old rs k (at + 1)) (sym w.rows-is)
           (pass_skip old new k at (has ∙ w.if-has.false) c.categories.invariant)
     ]
+  where
+    open c use {args.rows.now as old, args.k, categories.rows as new, categories.c as at}
 
 pub returns-then-is_subset-clause-passed : goal.returns-then-is_subset-clause-passed
 returns-then-is_subset-clause-passed c = λ x y h.

@@ -7,27 +7,27 @@ pub returns-then-not-is_sound : goal.returns-then-not-is_sound
 returns-then-not-is_sound c = (
   λ e. absurd (cc),
   λ f. absurd (
-      let a = c.args in
-      let q = a.question.now in
       let s = sound_part q.graph.now (map constraint_of q.constraints.now)
       (formula_of q.formula.now) q.candidates.now q.root.0
       a.edges.now a.names.now c.close.ensures.hierarchy c.requires.root c.requires.sized c.requires.candidates f in
       let b = c.is_sound.ensures.1 s in
-      let g = c.if-not-is_sound.true in let z : true ≡ false = sym b ∙ g in cc),
+      let z : true ≡ false = sym b ∙ g in cc),
 )
+  where
+    open c use {args as a, args.question.now as q, if-not-is_sound.true as g}
 
 pub returns-then-not-are_absent_zero : goal.returns-then-not-are_absent_zero
 returns-then-not-are_absent_zero c = (
   λ e. absurd (cc),
   λ f. absurd (
-      let a = c.args in
-      let q = a.question.now in
       let s = absent_part q.graph.now (map constraint_of q.constraints.now)
       (formula_of q.formula.now) q.candidates.now q.root.0
       a.edges.now a.names.now c.close.ensures.hierarchy c.requires.root c.requires.sized c.requires.candidates f in
       let b = c.are_absent_zero.ensures.1 s in
-      let g = c.if-not-are_absent_zero.true in let z : true ≡ false = sym b ∙ g in cc),
+      let z : true ≡ false = sym b ∙ g in cc),
 )
+  where
+    open c use {args as a, args.question.now as q, if-not-are_absent_zero.true as g}
 
 pub close-requires-clause-edges : goal.close-requires-clause-edges
 close-requires-clause-edges c = c.requires.sized.edge_count

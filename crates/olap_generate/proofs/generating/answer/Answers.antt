@@ -25,14 +25,13 @@ unreachable-requires c =
 
 pub returns-in-Ok-clause-fit : goal.returns-in-Ok-clause-fit
 returns-in-Ok-clause-fit c =
-    let input = c.args.input.now in
     let s = schema_of c.args.schema.now in
-    let i = c.args.legal.now in
     let views = views_of c.args.store.now in
-    let made = c.requires.views in
     regions_fit input.seed input.size input.few s i views made (view_of c.in-Ok.answer.1)
     (c.in-Ok.ensures.direct made.facts (table input.seed input.size input.few s i views made)
     (views_direct input.seed input.size input.few s i views made))
+  where
+    open c use {args.input.now as input, args.legal.now as i, requires.views as made}
 
 pub returns-in-Ok-clause-few : goal.returns-in-Ok-clause-few
 returns-in-Ok-clause-few c =

@@ -7,17 +7,15 @@ use Rattle.olap_generate.proofs.lines.count.Goals as goal
 
 pub overflow_add-count : goal.overflow_add-count
 overflow_add-count c =
-    let rows = c.args.rows.now in
-    let k = c.rows.row-index in
     let next = next_count rows c.requires.fit k c.rows-test.true in
     let so_far = c.rows.invariant.few in
     let few = c.requires.few in
     omega arith
+  where
+    open c use {args.rows.now as rows, rows.row-index as k}
 
 pub rows-preserved : goal.rows-preserved
 rows-preserved c =
-    let rows = c.args.rows.now in
-    let k = c.rows.row-index in
     let next = next_count rows c.requires.fit k c.rows-test.true in
     let so_far = c.rows.invariant.few in
     record {
@@ -25,3 +23,5 @@ rows-preserved c =
           ∙ sym (sum_by_more (λ (r : Row). r.count) rows k no_row c.rows-test.true);
       few = omega arith;
     }
+  where
+    open c use {args.rows.now as rows, rows.row-index as k}

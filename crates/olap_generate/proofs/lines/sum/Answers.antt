@@ -20,15 +20,12 @@ overflow_add-sum c =
 
 pub rows-preserved : goal.rows-preserved
 rows-preserved c =
-    let rows = c.args.rows.now in
-    let k = c.rows.row-index in
     let next = next_sum rows c.requires.fit k c.rows-test.true in
     let from = next.0 in
     let to = next.1 in
     let so_from = c.rows.invariant.from in
     let so_to = c.rows.invariant.to in
     let few = c.requires.few in
-    let within = c.rows-test.true in
     let same : to_z w128 (of_z w128 (to_z w128 c.rows.sum-bits +ℤ to_z w128 (of_z w128 (get_or rows k no_row).sum)))
     ≡ to_z w128 c.rows.sum-bits +ℤ (get_or rows k no_row).sum = omega (arith, ints) in
     record {
@@ -37,3 +34,5 @@ rows-preserved c =
       from = omega (arith, ints);
       to = omega (arith, ints);
     }
+  where
+    open c use {args.rows.now as rows, rows.row-index as k, rows-test.true as within}

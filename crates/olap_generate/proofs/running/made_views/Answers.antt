@@ -17,11 +17,10 @@ returns-in-Ok-clause-views c =
 
 pub unreachable-requires : goal.unreachable-requires
 unreachable-requires c =
-    let input = c.args.input.now in
-    let g = c.graph.result.now in
-    let text = c.in_ok-text.text.items in
     facts_faultless input.seed input.size input.few (schema_of c.args.schema.now) c.requires.schema_text
     c.args.legal.now c.requires.member_text g text
     c.graph.ensures c.in_ok-text.ensures _
     (subst (λ e. IsRefusedBy e (facts_read_within most_facts g c.args.legal.now (records_of text)))
     c.in-Err-Kind.field-0-is c.in-Err-Kind.ensures.err)
+  where
+    open c use {args.input.now as input, graph.result.now as g, in_ok-text.text.items as text}

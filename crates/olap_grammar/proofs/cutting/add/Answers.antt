@@ -30,6 +30,6 @@ is_memory (Err e) h = h.1
 
 pub returns-in_err-push : goal.returns-in_err-push
 returns-in_err-push c =
-    let r = c.from_residual.result in
-    let h = c.from_residual.ensures in
     record { goes = λ bs. goes_anywhere r bs _ _ h; kept = keeps_nothing r _ h; memory = is_memory r h }
+  where
+    open c use {from_residual.result as r, from_residual.ensures as h}

@@ -8,10 +8,10 @@ use Rattle.olap_grammar.proofs.words.first_piece.Goals as goal
 pub returns-in-Some-clause-pieces : goal.returns-in-Some-clause-pieces
 unfolding pieces_of
 returns-in-Some-clause-pieces c =
-    let text = c.args.text.now in
-    let end = c.in-Some.end in
     let cut = (split-some (λ b. b == c.args.mark) text end (sym c.place.ensures ∙ c.in-Some.is)).0 in
     rw (rest_is (end + 1) text) cut
+  where
+    open c use {args.text.now as text, in-Some.end}
 
 pub returns-in-None-clause-pieces : goal.returns-in-None-clause-pieces
 unfolding pieces_of

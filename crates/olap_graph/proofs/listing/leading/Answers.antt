@@ -8,20 +8,19 @@ use Rattle.olap_graph.proofs.listing.leading.Goals as goal
 
 pub loop-e-preserved : goal.loop-e-preserved
 loop-e-preserved c =
-    let ends = c.args.edges.now in
-    let out = c.args.out.now in
-    let k = c.loop-e.e-index in
     let p = (get_or ends c.from.result nowhere).parent.0 in
     below_more (λ j. get_or (parents_of (drawn ends) out) j 0 ≢ c.args.parent.0) k c.loop-e.invariant
     (λ e. c.if-edges-from.false
     (sym (parent_read ends out k c.from.result p c.loop-e-test.true c.requires c.from.ensures refl) ∙ e))
+  where
+    open c use {args.edges.now as ends, args.out.now as out, loop-e.e-index as k}
 
 pub returns-clause-none : goal.returns-clause-none
 returns-clause-none c = λ h.
-    let ends = c.args.edges.now in
-    let out = c.args.out.now in
     let ps = parents_of (drawn ends) out in
     let l = length-map out (λ e. (edge_at (drawn ends) e.0).parent) in
     let t = c.loop-e-test.false in
     let i = h.1 in
     c.loop-e.invariant h.0 (omega arith) (get_or_default ps h.0 0 c.args.parent.0 h.1 ∙ h.2)
+  where
+    open c use {args.edges.now as ends, args.out.now as out}

@@ -31,10 +31,6 @@ bounds-rows-child-in-edges c =
 
 pub edges-preserved : goal.edges-preserved
 edges-preserved c =
-    let ends = c.args.edges.now in
-    let k = c.edges.ends-index in
-    let rows = c.edges.rows in
-    let i = c.from-child.result in
     let w = ends_within ends (length c.args.rows.now) k c.requires.within c.edges-test.true in
     let e : i ≡ (get_or ends k nowhere).child.0 = c.from-child.ensures in
     let d = (get_or ends k nowhere).parent.0 in
@@ -48,3 +44,5 @@ edges-preserved c =
           (row_read rows i c.index-rows-child.result inside c.index-rows-child.is))
           c.edges.invariant.drawn;
     }
+  where
+    open c use {args.edges.now as ends, edges.ends-index as k, edges.rows, from-child.result as i}

@@ -6,9 +6,9 @@ use Rattle.olap_graph.proofs.reaching.row_has.Goals as goal
 
 pub returns : goal.returns
 returns c =
-    let at = c.from.result in
-    let e = c.from.ensures in
     c.has.ensures
     ∙ ap (λ s. set.contains s c.args.d)
     (row_read c.args.rows.now at c.index-rows-from.result (omega arith) c.index-rows-from.is)
     ∙ ap (λ n. set.contains (row c.args.rows.now n) c.args.d) e
+  where
+    open c use {from.result as at, from.ensures as e}

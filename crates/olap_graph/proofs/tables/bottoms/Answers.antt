@@ -51,8 +51,6 @@ index_mut-requires-in-loop-e c =
 
 pub loop-e-preserved : goal.loop-e-preserved
 loop-e-preserved c =
-    let ends = c.args.edges.now in
-    let k = c.loop-e.e-index in
     let e = ap (λ (x : Edge). x.parent) (edge_at-drawn ends k c.loop-e-test.true) in
     record {
       count = length-set c.loop-e.marks.items c.from-in-loop-e.result false ∙ c.loop-e.invariant.count;
@@ -60,6 +58,8 @@ loop-e-preserved c =
           c.loop-e.invariant.count (c.from-in-loop-e.ensures ∙ sym e) x h
           (c.loop-e.invariant.exact x h);
     }
+  where
+    open c use {args.edges.now as ends, loop-e.e-index as k}
 
 pub returns : goal.returns
 returns c =

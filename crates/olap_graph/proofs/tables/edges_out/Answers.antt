@@ -12,10 +12,6 @@ use Rattle.olap_graph.proofs.tables.edges_out.Goals.{then-edges-i+in_ok-push, el
 
 pub loop-i-preserved : goal.loop-i-preserved
 loop-i-preserved c =
-    let ends = c.args.edges.now in
-    let x = c.args.category in
-    let i = c.loop-i.i in
-    let out = c.loop-i.out.items in
     let Goal : List EdgeId → Type 0 =
     λ es. map (λ e. e.0) es ≡ filter (λ j. (edge_at (drawn ends) j).child == x) (range_with_len 0 (i + 1)) in
     elim c.if-edges-i.branch [
@@ -27,6 +23,8 @@ loop-i-preserved c =
           subst Goal (sym (ap (λ v. v.items) w.out-is))
           (out_skip ends x i out c.loop-i-test.true w.if-edges-i.false c.loop-i.invariant)
     ]
+  where
+    open c use {args.edges.now as ends, args.category as x, loop-i.i, loop-i.out.items as out}
 
 pub loop-i-init : goal.loop-i-init
 loop-i-init c = ap (map (λ (e : EdgeId). e.0)) c.new-out.ensures.items

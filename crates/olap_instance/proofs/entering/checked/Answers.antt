@@ -25,8 +25,6 @@ returns-clause-other c =
 
 pub returns-clause-member : goal.returns-clause-member
 returns-clause-member c = λ earlier ei en.
-    let row = c.args.rows.now.row in
-    let g = c.args.graph.now in
     let four : length row ≡ 4 = let a = c.if-len-ne4.false in let b = c.len.ensures in omega arith in
     let text : is_no_text row ≡ false = sym c.holds_no_text.ensures ∙ c.if-holds_no_text.false in
     let id : is_bad_id (id_field row) ≡ false =
@@ -44,3 +42,5 @@ returns-clause-member c = λ earlier ei en.
     let few : length c.args.roster.now + 1 < most_members = returns-clause-room c in
     entered g (ids_in c.args.roster.now) (length c.args.roster.now) row c.in-Some.category four text id short name
     named some (rw (← c.is_number.ensures) numeral) (returns-clause-other c) (returns-clause-absent c) few earlier ei en
+  where
+    open c use {args.rows.now.row, args.graph.now as g}

@@ -10,9 +10,6 @@ pushed xs ys x y e f = rw (e, f) refl
 
 pub rows-preserved : goal.rows-preserved
 rows-preserved c =
-    let g = c.args.graph.now in
-    let inv = c.rows.invariant in
-    let row = c.advance.new.self.row in
     let step = rw c.if-branch.true at c.in_ok-advance.ensures in
     let good = c.in_ok-enter.ensures.member inv.before inv.members in
     record {
@@ -28,3 +25,5 @@ rows-preserved c =
       few = c.in_ok-enter.ensures.few;
       others = c.in_ok-enter.ensures.others inv.others;
     }
+  where
+    open c use {args.graph.now as g, rows.invariant as inv, advance.new.self.row}

@@ -32,13 +32,9 @@ pieces-init c =
 pub pieces-preserved : goal.pieces-preserved
 pieces-preserved c =
     let ids = ids_in c.args.roster.now in
-    let inv = c.pieces.invariant in
-    let child = c.len-child.result in
     let mark = child + 1 in
     let found = numbers_of inv.found in
-    let piece = c.first_piece.result.0.now in
     let others = pieces_left c.first_piece.result.1 in
-    let place = c.in-Ok.place in
     let left = ap pieces_left c.in-Some.is ∙ c.first_piece.ensures.pieces in
     let r = c.in-Ok.ensures.parent inv.before found inv.places inv.stamped in
     let parent = c.in_ok-push-in-Ok.ensures c.args.parents.now inv.found inv.lists in
@@ -55,6 +51,8 @@ pieces-preserved c =
       stamped = rw now (stamped-more c.pieces.stamps mark place found c.in-Ok.ensures.inside inv.stamped);
       below = below-more c.pieces.stamps (child + 2) mark place c.in-Ok.ensures.inside (omega arith) inv.below;
     }
+  where
+    open c use {pieces.invariant as inv, len-child.result as child, first_piece.result.0.now as piece, in-Ok.place}
 
 pub returns-clause-parents : goal.returns-clause-parents
 returns-clause-parents c =

@@ -13,8 +13,6 @@ joined-requires c =
 
 pub returns-clause-text : goal.returns-clause-text
 returns-clause-text c =
-    let g = c.args.graph.now in
-    let i = c.args.instance.now in
     let m = member_at i c.args.m.0 in
     let category = c.bytes-category.ensures ∙ (c.name.ensures ∙ ap (name_of_category g) c.category.ensures) in
     let parents =
@@ -23,3 +21,5 @@ returns-clause-text c =
     ∙ ap (join_with_byte semicolon) (parents-named i c.parents.result.now m c.parents.ensures.list)) in
     let fields = same-fields g i m _ _ _ _ c.id.ensures category c.name-2.ensures parents in
     row-same c.row.result c.args.out.now.text c.row.new.self.text _ _ fields c.row.ensures.text
+  where
+    open c use {args.graph.now as g, args.instance.now as i}

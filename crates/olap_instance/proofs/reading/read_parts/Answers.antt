@@ -10,16 +10,15 @@ use Rattle.olap_instance.proofs.reading.read_parts.Goals as goal
 
 pub returns-in_err-link_all-clause-read : goal.returns-in_err-link_all-clause-read
 returns-in_err-link_all-clause-read c =
-    let g = c.args.graph.now in
     let records = records_of c.args.text.now in
     let first = c.in_ok-enter_text.ensures.members in
-    let whole = c.add_all.new.self in
     let ids = ids-whole g (drop 1 records) _ whole first.1.1 c.in_ok-add_all.ensures.ok in
-    let e = c.in_err-link_all.field-0.0 in
     let cause : IsRefusedBy e (instance_read g records) =
     refused-second g records (ids_in whole) e first.0 first.1.0 ids
     (c.in_err-link_all.ensures (drop 1 records) c.in_ok-enter_text.ensures.fields) in
     search rules
+  where
+    open c use {args.graph.now as g, add_all.new.self as whole, in_err-link_all.field-0.0 as e}
 
 pub returns : goal.returns
 returns c =

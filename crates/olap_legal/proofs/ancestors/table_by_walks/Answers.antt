@@ -32,33 +32,28 @@ put-requires-clause-row c =
 
 pub put-requires-clause-fits : goal.put-requires-clause-fits
 put-requires-clause-fits c =
-    let i = c.args.instance.now in
-    let n = c.args.categories in
-    let x = c.members.x in
-    let v = c.members.invariant in
     let count = c.members-x-end.ensures.count in
     let inside : x < length i = omega (arith, count, c.members-test.true) in
     let whole = c.in_ok-rise.ensures.whole c.if-not-branch.false in
     let rise = subst (λ k. IsRise i k x c.rise.new.row.items) v.row whole in
     row_fits v.table.laid inside (subst (λ l. IsRise i n x l) (sym c.deref.ensures.value) rise)
+  where
+    open c use {args.instance.now as i, args.categories as n, members.x, members.invariant as v}
 
 pub members-preserved : goal.members-preserved
 members-preserved c =
-    let i = c.args.instance.now in
-    let n = c.args.categories in
-    let x = c.members.x in
-    let v = c.members.invariant in
     let count = c.members-x-end.ensures.count in
     let inside : x < length i = omega (arith, count, c.members-test.true) in
     let whole = c.in_ok-rise.ensures.whole c.if-not-branch.false in
     let rise = subst (λ k. IsRise i k x c.rise.new.row.items) v.row whole in
     let row = subst (λ l. IsRise i n x l) (sym c.deref.ensures.value) rise in
-    let put = c.put.ensures in
     record {
       table = table_step i n x c.members.table c.put.new.self c.deref.result.now c.requires.bounded inside v.table row
           put.laid put.here put.others;
       row = let s = rise.same_length in let o = c.rise.new.row.ok in omega arith;
     }
+  where
+    open c use {args.instance.now as i, args.categories as n, members.x, members.invariant as v, put.ensures as put}
 
 pub returns-then-not-branch-clause-err : goal.returns-then-not-branch-clause-err
 returns-then-not-branch-clause-err c =

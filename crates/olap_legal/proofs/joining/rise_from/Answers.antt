@@ -16,34 +16,32 @@ parents-init c = record {
 
 pub is_placed-requires-clause-x : goal.is_placed-requires-clause-x
 is_placed-requires-clause-x c =
-    let ids = c.parents-p-items in
-    let i = c.args.instance.now in
     parent_member
     (parent_at i c.args.z ids.result.now c.parents.p-index ids.ensures.list ids.ensures.places c.parents-test.true)
+  where
+    open c use {parents-p-items as ids, args.instance.now as i}
 
 pub join-requires-clause-x : goal.join-requires-clause-x
 join-requires-clause-x c =
-    let ids = c.parents-p-items in
-    let i = c.args.instance.now in
     parent_member
     (parent_at i c.args.z ids.result.now c.parents.p-index ids.ensures.list ids.ensures.places c.parents-test.true)
+  where
+    open c use {parents-p-items as ids, args.instance.now as i}
 
 pub parents-preserved : goal.parents-preserved
 parents-preserved c =
-    let ids = c.parents-p-items in
-    let i = c.args.instance.now in
-    let n = c.args.categories in
     let at = parent_at i c.args.z ids.result.now c.parents.p-index ids.ensures.list ids.ensures.places
     c.parents-test.true in
     let has = c.is_placed.ensures c.if-not-is_placed.false in
     let above = subst (λ y. IsRise i n y has.row) at.is has.rise in
-    let v = c.parents.invariant in
     let j = row_join has v.size c.join.ensures.length (c.join.ensures.each c.if-not-join.false) in
     record {
       size = j.same_length ∙ v.size;
       joined = joined_more (parents_of i c.args.z) c.parents.p-index c.requires.bounded at.inside v.size above j
           v.joined;
     }
+  where
+    open c use {parents-p-items as ids, args.instance.now as i, args.categories as n, parents.invariant as v}
 
 pub bounds-row-own : goal.bounds-row-own
 bounds-row-own c =
@@ -59,14 +57,11 @@ bounds-row-own-2 c =
 
 pub returns : goal.returns
 returns c = λ _.
-    let ids = c.parents-p-items in
-    let i = c.args.instance.now in
-    let n = c.args.categories in
-    let z = c.args.z in
-    let row = c.parents.row in
     let d_is = c.from-own.ensures ∙ c.category.ensures in
     let v = subst (λ l. AreJoined i l row) (take_read i z c.parents.p-index ids.result.now ids.ensures.list
     c.parents-test.false) c.parents.invariant.joined in
     let free = subst (λ d. get_or row d 0 ≡ none) d_is c.if-row-own.false in
     subst (λ d. IsRise i n z (set row d z)) (sym d_is)
     (joined_rise c.requires.bounded c.requires.z c.parents.invariant.size v free)
+  where
+    open c use {parents-p-items as ids, args.instance.now as i, args.categories as n, args.z, parents.row}

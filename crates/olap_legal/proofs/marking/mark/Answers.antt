@@ -10,52 +10,47 @@ parents-init c = marking_none c.args.instance.now c.args.category c.args.seen.no
 
 pub category-requires : goal.category-requires
 category-requires c =
-    let ids = c.parents-p-items in
-    let i = c.args.instance.now in
     parent_member
     (parent_at i c.args.z ids.result.now c.parents.p-index ids.ensures.list ids.ensures.places c.parents-test.true)
+  where
+    open c use {parents-p-items as ids, args.instance.now as i}
 
 pub index-requires : goal.index-requires
 index-requires c =
-    let ids = c.parents-p-items in
-    let i = c.args.instance.now in
     let at = parent_at i c.args.z ids.result.now c.parents.p-index ids.ensures.list ids.ensures.places
     c.parents-test.true in
     let o = c.args.seen.now.ok in
     let size : length c.args.seen.now.items ≡ length i = omega (arith, c.requires.seen) in
     let now = c.parents.seen.ok in
     omega (arith, mark_inside at c.parents.invariant size)
+  where
+    open c use {parents-p-items as ids, args.instance.now as i}
 
 pub index_mut-requires : goal.index_mut-requires
 index_mut-requires c =
-    let ids = c.parents-p-items in
-    let i = c.args.instance.now in
     let at = parent_at i c.args.z ids.result.now c.parents.p-index ids.ensures.list ids.ensures.places
     c.parents-test.true in
     let o = c.args.seen.now.ok in
     let size : length c.args.seen.now.items ≡ length i = omega (arith, c.requires.seen) in
     let now = c.parents.seen.ok in
     omega (arith, mark_inside at c.parents.invariant size)
+  where
+    open c use {parents-p-items as ids, args.instance.now as i}
 
 pub returns-then-category : goal.returns-then-category
 returns-then-category c =
-    let ids = c.parents-p-items in
-    let i = c.args.instance.now in
     let at = parent_at i c.args.z ids.result.now c.parents.p-index ids.ensures.list ids.ensures.places
     c.parents-test.true in
     hit_one (parent_hits c.args.category at (sym c.category.ensures ∙ c.if-category.true))
+  where
+    open c use {parents-p-items as ids, args.instance.now as i}
 
 pub parents-preserved : goal.parents-preserved
 parents-preserved c =
-    let ids = c.parents-p-items in
-    let i = c.args.instance.now in
     let at = parent_at i c.args.z ids.result.now c.parents.p-index ids.ensures.list ids.ensures.places
     c.parents-test.true in
     let o = c.args.seen.now.ok in
     let size : length c.args.seen.now.items ≡ length i = omega (arith, c.requires.seen) in
-    let v = c.parents.invariant in
-    let category = c.category.result.0 in
-    let r = c.index.result.now in
     elim c.if-not-index.branch [
       | then-not-index+in_ok-push w ↦
           marking_as (ap (λ x. x.items) w.seen-is) (ap (λ x. x.items) w.list-is ∙ w.in_ok-push.ensures.items)
@@ -66,6 +61,14 @@ parents-preserved c =
           (marking_skipped at v size category c.category.ensures c.if-category.false r c.index.ensures
           w.if-not-index.false)
     ]
+  where
+    open c use {
+      parents-p-items as ids,
+      args.instance.now as i,
+      parents.invariant as v,
+      category.result.0 as category,
+      index.result.now as r,
+    }
 
 pub returns : goal.returns
 returns c =

@@ -13,8 +13,6 @@ use Rattle.olap_legal.proofs.rising.rise.Goals as goal
 pub listed-init : goal.listed-init
 listed-init c =
     let n = vec_len c.args.row.now in
-    let x = c.args.x in
-    let row = c.fill.new.self.items in
     let d : c.from.result ≡ category_of c.args.instance.now x = c.from.ensures ∙ c.category.ensures in
     let e : row ≡ replicate n none = c.fill.ensures.items (λ y e. e) in
     let q : c.push.new.self.items ≡ x ∷ [] =
@@ -24,6 +22,8 @@ listed-init c =
       frontier = subst (λ k. IsFrontier c.args.instance.now x (set row k x) c.push.new.self.items) (sym d)
           (frontier_start c.requires.bounded c.requires.x e q);
     }
+  where
+    open c use {args.x, fill.new.self.items as row}
 
 pub visit-requires-clause-z : goal.visit-requires-clause-z
 visit-requires-clause-z c =
@@ -38,12 +38,12 @@ returns-then-not-whole-clause-split c = λ e.
 pub listed-preserved : goal.listed-preserved
 listed-preserved c =
     let v = c.in_ok-whole.ensures.visited c.if-not-whole.false in
-    let rest = c.pop.new.self.items in
-    let f = c.listed.invariant.frontier in
     record {
       size = v.same_length ∙ c.listed.invariant.size;
       frontier = frontier_next rest c.in-Some.z c.requires.bounded.places f c.in-Some.ensures.items v;
     }
+  where
+    open c use {pop.new.self.items as rest, listed.invariant.frontier as f}
 
 pub listed-smaller : goal.listed-smaller
 listed-smaller c =

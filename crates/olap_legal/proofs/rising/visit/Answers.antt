@@ -10,10 +10,10 @@ parents-init c = visit_none c.args.instance.now c.args.row.now.items c.args.list
 
 pub category-requires : goal.category-requires
 category-requires c =
-    let ids = c.parents-p-items in
-    let i = c.args.instance.now in
     parent_member
     (parent_at i c.args.z ids.result.now c.parents.p-index ids.ensures.list ids.ensures.places c.parents-test.true)
+  where
+    open c use {parents-p-items as ids, args.instance.now as i}
 
 pub index-q-requires : goal.index-q-requires
 index-q-requires c =
@@ -43,13 +43,10 @@ index_mut-requires c =
 
 pub parents-preserved : goal.parents-preserved
 parents-preserved c =
-    let ids = c.parents-p-items in
-    let i = c.args.instance.now in
     let at = parent_at i c.args.z ids.result.now c.parents.p-index ids.ensures.list ids.ensures.places
     c.parents-test.true in
     let size : length c.args.row.now.items ≡ c.args.row.now.len = let o = c.args.row.now.ok in omega arith in
     let d_is = c.from-d.ensures ∙ c.category.ensures in
-    let v = c.parents.invariant in
     elim c.if-q.branch [
       | then-q+in_ok-push w ↦
           visit_as (ap (λ x. x.items) w.row-is) (ap (λ x. x.items) w.list-is ∙ w.in_ok-push.ensures.items)
@@ -60,18 +57,19 @@ parents-preserved c =
           (visit_skipped at c.requires.bounded v size c.from-d.result c.index-q.result.now d_is c.index-q.ensures
           w.if-q-p.false)
     ]
+  where
+    open c use {parents-p-items as ids, args.instance.now as i, parents.invariant as v}
 
 pub returns-then-q-p : goal.returns-then-q-p
 returns-then-q-p c =
-    let ids = c.parents-p-items in
-    let i = c.args.instance.now in
     let at = parent_at i c.args.z ids.result.now c.parents.p-index ids.ensures.list ids.ensures.places
     c.parents-test.true in
     let size : length c.args.row.now.items ≡ c.args.row.now.len = let o = c.args.row.now.ok in omega arith in
     let d_is = c.from-d.ensures ∙ c.category.ensures in
-    let q = c.index-q.result.now in
     let met = visit_met at c.requires.bounded c.parents.invariant size c.from-d.result q d_is in
     met_one (met c.index-q.ensures c.if-q.false c.if-q-p.true)
+  where
+    open c use {parents-p-items as ids, args.instance.now as i, index-q.result.now as q}
 
 pub returns : goal.returns
 returns c =

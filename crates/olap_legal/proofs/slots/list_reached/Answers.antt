@@ -22,14 +22,6 @@ categories-preserved-then-not-reaches c =
 
 pub categories-preserved : goal.categories-preserved
 categories-preserved c =
-    let v = c.categories.invariant in
-    let base = c.args.base in
-    let d = c.categories.d in
-    let count = c.categories.count in
-    let slots = c.categories.slots in
-    let order = c.categories.order in
-    let place = c.from in
-    let slot = c.from-in-categories in
     let more = listing_more v.listing c.requires.few c.categories-test.true
     (omega (arith, c.requires.room, c.categories.auto.slots))
     (c.categories.auto.order ∙ c.requires.same ∙ sym c.categories.auto.slots) in
@@ -40,4 +32,15 @@ categories-preserved c =
           (set slots (base + place.result) count) (set order (base + k) d)) (sym slot.ensures) at_place;
       slots = λ k h. get_or-set_other slots (base + place.result) k count 0 (omega (arith, h)) ∙ v.slots k h;
       order = λ k h. get_or-set_other order (base + slot.result) k d 0 (omega (arith, h)) ∙ v.order k h;
+    }
+  where
+    open c use {
+      categories.invariant as v,
+      categories.d,
+      categories.count,
+      categories.slots,
+      categories.order,
+      args.base,
+      from as place,
+      from-in-categories as slot,
     }

@@ -6,15 +6,6 @@ use Rattle.olap_legal.proofs.tables.join.Goals as goal
 
 pub places-preserved : goal.places-preserved
 places-preserved c =
-    let k = c.places.k in
-    let one = c.args.row.now in
-    let row = c.places.row in
-    let reached = c.args.reached.now in
-    let cells = c.args.cells.now in
-    let y = c.in-Some.y in
-    let h = c.places-test.true in
-    let v = c.places.invariant in
-    let d_is = c.from-d.ensures in
     let inside = subst (λ w. get_or reached k 0 < w) (sym c.places.auto.row) (c.requires.within k h) in
     let joined = subst (λ w. IsEither (get_or row w 0) (get_or cells k 0) y) d_is c.in-Some.ensures in
     record {
@@ -24,6 +15,18 @@ places-preserved c =
       others = subst (λ w. (d : ℕ) → ((j : ℕ) → j < k + 1 → get_or reached j 0 ≢ d)
           → get_or (set row w y) d 0 ≡ get_or one d 0) (sym d_is)
           (join_others one cells row reached k y c.requires.distinct h inside v.joined v.others);
+    }
+  where
+    open c use {
+      places.k,
+      places.row,
+      places.invariant as v,
+      args.row.now as one,
+      args.reached.now as reached,
+      args.cells.now as cells,
+      in-Some.y,
+      places-test.true as h,
+      from-d.ensures as d_is,
     }
 
 pub returns-clause-each : goal.returns-clause-each

@@ -5,12 +5,6 @@ use Rattle.olap_legal.proofs.tables.write.Goals as goal
 
 pub places-preserved : goal.places-preserved
 places-preserved c =
-    let k = c.places.k in
-    let reached = c.args.reached.now in
-    let row = c.args.row.now in
-    let cells = c.places.cells in
-    let start = c.args.start in
-    let v = c.places.invariant in
     let y = get_or row c.from.result 0 in
     let room : start + k < length cells = omega (arith, c.requires.room, c.places.auto.cells, c.places-test.true) in
     record {
@@ -18,4 +12,13 @@ places-preserved c =
           ≡ get_or row (get_or reached j 0) 0) (sym c.from.ensures) (write_more cells row reached start k room v.here);
       before = λ j h. get_or-set_other cells (start + k) j y 0 (omega (arith, h)) ∙ v.before j h;
       after = λ j h. get_or-set_other cells (start + k) j y 0 (omega (arith, h)) ∙ v.after j (omega (arith, h));
+    }
+  where
+    open c use {
+      places.k,
+      places.cells,
+      places.invariant as v,
+      args.reached.now as reached,
+      args.row.now as row,
+      args.start,
     }

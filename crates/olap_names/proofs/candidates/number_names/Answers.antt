@@ -24,21 +24,21 @@ spelled-requires c =
 pub returns-clause-names : goal.returns-clause-names
 returns-clause-names c =
     let all = number_atoms (map constraint_of c.args.constraints.now) (formula_of c.args.question.now) in
-    let constants = c.in_ok-constants.constants.items in
-    let reps = c.in_ok-numbers.numbers.items in
     let are = subst (λ l. AreRepresentatives l reps) c.deref.ensures.value c.in_ok-numbers.ensures in
     IfOk-weaker c.spelled.result (λ p. p.0 ∷ p.1 ≡ map canonical c.deref-2.result.now)
     (λ p. AreNumberNames (numbers_on c.args.c.0 all) p.0 p.1)
     (λ p e. names_are c.args.c.0 all constants reps p.0 p.1 c.in_ok-constants.ensures are
     (e ∙ ap (map canonical) c.deref-2.ensures.value)) c.spelled.ensures
+  where
+    open c use {in_ok-constants.constants.items as constants, in_ok-numbers.numbers.items as reps}
 
 pub returns-clause-few : goal.returns-clause-few
 returns-clause-few c =
     let all = number_atoms (map constraint_of c.args.constraints.now) (formula_of c.args.question.now) in
-    let constants = c.in_ok-constants.constants.items in
-    let reps = c.in_ok-numbers.numbers.items in
     let are = subst (λ l. AreRepresentatives l reps) c.deref.ensures.value c.in_ok-numbers.ensures in
     IfOk-weaker c.spelled.result (λ p. p.0 ∷ p.1 ≡ map canonical c.deref-2.result.now)
     (λ p. length p.1 ≤ 2 * length (distinct_numbers all))
     (λ p e. few_names c.args.c.0 all constants reps p.0 p.1 c.in_ok-constants.ensures are
     (e ∙ ap (map canonical) c.deref-2.ensures.value)) c.spelled.ensures
+  where
+    open c use {in_ok-constants.constants.items as constants, in_ok-numbers.numbers.items as reps}

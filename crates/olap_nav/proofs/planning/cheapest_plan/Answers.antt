@@ -14,8 +14,6 @@ pub questions-preserved : goal.questions-preserved
 questions-preserved c =
     let s = schema_of c.args.schema.now in
     let views = views_of c.args.store.now in
-    let target = c.args.target.0 in
-    let mask = c.in-Some.plan.mask in
     let none = rw c.in-Some-refuted.is at c.in_ok-refuted.ensures.none in
     let some = rw c.in-Some-refuted.is at c.in_ok-refuted.ensures.some in
     let other : (m : ℕ) → Serves s views target m → m ≢ mask = λ m h e. absurd (let z : true ≡ false = none.1
@@ -29,6 +27,8 @@ questions-preserved c =
       serving = λ m h. (c.refute.ensures.left m).1 (c.questions.invariant.serving m h, other m h, by_one m h);
       room = c.in_ok-refuted.ensures.room;
     }
+  where
+    open c use {args.target.0 as target, in-Some.plan.mask}
 
 pub questions-smaller : goal.questions-smaller
 questions-smaller c =
@@ -41,8 +41,6 @@ questions-smaller c =
 pub returns-in_default-refuted-clause-plan : goal.returns-in_default-refuted-clause-plan
 returns-in_default-refuted-clause-plan c =
     let views = views_of c.args.store.now in
-    let mask = c.in-Some.plan.mask in
-    let best = c.in-Some.ensures in
     let none = rw c.in_default-refuted.is at c.in_ok-refuted.ensures.none in
     let size : length c.items.result.now ≡ 2 ^ length views = ap length c.items.ensures ∙ c.questions.invariant.count
     ∙ ap (λ n. 2 ^ n) (sym (length-map c.args.store.now.views view_of)) in
@@ -55,6 +53,8 @@ returns-in_default-refuted-clause-plan c =
           let may = subst (λ l. MayServe l m) (sym c.items.ensures) (c.questions.invariant.serving m h) in
           best.cheapest m (inside c.items.result.now m may) may;
     }
+  where
+    open c use {in-Some.plan.mask, in-Some.ensures as best}
 
 pub returns-clause-not_answerable : goal.returns-clause-not_answerable
 returns-clause-not_answerable c = λ m h.

@@ -15,10 +15,6 @@ views-preserved c =
     let s = schema_of c.args.schema.now in
     let i = found_instance s c.args.found.now in
     let x = found_root s c.args.found.now in
-    let views = c.args.store.now.views in
-    let read = c.items-view-items.result.now in
-    let k = c.views.view-index in
-    let v = c.view-item.result in
     let more = ways_more i x c.args.target.0 (each_view_of (take k views)) c.views.pattern.items (view_of v)
     c.reaches_by.result c.views.invariant.ways c.reaches_by.ensures.way in
     record {
@@ -29,17 +25,24 @@ views-preserved c =
       count = grind (arith, common_steps);
       room = c.reaches_by.ensures.room;
     }
+  where
+    open c use {
+      args.store.now.views,
+      items-view-items.result.now as read,
+      views.view-index as k,
+      view-item.result as v,
+    }
 
 pub returns-clause-pattern : goal.returns-clause-pattern
 returns-clause-pattern c =
     let s = schema_of c.args.schema.now in
     let i = found_instance s c.args.found.now in
     let x = found_root s c.args.found.now in
-    let views = c.args.store.now.views in
-    let e = c.items-view-items.ensures in
     let all : take c.views.view-index views ≡ views = take_all c.views.view-index views
     (subst (λ (l : List told.View). length l ≤ c.views.view-index) e c.views-test.false) in
     pattern_is s c.args.target.0 c.args.found.now c.constraints-valid.ensures.valid.hierarchy c.requires.found
     (views_of c.args.store.now) c.views.pattern.items
     (subst (λ (l : List told.View). AreWays i x c.args.target.0 (each_view_of l) c.views.pattern.items) all
     c.views.invariant.ways)
+  where
+    open c use {args.store.now.views, items-view-items.ensures as e}

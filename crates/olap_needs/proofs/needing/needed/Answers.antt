@@ -15,8 +15,8 @@ pub returns : goal.returns
 returns c =
     let s = schema_of c.args.schema.now in
     let same = c.categories-b-end.ensures.count ∙ ap category_count c.graph.ensures in
-    let last = c.categories.auto.b-end in
-    let over = c.categories-test.false in
     let all : category_count s.graph ≡ c.categories.b = omega (arith, same, last, over) in
     all_listed s c.args.target.0 (numbers_of c.args.sources.now) c.needs_leave_members.ensures c.categories.b
     c.categories.needs all c.categories.invariant.listed
+  where
+    open c use {categories.auto.b-end as last, categories-test.false as over}

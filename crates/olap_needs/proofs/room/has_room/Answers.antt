@@ -23,12 +23,10 @@ returns-then-not-are_small c = λ target ss bs so many.
 pub returns : goal.returns
 returns c = λ target ss bs so many.
     let s = schema_of c.args.schema.now in
-    let stored = c.constraints-constraints.result.now in
     let list = c.constraints-constraints.ensures.list in
     let count = ap length list in
     let as_many = length-map stored constraint_of in
     let short = c.constraints-constraints.ensures.few in
-    let test = c.if-needed-constraints.false in
     let few : length s.constraints + length bs ≤ most_constraints = omega (arith, count, as_many, short, test, many) in
     let total : c.from.result ≡ sum_by (λ (d : Constraint). node_count d.formula) s.constraints =
     c.from.ensures ∙ c.count.ensures ∙ ap (sum_by (λ (d : Constraint). node_count d.formula)) list in
@@ -44,3 +42,5 @@ returns c = λ target ss bs so many.
           exactly.1 (few, each, subst (λ n. n ≤ most_schema_nodes) nodes (leb-true _ most_schema_nodes yes)),
       λ room. le-leb _ most_schema_nodes (subst (λ n. n ≤ most_schema_nodes) (sym nodes) (exactly.0 room).2),
     )
+  where
+    open c use {constraints-constraints.result.now as stored, if-needed-constraints.false as test}

@@ -7,8 +7,6 @@ use Rattle.olap_numerals.proofs.representing.near.Goals as goal
 
 pub constants-preserved : goal.constants-preserved
 constants-preserved c = λ a.
-    let cs = c.args.constants.now in
-    let i = c.constants.n-index in
     let n = get_or cs i (pos 0) in
     let next : i + 1 ≡ suc i = omega arith in
     let more : take (i + 1) cs ≡ take i cs ++ n ∷ [] =
@@ -22,6 +20,8 @@ constants-preserved c = λ a.
       λ x. both.0 (elim (entered.0 x) [ inl y ↦ inl (before.0 y) | inr y ↦ inr y ]),
       λ u. entered.1 (elim (both.1 u) [ inl y ↦ inl (before.1 y) | inr y ↦ inr y ]),
     )
+  where
+    open c use {args.constants.now as cs, constants.n-index as i}
 
 pub enter_last-requires : goal.enter_last-requires
 enter_last-requires c = λ n e. least_small c.args.constants.now c.requires n (sym c.least.ensures ∙ e)

@@ -21,17 +21,15 @@ overflow_add-number c =
 
 pub digits-preserved : goal.digits-preserved
 digits-preserved c =
-    let ds = c.args.digits.now in
-    let i = c.digits.i in
-    let n = c.digits.number in
     let digit = digit-within (get_or ds i 0) (sym c.is_ascii_digit.ensures.value ∙ c.if-not-is_ascii_digit.false) in
-    let inside = c.digits-test.true in
     record {
       within = omega arith;
       value = value-more ds i n c.from.result inside digit c.from.ensures c.digits.invariant.value;
       small = small-more ds i n c.from.result inside digit c.from.ensures c.digits.invariant.small;
       all = all-more ds i n c.from.result inside digit c.from.ensures c.digits.invariant.all;
     }
+  where
+    open c use {args.digits.now as ds, digits.i, digits.number as n, digits-test.true as inside}
 
 pub returns-else-is_empty-clause-numeral : goal.returns-else-is_empty-clause-numeral
 returns-else-is_empty-clause-numeral c =

@@ -8,11 +8,6 @@ use Rattle.olap_outside.proofs.filling.fill.Goals as goal
 pub fills-preserved : goal.fills-preserved
 fills-preserved g c =
     let lib = g.L.Library in
-    let inv = c.fills.invariant in
-    let at = c.fills.at in
-    let piece = c.fills.piece in
-    let buf = c.read.new.buf in
-    let n = c.in_ok-count.count in
     let same = same_len_mid at (length piece - at) piece buf c.read.auto.buf in
     let size = rest-size at piece buf c.read.auto.buf in
     let bound = c.in_ok-count.ensures.bound in
@@ -32,3 +27,5 @@ fills-preserved g c =
         sure = c.read.ensures.sure ∙ inv.kept.sure;
       };
     }
+  where
+    open c use {fills.invariant as inv, fills.at, fills.piece, read.new.buf, in_ok-count.count as n}

@@ -12,20 +12,16 @@ use Rattle.olap_plain.proofs.searching.first_names.Goals as goal
 
 pub returns-then-not-is_sound-clause-none : goal.returns-then-not-is_sound-clause-none
 returns-then-not-is_sound-clause-none c = λ t h e f.
-    let a = c.args in
-    let q = a.question.now in
     let s = frozen_sound q.graph.now (map constraint_of q.constraints.now)
     (formula_of q.formula.now) q.candidates.now q.root.0
     a.edges.now c.close.new.rows c.close.ensures.hierarchy c.requires.root h e f in
     let b = c.is_sound.ensures.1 s in
-    let g = c.if-not-is_sound.true in absurd (let z : true ≡ false = sym b ∙ g in cc)
+    absurd (let z : true ≡ false = sym b ∙ g in cc)
+  where
+    open c use {args as a, args.question.now as q, if-not-is_sound.true as g}
 
 pub names-init : goal.names-init
 names-init c =
-    let a = c.args in
-    let q = a.question.now in
-    let rows = c.close.new.rows in
-    let i = c.from.ensures in
     let l = c.close.auto.rows in
     let k = c.requires.rows in
     let m = c.requires.root in
@@ -34,22 +30,22 @@ names-init c =
     q.root.0
     a.edges.now rows c.start.new.self (length a.walk.now.indexes) c.requires.walk
     (c.start.ensures.present ∙ ap (λ s. marks_of s (length a.walk.now.indexes)) e) c.start.ensures.indexes
+  where
+    open c use {args as a, args.question.now as q, close.new.rows, from.ensures as i}
 
 pub named-requires-clause-absent : goal.named-requires-clause-absent
 named-requires-clause-absent c =
-    let a = c.args in
-    let q = a.question.now in
     let is = present_is q.graph.now q.root.0 a.edges.now c.close.new.rows c.close.ensures.hierarchy c.requires.root
     c.close.ensures.rows (c.is_sound.ensures.0 c.if-not-is_sound.false) in
     subst (λ xs. AreAbsentZero q.graph.now q.root.0 a.edges.now xs) (sym c.indexes-names.ensures)
     (assigned_absent q.graph.now (map constraint_of q.constraints.now) (formula_of q.formula.now) q.candidates.now
     q.root.0
     a.edges.now c.close.new.rows is c.names.walk.indexes c.names.invariant.assigned)
+  where
+    open c use {args as a, args.question.now as q}
 
 pub returns-then-named-clause-some : goal.returns-then-named-clause-some
 returns-then-named-clause-some c = λ t.
-    let a = c.args in
-    let q = a.question.now in
     let is = present_is q.graph.now q.root.0 a.edges.now c.close.new.rows c.close.ensures.hierarchy c.requires.root
     c.close.ensures.rows (c.is_sound.ensures.0 c.if-not-is_sound.false) in
     walking_found q.graph.now (map constraint_of q.constraints.now) (formula_of q.formula.now) q.candidates.now
@@ -59,19 +55,19 @@ returns-then-named-clause-some c = λ t.
     (formula_of q.formula.now) q.root.0
     (candidates_of q.candidates.now) (chosen_of a.edges.now xs)) c.indexes-names.ensures
     (c.named.ensures.0 c.if-named.true))
+  where
+    open c use {args as a, args.question.now as q}
 
 pub returns-then-named-clause-zero : goal.returns-then-named-clause-zero
 returns-then-named-clause-zero c = λ t.
-    let a = c.args in
-    let q = a.question.now in
     walking_zero q.graph.now (map constraint_of q.constraints.now) (formula_of q.formula.now) q.candidates.now
     q.root.0
     a.edges.now c.close.new.rows c.names.walk c.names.invariant
+  where
+    open c use {args as a, args.question.now as q}
 
 pub returns-then-not-next-clause-none : goal.returns-then-not-next-clause-none
 returns-then-not-next-clause-none c = λ t.
-    let a = c.args in
-    let q = a.question.now in
     let is = present_is q.graph.now q.root.0 a.edges.now c.close.new.rows c.close.ensures.hierarchy c.requires.root
     c.close.ensures.rows (c.is_sound.ensures.0 c.if-not-is_sound.false) in
     walking_ended q.graph.now (map constraint_of q.constraints.now) (formula_of q.formula.now) q.candidates.now
@@ -81,22 +77,22 @@ returns-then-not-next-clause-none c = λ t.
     (subst (λ xs. IsFrozen (with_graph q.graph.now (map constraint_of q.constraints.now))
     (formula_of q.formula.now) q.root.0 (candidates_of q.candidates.now) (chosen_of a.edges.now xs))
     (sym c.indexes-names.ensures) f) in
-    let g = c.if-named.false in let z : true ≡ false = sym b ∙ g in cc)
+    let z : true ≡ false = sym b ∙ g in cc)
     (c.next.ensures.last c.if-not-next.true)
+  where
+    open c use {args as a, args.question.now as q, if-named.false as g}
 
 pub names-smaller : goal.names-smaller
 names-smaller c =
-    let a = c.args in
-    let q = a.question.now in
     walking_falls q.graph.now (map constraint_of q.constraints.now) (formula_of q.formula.now) q.candidates.now
     q.root.0
     a.edges.now c.close.new.rows c.names.walk c.next.new.self c.names.invariant c.next.ensures.present
     (c.next.ensures.next c.if-not-next.false)
+  where
+    open c use {args as a, args.question.now as q}
 
 pub names-preserved : goal.names-preserved
 names-preserved c =
-    let a = c.args in
-    let q = a.question.now in
     walking_next q.graph.now (map constraint_of q.constraints.now) (formula_of q.formula.now) q.candidates.now q.root.0
     a.edges.now c.close.new.rows c.names.walk c.next.new.self c.names.invariant c.next.ensures.present
     (c.next.ensures.next c.if-not-next.false)
@@ -104,4 +100,6 @@ names-preserved c =
     (subst (λ xs. IsFrozen (with_graph q.graph.now (map constraint_of q.constraints.now))
     (formula_of q.formula.now) q.root.0 (candidates_of q.candidates.now) (chosen_of a.edges.now xs))
     (sym c.indexes-names.ensures) f) in
-    let g = c.if-named.false in let z : true ≡ false = sym b ∙ g in cc)
+    let z : true ≡ false = sym b ∙ g in cc)
+  where
+    open c use {args as a, args.question.now as q, if-named.false as g}

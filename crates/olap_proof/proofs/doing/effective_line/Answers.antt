@@ -16,12 +16,12 @@ returns-in_err-line-clause-none c = λ n new step.
 
 pub returns-then-does-clause-step : goal.returns-then-does-clause-step
 returns-then-does-clause-step c =
-    let p = c.args.known.now in
-    let l = c.in_ok-line.line in
     subst (λ (b : List ℕ). StepsHere p c.args.constraints.now c.args.question.now b (open_after p l))
     c.in_ok-line.ensures.1
     (does_step p.form (schema_at p c.args.constraints.now) (formula_of c.args.question.now)
     (candidates_of p.candidates.now) p.place.now (meaning l) c.in_ok-line.ensures.0 (c.does.ensures.0 c.if-does.true))
+  where
+    open c use {args.known.now as p, in_ok-line.line as l}
 
 pub returns-else-does-clause-none : goal.returns-else-does-clause-none
 returns-else-does-clause-none c = λ n.

@@ -34,21 +34,17 @@ returns-in-Some-clause-same t c =
 
 pub grow-requires : goal.grow-requires
 grow-requires t c =
-    let a = c.args.asked.now in
-    let p = c.args.case.now in
-    let e = c.in-Some-next_edge.edge.0 in
     let new = c.decide.ensures ∙ ap (λ x. with_edge x e false) c.next_edge.ensures.same in
     let below = edge_below (schema_in a) (question_in a) (names_in a) p c.decide.new.self e false
     c.requires.place c.requires.none c.in-Some-next_edge.ensures.some new in (
       subst (λ n. left c.decide.new.self < n) c.decreases below.less,
       (c.requires.asked, (below.place, below.none)),
     )
+  where
+    open c use {args.asked.now as a, args.case.now as p, in-Some-next_edge.edge.0 as e}
 
 pub grow-grown-requires : goal.grow-grown-requires
 grow-grown-requires t c =
-    let a = c.args.asked.now in
-    let p = c.args.case.now in
-    let e = c.in-Some-next_edge.edge.0 in
     let first = c.decide.ensures ∙ ap (λ x. with_edge x e false) c.next_edge.ensures.same in
     let back = c.undecide.ensures p e false (c.in_ok-grow.ensures.same ∙ first) in
     let new = c.decide-in-Some-next_edge.ensures ∙ ap (λ x. with_edge x e true) back in
@@ -58,6 +54,8 @@ grow-grown-requires t c =
       subst (λ n. left c.decide-in-Some-next_edge.new.self < n) c.decreases below.less,
       (c.requires.asked, (below.place, below.none)),
     )
+  where
+    open c use {args.asked.now as a, args.case.now as p, in-Some-next_edge.edge.0 as e}
 
 pub returns-in-Some-next_edge-clause-tree : goal.returns-in-Some-next_edge-clause-tree
 returns-in-Some-next_edge-clause-tree t c =
@@ -89,9 +87,6 @@ returns-in-Some-next_edge-clause-same t c =
 
 pub grow-requires-in-names : goal.grow-requires-in-names
 grow-requires-in-names t c =
-    let a = c.args.asked.now in
-    let p = c.args.case.now in
-    let d = c.in-Some-next_name.c in
     let same = c.names.invariant.same ∙ c.next_edge.ensures.same in
     let new = c.in_ok-name.ensures ∙ ap (λ x. with_name x d.0 c.names.index) same in
     let unnamed = subst (λ x. IsUnnamed a x d) c.next_edge.ensures.same c.in-Some-next_name.ensures.some in
@@ -102,11 +97,11 @@ grow-requires-in-names t c =
       subst (λ n. left c.name.new.self < n) c.decreases below.less,
       (c.requires.asked, (below.place, below.none)),
     )
+  where
+    open c use {args.asked.now as a, args.case.now as p, in-Some-next_name.c as d}
 
 pub names-preserved : goal.names-preserved
 names-preserved t c =
-    let a = c.args.asked.now in
-    let d = c.in-Some-next_name.c in
     let back = c.unname.ensures c.names.case d.0 c.names.index
     (c.in_ok-grow-2.ensures.same ∙ c.in_ok-name.ensures) in
     let new = c.in_ok-name.ensures ∙ ap (λ x. with_name x d.0 c.names.index) c.names.invariant.same in
@@ -116,13 +111,12 @@ names-preserved t c =
           c.name.new.self d.0 c.names.index c.push_bounded-in-Some-next_name.new.out.items
           c.names.out.items c.grow-in-names.new.out.items c.names.invariant.written new c.in_ok-grow-2.ensures.tree;
     }
+  where
+    open c use {args.asked.now as a, in-Some-next_name.c as d}
 
 pub returns-after-names-clause-tree : goal.returns-after-names-clause-tree
 returns-after-names-clause-tree t c =
-    let a = c.args.asked.now in
     let s = schema_in a in
-    let d = c.in-Some-next_name.c in
-    let p = c.next_edge.new.case in
     let all : c.names.index ≡ length ((names_in a).texts d.0) + 1 =
     omega (arith, ap length c.others.ensures.list, c.names-test.false, c.names.auto.index-end) in
     subst (λ x. Adds c.args.form s (question_in a) (names_in a) (At x ∷ []) c.args.out.now.items c.names.out.items)
@@ -133,6 +127,8 @@ returns-after-names-clause-tree t c =
     (subst (λ n. Adds c.args.form s (question_in a) (names_in a)
     (map (λ i. At (with_name p d.0 i)) (range_with_len 0 n)) c.push_bounded-in-Some-next_name.new.out.items
     c.names.out.items) all c.names.invariant.written))
+  where
+    open c use {args.asked.now as a, in-Some-next_name.c as d, next_edge.new.case as p}
 
 pub returns-in_default-next_name-clause-tree : goal.returns-in_default-next_name-clause-tree
 returns-in_default-next_name-clause-tree t c =

@@ -18,20 +18,16 @@ lines-init c =
 
 pub returns-then-not-branch-clause-some : goal.returns-then-not-branch-clause-some
 returns-then-not-branch-clause-some c =
-    let a = c.args.asked.now in
-    let x = c.in-Some.line.now in
     wrong_here c.args.form a c.args.text.now c.lines.rest.now x c.in-Some.others.now c.lines.count c.lines.stage
     c.requires.asked.hierarchy c.requires.few c.lines.invariant.reached c.in-Some.ensures.some
     c.in-Some.ensures.whole
     (subst (λ b. StepsTo c.args.form a c.lines.stage x (if_done b c.step.new.stage)) c.if-not-branch.true
     c.in_ok-step.ensures)
+  where
+    open c use {args.asked.now as a, in-Some.line.now as x}
 
 pub lines-preserved : goal.lines-preserved
 lines-preserved c =
-    let a = c.args.asked.now in
-    let x = c.in-Some.line.now in
-    let others = c.in-Some.others.now in
-    let later = c.step.new.stage in
     let steps = subst (λ b. StepsTo c.args.form a c.lines.stage x (if_done b later)) c.if-not-branch.false
     c.in_ok-step.ensures in
     let count : length c.lines.rest.now ≡ length x + suc (length others) =
@@ -42,6 +38,8 @@ lines-preserved c =
       stage = steps.0;
       few = omega (arith, count, c.lines.invariant.few);
     }
+  where
+    open c use {args.asked.now as a, in-Some.line.now as x, in-Some.others.now as others, step.new.stage as later}
 
 pub returns-clause-none : goal.returns-clause-none
 returns-clause-none c = λ none.

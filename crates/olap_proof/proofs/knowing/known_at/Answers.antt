@@ -19,8 +19,6 @@ touch_decisions-requires c = λ k l.
 
 pub returns : goal.returns
 returns c =
-    let p = c.args.place.now in
-    let ds = c.decisions-decisions.result.now in
     let first = members c.with-known.result in
     let mid = members c.touch_decisions.new.set in
     known_is p ds c.categories-count.result (sym c.decisions-decisions.ensures.list)
@@ -30,3 +28,5 @@ returns c =
     (subst (λ (g : Graph). (x : ℕ) → IsIn mid x ↔ TouchedByDecisions first g ds (length ds) x) (sym c.requires.graph)
     c.touch_decisions.ensures)
     c.touch_ways.ensures
+  where
+    open c use {args.place.now as p, decisions-decisions.result.now as ds}

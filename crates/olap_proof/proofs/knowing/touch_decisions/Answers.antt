@@ -10,22 +10,21 @@ use Rattle.olap_proof.proofs.knowing.touch_decisions.Goals as goal
 
 pub decisions-init : goal.decisions-init
 decisions-init c =
-    let ds = c.args.decisions.now in
-    let g = c.args.graph.now in
     touched_at_first (λ k. (decision_at ds k).present) (λ k. (edge_at g (decision_at ds k).edge.0).child)
     (λ k. (edge_at g (decision_at ds k).edge.0).parent) (members c.args.set.now)
+  where
+    open c use {args.decisions.now as ds, args.graph.now as g}
 
 pub decisions-preserved : goal.decisions-preserved
 decisions-preserved c =
-    let ds = c.args.decisions.now in
-    let g = c.args.graph.now in
-    let i = c.decisions.i in
     let new = members c.touch.new.set in
     touched_by (λ k. (decision_at ds k).present) (λ k. (edge_at g (decision_at ds k).edge.0).child)
     (λ k. (edge_at g (decision_at ds k).edge.0).parent) i (members c.args.set.now) (members c.decisions.set) new
     c.decisions.invariant
     (subst (λ (x : Edge). IsTouched (members c.decisions.set) (decision_at ds i).present x.child x.parent new)
     (sym c.ends.ensures.edge) c.touch.ensures)
+  where
+    open c use {args.decisions.now as ds, args.graph.now as g, decisions.i}
 
 pub returns : goal.returns
 returns c =

@@ -11,12 +11,7 @@ use Rattle.olap_proof.proofs.leaves.closes.Goals as goal
 
 pub returns-in-Constraint : goal.returns-in-Constraint
 returns-in-Constraint c =
-    let s = c.args.known.now in
     let k = candidates_of s.candidates.now in
-    let p = s.place.now in
-    let cs = c.args.constraints.now in
-    let n = c.in-Constraint.n in
-    let x = c.index-constraints-n.result in
     let here = with_graph s.graph.now (map constraint_of cs) in
     let q = formula_of c.args.question.now in
     let inside : n < length (map constraint_of cs) =
@@ -29,6 +24,14 @@ returns-in-Constraint c =
       λ t. u.0 (subst (λ (y : Constraint). IsUnmet s.form k p y) (sym same) (c.is_unmet.ensures.0 t)),
       λ h. c.is_unmet.ensures.1 (subst (λ (y : Constraint). IsUnmet s.form k p y) same (u.1 h)),
     )
+  where
+    open c use {
+      args.known.now as s,
+      args.known.now.place.now as p,
+      args.constraints.now as cs,
+      in-Constraint.n,
+      index-constraints-n.result as x,
+    }
 
 pub returns-in-Dead : goal.returns-in-Dead
 returns-in-Dead c =

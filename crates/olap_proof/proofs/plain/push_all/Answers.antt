@@ -12,11 +12,7 @@ push_tree-requires-clause-none c = c.requires.none c.categories.b (c.is_bottom.e
 
 pub categories-preserved : goal.categories-preserved
 categories-preserved c =
-    let a = c.args.asked.now in
-    let b = c.categories.b in
     let low : 1 ≤ b = omega (arith, c.categories.auto.b) in
-    let from = c.push_head.new.out.items in
-    let there = c.categories.out.items in
     let small : b < category_count a.graph.now =
     omega (arith, c.categories-test.true, c.categories-b-end.ensures.count) in
     let so : List ℕ → Type 0 = λ new. Adds c.args.form (schema_in a) (question_in a) (names_in a)
@@ -32,13 +28,15 @@ categories-preserved c =
           (λ h. let z : true ≡ false = sym (c.is_bottom.ensures.1 h) ∙ w.if-is_bottom.false in cc)
           c.categories.invariant)
     ]
+  where
+    open c use {args.asked.now as a, categories.b, categories.out.items as there, push_head.new.out.items as from}
 
 pub returns : goal.returns
 returns c =
-    let a = c.args.asked.now in
-    let test = c.categories-test.false in
     let all : c.categories.b - 1 ≡ length a.graph.now.names =
     omega (arith, c.categories.auto.b, c.categories.auto.b-end, test, c.categories-b-end.ensures.count) in
     let head = c.in_ok-push_head.ensures ∙ ap (λ xs. xs ++ (head_text c.args.form ++ 10 ∷ [])) c.requires.empty in
     certified c.args.form (schema_in a) (question_in a) (names_in a) (c.categories.b - 1) c.push_head.new.out.items
     c.categories.out.items all head c.categories.invariant
+  where
+    open c use {args.asked.now as a, categories-test.false as test}

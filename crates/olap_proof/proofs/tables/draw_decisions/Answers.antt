@@ -21,11 +21,6 @@ decisions-init c = record {
 
 pub decisions-preserved : goal.decisions-preserved
 decisions-preserved c =
-    let ds = c.args.decisions.now in
-    let graph = c.args.graph.now in
-    let i = c.decisions.i in
-    let old = c.args.rows.now in
-    let mid = c.decisions.rows in
     let e = (decision_at ds i).edge.0 in
     elim c.if-decision.branch [
       | then-decision w ↦
@@ -58,6 +53,14 @@ decisions-preserved c =
             w.if-decision.false);
       }
     ]
+  where
+    open c use {
+      args.decisions.now as ds,
+      args.graph.now as graph,
+      args.rows.now as old,
+      decisions.i,
+      decisions.rows as mid,
+    }
 
 pub returns-clause-drawn : goal.returns-clause-drawn
 returns-clause-drawn c = λ g lie.

@@ -25,10 +25,6 @@ edges-init c =
 
 pub edges-preserved : goal.edges-preserved
 edges-preserved c =
-    let t = c.args.trail.now in
-    let e = c.edges.e in
-    let old = c.args.rows.now in
-    let mid = c.edges.rows in
     let drawn = possible_graph t in
     let inside : e < length t.graph.edges =
     subst (λ (g : Graph). e < length g.edges) (sym c.requires.graph)
@@ -63,6 +59,8 @@ edges-preserved c =
                 (λ j. (edge_at t.graph j).parent) e old mid c.edges.invariant.drawn (told ∙ w.if-may_be_present.false));
           }
     ]
+  where
+    open c use {args.trail.now as t, args.rows.now as old, edges.e, edges.rows as mid}
 
 pub returns-clause-drawn : goal.returns-clause-drawn
 returns-clause-drawn c =

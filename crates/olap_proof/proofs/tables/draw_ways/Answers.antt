@@ -20,9 +20,6 @@ categories-init c = record {
 
 pub categories-preserved : goal.categories-preserved
 categories-preserved c =
-    let ways = c.args.ways.now in
-    let i = c.categories.c in
-    let mid = c.categories.rows in
     let inside : i < length mid =
     let n = c.categories.invariant.count in let l = c.categories-test.true in omega arith in
     record {
@@ -33,6 +30,8 @@ categories-preserved c =
           (c.union.ensures ∙ ap (λ s. union s (members c.from.result))
           (row_read mid i c.index-rows-c.result inside c.index-rows-c.is)) c.from.ensures lie;
     }
+  where
+    open c use {args.ways.now as ways, categories.c as i, categories.rows as mid}
 
 pub returns-clause-drawn : goal.returns-clause-drawn
 returns-clause-drawn c = λ g lie.

@@ -18,21 +18,17 @@ draw_decisions-requires-clause-edges c = λ k l.
 pub close-requires-clause-own : goal.close-requires-clause-own
 close-requires-clause-own c =
     let p = place_of c.args.trail.now c.args.ways.now in
-    let g = c.args.graph.now in
-    let ds = c.decisions.result.now in
-    let mid = c.draw_decisions.new.rows in
     own_drawn (leading_graph p)
     (λ x y. SeenDecisions g ds (length ds) x y ⊎ SeenFrom (LeadsHere p.ways) (length mid) x y) c.isolate.new.rows
     c.draw_ways.new.rows c.isolate.ensures.own
     (leading_drawn p g ds c.isolate.new.rows mid c.draw_ways.new.rows c.requires.graph
     (sym c.decisions.ensures.list) c.draw_decisions.ensures.drawn c.draw_ways.ensures.drawn)
+  where
+    open c use {args.graph.now as g, decisions.result.now as ds, draw_decisions.new.rows as mid}
 
 pub returns : goal.returns
 returns c =
     let p = place_of c.args.trail.now c.args.ways.now in
-    let g = c.args.graph.now in
-    let ds = c.decisions.result.now in
-    let mid = c.draw_decisions.new.rows in
     let listed = sym c.decisions.ensures.list in
     let drawn = leading_drawn p g ds c.isolate.new.rows mid c.draw_ways.new.rows c.requires.graph listed
     c.draw_decisions.ensures.drawn c.draw_ways.ensures.drawn in
@@ -43,3 +39,5 @@ returns c =
     c.draw_decisions.ensures.drawn c.draw_ways.ensures.drawn c.requires.ways
     (c.draw_decisions.ensures.count ∙ c.isolate.ensures.count ∙ c.requires.count))
     c.close.ensures
+  where
+    open c use {args.graph.now as g, decisions.result.now as ds, draw_decisions.new.rows as mid}

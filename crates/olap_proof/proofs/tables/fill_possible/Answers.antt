@@ -15,10 +15,10 @@ close-requires-clause-own c =
 
 pub returns : goal.returns
 returns c =
-    let t = c.args.trail.now in
-    let g = c.args.graph.now in
     closed_table (possible_graph t) (category_count g) (SeenPossible t (length g.edges)) c.isolate.new.rows
     c.draw_possible.new.rows c.close.new.rows (c.isolate.ensures.count ∙ c.requires.count) c.isolate.ensures.own
     c.draw_possible.ensures.drawn
     (λ x y e. subst (λ (h : Graph). SeenPossible t (length h.edges) x y) c.requires.graph (possible_seen t x y e))
     c.close.ensures
+  where
+    open c use {args.trail.now as t, args.graph.now as g}

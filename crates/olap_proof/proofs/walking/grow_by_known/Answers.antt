@@ -25,17 +25,12 @@ grow_by_ways-by_ways-requires c = λ w h.
 
 pub returns : goal.returns
 returns c =
-    let p = c.args.place.now in
-    let graph = c.args.graph.now in
     let lead = leading_graph p in
     let n = category_count graph in
-    let ds = c.decisions-decisions.result.now in
     let listed = sym c.decisions-decisions.ensures.list in
     let old = members c.args.set.now in
     let mid = members c.grow_by_decisions-by_decisions.new.set in
     let new = members c.grow_by_ways-by_ways.new.set in
-    let a = c.grow_by_decisions-by_decisions.result in
-    let b = c.grow_by_ways-by_ways.result in
     let first = c.grow_by_decisions-by_decisions.ensures lead (λ k l h.
     let e = (decision_at ds k).edge.0 in
     subst (λ (g : Graph). HasEdge lead (edge_at g e).child (edge_at g e).parent) c.requires.graph
@@ -50,3 +45,11 @@ returns c =
       | inl s ↦ inl (subst (λ (g : Graph). SeenDecisions g ds (length ds) x y) c.requires.graph s)
       | inr s ↦ inr ((c.requires.ways (leading_way x y) s).0, s)
     ])
+  where
+    open c use {
+      args.place.now as p,
+      args.graph.now as graph,
+      decisions-decisions.result.now as ds,
+      grow_by_decisions-by_decisions.result as a,
+      grow_by_ways-by_ways.result as b,
+    }

@@ -13,9 +13,6 @@ use Rattle.olap_proof.proofs.walking.grow_by_possible.Goals as goal
 
 pub edges-preserved : goal.edges-preserved
 edges-preserved c =
-    let t = c.args.place.now.decided in
-    let graph = c.args.graph.now in
-    let e = c.edges.e in
     let new = members c.add-grew.new.set in
     let n = category_count graph in
     let inside : e < length t.graph.edges =
@@ -31,3 +28,5 @@ edges-preserved c =
     c.add-grew.result) (sym ends)
     (subst (λ b. IsAdded (members c.edges.set) b c.ends.result.0.0 c.ends.result.1.0 c.edges.grew new
     c.add-grew.result) taken c.add-grew.ensures))
+  where
+    open c use {args.place.now.decided as t, args.graph.now as graph, edges.e}

@@ -8,10 +8,9 @@ use Rattle.olap_proof.proofs.ways.take_out.Goals as goal
 
 pub returns-clause-out : goal.returns-clause-out
 returns-clause-out c =
-    let rows = c.args.rows.now in
-    let k = c.from-place.result in
-    let p = c.args.d.0 in
     let inside : k < length rows = omega (arith, c.from-place.ensures, c.requires.c) in
     subst (λ j. IsTakenOut rows j p (set rows k c.without.result)) c.from-place.ensures
     (row_out rows k p c.without.result inside
     (c.without.ensures ∙ ap (λ s. remove s p) (row_read rows k c.index-rows-place.result inside c.index-rows-place.is)))
+  where
+    open c use {args.rows.now as rows, args.d.0 as p, from-place.result as k}

@@ -26,8 +26,6 @@ use Rattle.olap_reading.proofs.reading.legal_in.Goals as goal
 pub returns-in-Ok-clause-step : goal.returns-in-Ok-clause-step
 returns-in-Ok-clause-step g c =
     let s = schema_of c.args.schema.now in
-    let label = c.args.label.now in
-    let members = c.in-Ok.members in
     let given = subst (λ (r : Result Instance (Refusal (Fault InstanceKind))). MatchResult r
     (λ i. instance_read c.graph.result.now (records_of c.deref.result.now) ≡ Ok i)
     (λ x. IsRefusedBy x (instance_read c.graph.result.now (records_of c.deref.result.now)))) c.in-Ok.is
@@ -42,12 +40,12 @@ returns-in-Ok-clause-step g c =
     (meant-instance s.graph (records_of c.in-Some.text.items) members read))
     (rw c.in-Some.is at c.in_ok-text.ensures.within) (rw c.in-Some.is at c.in_ok-text.ensures.read)
     c.in_ok-text.ensures.later c.in_ok-text.ensures.contents c.legal_or_refused.result c.legal_or_refused.ensures.step
+  where
+    open c use {args.label.now as label, in-Ok.members}
 
 pub returns-in-Err-Kind-clause-step : goal.returns-in-Err-Kind-clause-step
 returns-in-Err-Kind-clause-step g c =
     let s = schema_of c.args.schema.now in
-    let label = c.args.label.now in
-    let e = c.in-Err-Kind in
     let is : c.read_instance-read.result ≡ Err e.field-0 = e.is in
     let fault : e.field-0 ≡ refusal.Kind e.fault = rw is at e.field-0-is in
     let whole : c.read_instance-read.result ≡ Err (refusal.Kind e.fault) = cc in
@@ -66,3 +64,5 @@ returns-in-Err-Kind-clause-step g c =
     (rw c.in-Some.is at c.in_ok-text.ensures.within) (rw c.in-Some.is at c.in_ok-text.ensures.read)
     c.in_ok-text.ensures.later c.in_ok-text.ensures.contents c.refuse_part.result
     (rw c.name.ensures at c.refuse_part.ensures.refused)
+  where
+    open c use {args.label.now as label, in-Err-Kind as e}

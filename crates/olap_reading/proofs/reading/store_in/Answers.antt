@@ -37,8 +37,6 @@ returns-in-Ok-clause-step g c =
 
 pub returns-in-Err-Kind-clause-step : goal.returns-in-Err-Kind-clause-step
 returns-in-Err-Kind-clause-step g c =
-    let label = c.args.label.now in
-    let e = c.in-Err-Kind in
     let read = rw (e.field-0-is, c.graph.ensures, c.instance.ensures, c.deref.ensures.value) at e.ensures.read in
     fault_told label c.args.file.now most_store_bytes
     (λ t. meaning_or_fault label (codes "record") (store_meant (schema_of c.args.schema.now).graph
@@ -49,3 +47,5 @@ returns-in-Err-Kind-clause-step g c =
     (rw c.in-Some.is at c.in_ok-text.ensures.within) (rw c.in-Some.is at c.in_ok-text.ensures.read)
     c.in_ok-text.ensures.later c.in_ok-text.ensures.contents c.refuse_part.result
     (rw c.name.ensures at c.refuse_part.ensures.refused)
+  where
+    open c use {args.label.now as label, in-Err-Kind as e}

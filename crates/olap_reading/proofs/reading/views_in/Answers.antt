@@ -15,8 +15,6 @@ use Rattle.olap_reading.proofs.reading.views_in.Goals as goal
 
 pub returns-in-Ok-rolled_up-clause-step : goal.returns-in-Ok-rolled_up-clause-step
 returns-in-Ok-rolled_up-clause-step g c =
-    let i = c.args.legal.now in
-    let ok = c.in-Ok-rolled_up in
     let rest = g.L.Library.rest c.open_file.new.self in
     let categories = ids c.args.categories.now in
     let so = subst (λ (h : Graph). IsOfRest rest (λ text. AreRolledUp h i (records_of text) categories
@@ -28,12 +26,12 @@ returns-in-Ok-rolled_up-clause-step g c =
       sure = c.rolled_up.ensures.kept.sure ∙ c.open_file.ensures.sure;
     })
     categories (each_view_of ok.views) so
+  where
+    open c use {args.legal.now as i, in-Ok-rolled_up as ok}
 
 pub returns-in-Err-Refused-Kind-clause-step : goal.returns-in-Err-Refused-Kind-clause-step
 returns-in-Err-Refused-Kind-clause-step g c =
     let lib = g.L.Library in
-    let i = c.args.legal.now in
-    let e = c.in-Err-Refused-Kind in
     let rest = lib.rest c.open_file.new.self in
     let why = subst (λ (u : Unrolled). IsWhyUnrolled c.graph.result.now i rest u)
     (e.field-0-is ∙ ap unrolled.Refused e.field-0-0-is) e.ensures.fault in
@@ -46,3 +44,5 @@ returns-in-Err-Refused-Kind-clause-step g c =
       sure = c.rolled_up.ensures.kept.sure ∙ c.open_file.ensures.sure;
     })
     e.fault so c.refuse_part.result (rw c.name.ensures at c.refuse_part.ensures.refused)
+  where
+    open c use {args.legal.now as i, in-Err-Refused-Kind as e}

@@ -21,11 +21,6 @@ returns-in_err-roller-clause-fault g c =
 pub returns-in_err-roller-2-clause-fault : goal.returns-in_err-roller-2-clause-fault
 returns-in_err-roller-2-clause-fault g c =
     let lib = g.L.Library in
-    let gr = c.args.graph.now in
-    let i = c.args.legal.now in
-    let n = c.in_ok-count.count in
-    let piece = c.fill.new.piece in
-    let e = c.in_err-roller-2.field-0.0 in
     let size : length piece ≡ 65536 = c.fill.auto.piece in
     let end : n < 65536 → EndsTold (lib.rest c.args.lib.now) (lib.rest c.fill.new.lib) =
     λ l. c.in_ok-count.ensures.end (omega (arith, l, size)) in
@@ -38,14 +33,18 @@ returns-in_err-roller-2-clause-fault g c =
     (λ more. subst (λ (xs : List ℕ). IsRefusedBy e (facts_read_within most_facts gr i (records_fed (xs ++ more))))
     c.without_mark.ensures
     (c.in_err-roller-2.ensures.takes gr i (ids c.args.categories.now) [] c.in_ok-roller.ensures.taken more)))
+  where
+    open c use {
+      args.graph.now as gr,
+      args.legal.now as i,
+      in_ok-count.count as n,
+      fill.new.piece,
+      in_err-roller-2.field-0.0 as e,
+    }
 
 pub pieces-init : goal.pieces-init
 pieces-init g c =
-    let gr = c.args.graph.now in
-    let i = c.args.legal.now in
     let cs = ids c.args.categories.now in
-    let n = c.in_ok-count.count in
-    let piece = c.fill.new.piece in
     let size : length piece ≡ 65536 = c.fill.auto.piece in
     let bound = c.in_ok-count.ensures.bound in
     let cut = length-take-le n piece bound in
@@ -65,15 +64,13 @@ pieces-init g c =
       later = c.fill.ensures.cause.later;
       kept = c.fill.ensures.kept;
     }
+  where
+    open c use {args.graph.now as gr, args.legal.now as i, in_ok-count.count as n, fill.new.piece}
 
 pub returns-in_err-roller-3-clause-fault : goal.returns-in_err-roller-3-clause-fault
 returns-in_err-roller-3-clause-fault g c =
     let lib = g.L.Library in
-    let gr = c.args.graph.now in
-    let i = c.args.legal.now in
-    let sf = c.pieces.invariant.so_far in
     let b = take c.in_ok-count-2.count c.fill-in-pieces.new.piece in
-    let e = c.in_err-roller-3.field-0.0 in
     let long = sf.long c.pieces-test.true in
     let stop = err_from_is_err_and c.from_residual-in_err-roller-3.result c.from_residual-in_err-roller-3.ensures.1 in
     rw (stop.1, stop.2)
@@ -85,16 +82,18 @@ returns-in_err-roller-3-clause-fault g c =
     (λ more. subst (λ (xs : List ℕ). IsRefusedBy e (facts_read_within most_facts gr i (records_fed (xs ++ more))))
     (mark-joined sf.text b long)
     (c.in_err-roller-3.ensures.takes gr i (ids c.args.categories.now) (unmarked sf.text) sf.taken more)))
+  where
+    open c use {
+      args.graph.now as gr,
+      args.legal.now as i,
+      pieces.invariant.so_far as sf,
+      in_err-roller-3.field-0.0 as e,
+    }
 
 pub pieces-preserved : goal.pieces-preserved
 pieces-preserved g c =
     let lib = g.L.Library in
-    let gr = c.args.graph.now in
-    let i = c.args.legal.now in
     let cs = ids c.args.categories.now in
-    let inv = c.pieces.invariant in
-    let sf = inv.so_far in
-    let piece = c.fill-in-pieces.new.piece in
     let b = take c.in_ok-count-2.count piece in
     let long = sf.long c.pieces-test.true in
     let size : length piece ≡ 65536 = c.fill-in-pieces.auto.piece ∙ inv.size in
@@ -121,32 +120,41 @@ pieces-preserved g c =
         sure = kept.sure ∙ inv.kept.sure;
       };
     }
+  where
+    open c use {
+      args.graph.now as gr,
+      args.legal.now as i,
+      pieces.invariant as inv,
+      pieces.invariant.so_far as sf,
+      fill-in-pieces.new.piece,
+    }
 
 pub returns-in_err-finish-clause-fault : goal.returns-in_err-finish-clause-fault
 returns-in_err-finish-clause-fault g c =
     let lib = g.L.Library in
-    let gr = c.args.graph.now in
-    let i = c.args.legal.now in
-    let inv = c.pieces.invariant in
-    let sf = inv.so_far in
-    let e = c.in_err-finish.field-0.0 in
     let stop = err_from_is_err_and c.from_residual-in_err-finish.result c.from_residual-in_err-finish.ensures.1 in
     rw (stop.1, stop.2)
     (told-end c.records_are_those_at_the_end.ensures (λ rs. IsRefusedBy e (facts_read_within most_facts gr i rs))
     (lib.rest c.args.lib.now) (lib.rest c.pieces.lib) sf.text sf.parts
     (inv.end (below c.pieces.count inv.most c.pieces-test.false))
     (c.in_err-finish.ensures.views gr i (ids c.args.categories.now) (unmarked sf.text) sf.taken))
+  where
+    open c use {
+      args.graph.now as gr,
+      args.legal.now as i,
+      pieces.invariant as inv,
+      pieces.invariant.so_far as sf,
+      in_err-finish.field-0.0 as e,
+    }
 
 pub returns-clause-views : goal.returns-clause-views
 returns-clause-views g c =
     let lib = g.L.Library in
-    let gr = c.args.graph.now in
-    let i = c.args.legal.now in
     let cs = ids c.args.categories.now in
-    let inv = c.pieces.invariant in
-    let sf = inv.so_far in
     let views = each_view_of c.in_ok-finish.field-0 in
     told-end c.records_are_those_at_the_end.ensures (λ rs. AreRolledUp gr i rs cs views)
     (lib.rest c.args.lib.now) (lib.rest c.pieces.lib) sf.text sf.parts
     (inv.end (below c.pieces.count inv.most c.pieces-test.false))
     (c.in_ok-finish.ensures.views gr i cs (unmarked sf.text) sf.taken)
+  where
+    open c use {args.graph.now as gr, args.legal.now as i, pieces.invariant as inv, pieces.invariant.so_far as sf}

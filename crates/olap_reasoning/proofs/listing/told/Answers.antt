@@ -35,9 +35,7 @@ listed-requires-clause-sized c =
 pub returns-in_ok-text-in-Ok : goal.returns-in_ok-text-in-Ok
 returns-in_ok-text-in-Ok c =
     let s = schema_of c.args.schema.now in
-    let r = c.args.root.0 in
     let k = candidates_of c.args.candidates.now in
-    let found = c.in-Ok.all in
     let all = subst (λ o. IfOk o (λ fs. AreAllFrozen s Truth r k (map frozen_of fs))) c.in-Ok.is c.requires.all in
     let short = subst (λ o. IfOk o (λ fs. length fs ≤ most_frozen)) c.in-Ok.is c.requires.few in
     let few = subst (λ n. n ≤ most_frozen) (sym (length-map found frozen_of)) short in
@@ -51,6 +49,8 @@ returns-in_ok-text-in-Ok c =
           ++ line (codes "count " ++ decimal (length (c.items.ensures i))))
           ∙ counted);
     }
+  where
+    open c use {args.root.0 as r, in-Ok.all as found}
 
 pub returns-in-Err-Kind : goal.returns-in-Err-Kind
 returns-in-Err-Kind c =

@@ -24,11 +24,8 @@ emptied_lines-requires c =
 pub returns-then-not-has_room : goal.returns-then-not-has_room
 returns-then-not-has_room c =
     let s = schema_of c.args.schema.now in
-    let t = c.args.target.0 in
     let sources = numbers_of c.args.sources.now in
-    let bottoms = c.requires.bottoms in
     let so = length-map c.args.sources.now (λ (d : CatId). d.0) in
-    let needs = c.args.needs.now in
     let many = as_many s t sources needs c.requires ∙ sym needs.constraints.ok.0 ∙ sym c.len.ensures in
     let room = c.has_room.ensures t sources bottoms so many in
     record {
@@ -38,13 +35,13 @@ returns-then-not-has_room c =
             is,
           )) c.refuse.result c.refuse.ensures.refused;
     }
+  where
+    open c use {args.target.0 as t, args.needs.now as needs, requires.bottoms}
 
 pub returns-then-is_empty : goal.returns-then-is_empty
 returns-then-is_empty c =
     let s = schema_of c.args.schema.now in
-    let t = c.args.target.0 in
     let sources = numbers_of c.args.sources.now in
-    let needs = c.args.needs.now in
     let so = length-map c.args.sources.now (λ (d : CatId). d.0) in
     let many = as_many s t sources needs c.requires ∙ sym needs.constraints.ok.0 ∙ sym c.len.ensures in
     let room = (c.has_room.ensures t sources c.requires.bottoms so many).0 c.if-not-has_room.false in
@@ -56,13 +53,13 @@ returns-then-is_empty c =
           ∙ ap (λ (g : Graph). lines_of g c.deref.result.now) c.graph.ensures
           ∙ ap (lines_of s.graph) c.deref.ensures.value);
     }
+  where
+    open c use {args.target.0 as t, args.needs.now as needs}
 
 pub returns : goal.returns
 returns c =
     let s = schema_of c.args.schema.now in
-    let t = c.args.target.0 in
     let sources = numbers_of c.args.sources.now in
-    let needs = c.args.needs.now in
     let so = length-map c.args.sources.now (λ (d : CatId). d.0) in
     let many = as_many s t sources needs c.requires ∙ sym needs.constraints.ok.0 ∙ sym c.len.ensures in
     let room = (c.has_room.ensures t sources c.requires.bottoms so many).0 c.if-not-has_room.false in
@@ -74,3 +71,5 @@ returns c =
           ∙ ap (λ (g : Graph). emptied_text g c.deref-2.result.now) c.graph-2.ensures
           ∙ ap (emptied_text s.graph) c.deref-2.ensures.value);
     }
+  where
+    open c use {args.target.0 as t, args.needs.now as needs}

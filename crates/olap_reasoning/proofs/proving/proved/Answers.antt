@@ -12,9 +12,7 @@ use Rattle.olap_reasoning.proofs.proving.proved.Goals as goal
 
 pub returns-in-Ok-Yes : goal.returns-in-Ok-Yes
 returns-in-Ok-Yes c =
-    let f = c.args.form in
     let s = schema_of c.args.schema.now in
-    let target = c.args.target.0 in
     let sources = numbers_of c.args.sources.now in
     let is = subst (λ p. IsYes p ↔ IsSummarizable s target sources) c.in-Ok-Yes.field-0-is c.in-Ok-Yes.ensures.yes in
     let shows = subst (Shows f s target sources) c.in-Ok-Yes.field-0-is c.in-Ok-Yes.ensures.proof in
@@ -22,6 +20,8 @@ returns-in-Ok-Yes c =
       replies = certificate_shown f s target sources (is.0 tt) c.yes.result c.yes.ensures.status
           (subst (IsCertificateFor f s target sources) (sym (c.yes.ensures.bytes ∙ c.into_bytes.ensures)) shows);
     }
+  where
+    open c use {args.form as f, args.target.0 as target}
 
 pub returns-in-Ok-No : goal.returns-in-Ok-No
 returns-in-Ok-No c =

@@ -16,12 +16,12 @@ push_formula-push_formula-requires t c =
 
 pub push_formula-returns-in_ok-extend_from_slice-in-Not : goal.push_formula-returns-in_ok-extend_from_slice-in-Not
 push_formula-returns-in_ok-extend_from_slice-in-Not t c =
-    let g = c.args.graph.now in
-    let root = c.args.root.0 in
     text_behind c.push_formula.result (codes "!") (formula_text g root (formula_of c.deref.result.now)) _ _ _ _
     (ap (λ (z : Formula). formula_text g root (Meaning.Formula.Not (formula_of z))) c.deref.ensures
     ∙ ap (λ (z : Formula). formula_text g root (formula_of z)) (sym c.in-Not.is))
     c.in_ok-extend_from_slice-in-Not.ensures.items c.push_formula.ensures
+  where
+    open c use {args.graph.now as g, args.root.0 as root}
 
 pub push_formula-push_joined-requires : goal.push_formula-push_joined-requires
 push_formula-push_joined-requires t c =
@@ -36,8 +36,6 @@ push_formula-push_joined-requires t c =
 
 pub push_formula-returns-in-And : goal.push_formula-returns-in-And
 push_formula-returns-in-And t c =
-    let g = c.args.graph.now in
-    let root = c.args.root.0 in
     let x = formula_of c.in-And.g.value in
     let y = formula_of c.in-And.h.value in
     let j = joined_by c.args.f.now x y refl refl refl refl refl c.in-And.is in
@@ -47,6 +45,8 @@ push_formula-returns-in-And t c =
     (formula_text g root (formula_of (sym c.deref-in-And.ensures i)))
     (formula_text g root (formula_of (sym c.deref-in-And-2.ensures i))))))
     c.push_joined.ensures
+  where
+    open c use {args.graph.now as g, args.root.0 as root}
 
 pub push_formula-push_one-requires : goal.push_formula-push_one-requires
 push_formula-push_one-requires t c =

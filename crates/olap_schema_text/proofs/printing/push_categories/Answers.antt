@@ -7,8 +7,6 @@ use Rattle.olap_schema_text.proofs.printing.push_categories.Goals as goal
 
 pub categories-preserved : goal.categories-preserved
 categories-preserved c =
-    let g = c.args.graph.now in
-    let k = c.categories.done in
     let kinds = c.categories-count.ensures.hierarchy.kinds_known in
     let write : List ℕ × Bool → List ℕ = λ d. c.categories.out.items ++ ended_line (category_text d) in
     let written = c.in_ok-push_category.ensures
@@ -22,6 +20,8 @@ categories-preserved c =
           c.categories.invariant.written written;
       within = omega (arith, c.categories-test.true);
     }
+  where
+    open c use {args.graph.now as g, categories.done as k}
 
 pub returns : goal.returns
 returns c =

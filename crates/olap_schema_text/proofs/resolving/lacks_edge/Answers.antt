@@ -12,9 +12,6 @@ use Rattle.olap_schema_text.proofs.resolving.lacks_edge.Goals as goal
 pub categories-preserved : goal.categories-preserved
 categories-preserved c =
     let g = graph_seen c.args.known.now in
-    let child = c.categories.child.0 in
-    let d = c.in-Some.parent.now in
-    let ds = c.in-Some.others.now in
     let first : c.categories.left.now ≡ d ∷ ds = search rules in
     let joined : is_some (edge_between g child d.0) ≡ true = search rules in
     let there = subst (λ (xs : List CatId). All (λ (x : CatId). IsCategory g x.0) xs) first
@@ -27,3 +24,5 @@ categories-preserved c =
       child = All-head (λ (x : CatId). IsCategory g x.0) d ds there;
       there = All-tail (λ (x : CatId). IsCategory g x.0) d ds there;
     }
+  where
+    open c use {categories.child.0 as child, in-Some.parent.now as d, in-Some.others.now as ds}

@@ -20,17 +20,15 @@ valid_parts s g cs p q v = subst (λ t. IsValidSchema t) (λ i. record { graph =
 
 pub of-requires : goal.of-requires
 of-requires given c =
-    let g = c.graph-graph.result.now in
     let cs = map constraint_of c.constraints-constraints.result.now in
-    let t = c.constraints-constraints.ensures in
     let v = valid_parts (schema_of c.args.schema.now) g cs c.graph-graph.ensures t.list t.valid in
     can_be_named g cs c.args.root.0 Truth v.formulas tt (no_more_constants (with_graph g cs) Truth v refl refl)
+  where
+    open c use {graph-graph.result.now as g, constraints-constraints.ensures as t}
 
 pub clause_count-requires-clause-spoken : goal.clause_count-requires-clause-spoken
 clause_count-requires-clause-spoken given c =
-    let g = c.graph-graph.result.now in
     let cs = map constraint_of c.constraints-constraints.result.now in
-    let t = c.constraints-constraints.ensures in
     let v = valid_parts (schema_of c.args.schema.now) g cs c.graph-graph.ensures t.list t.valid in
     record {
       roots = λ k h. (v.roots k h).1;
@@ -38,3 +36,5 @@ clause_count-requires-clause-spoken given c =
           spoken _ k.root k.formula (v.formulas k h) (constant_in_constraint (with_graph g cs) Truth k h);
       question = tt;
     }
+  where
+    open c use {graph-graph.result.now as g, constraints-constraints.ensures as t}

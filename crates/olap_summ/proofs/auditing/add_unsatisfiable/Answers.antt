@@ -11,11 +11,7 @@ use Rattle.olap_summ.proofs.auditing.add_unsatisfiable.Goals.{then-not-branch+in
 pub categories-preserved : goal.categories-preserved
 categories-preserved c =
     let s = schema_of c.args.schema.now in
-    let n = c.categories.c in
-    let before = c.categories.invariant in
-    let told = c.in_ok-can_have_member.ensures in
     let same = c.categories-c-end.ensures.count ∙ ap category_count c.graph.ensures in
-    let above = c.categories.auto.c in
     let declared : n ≢ 0 = λ e. omega (arith, above, e) in
     record {
       seen = told.seen;
@@ -31,4 +27,11 @@ categories-preserved c =
             (not_unsatisfiable s n (told.seen.categories n (told.yes w.if-not-branch.false)))
             (ap (λ v. v.items) w.findings-is)
       ];
+    }
+  where
+    open c use {
+      categories.c as n,
+      categories.invariant as before,
+      categories.auto.c as above,
+      in_ok-can_have_member.ensures as told,
     }

@@ -9,8 +9,6 @@ use Rattle.olap_summ.proofs.auditing.add_unused.Goals.{then-not-branch+in_ok-pus
 pub edges-preserved : goal.edges-preserved
 edges-preserved c =
     let s = schema_of c.args.schema.now in
-    let e = c.edges.e in
-    let told = c.in_ok-can_be_used.ensures in
     let same = c.edges-e-end.ensures.count ∙ ap (λ g. length g.edges) c.graph.ensures in
     let within = subst (λ n. e < n) same c.edges-test.true in
     record {
@@ -26,6 +24,8 @@ edges-preserved c =
             (ap (λ v. v.items) w.findings-is)
       ];
     }
+  where
+    open c use {edges.e, in_ok-can_be_used.ensures as told}
 
 pub returns : goal.returns
 returns c =

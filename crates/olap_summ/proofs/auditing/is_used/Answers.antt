@@ -29,11 +29,11 @@ ask-requires-clause-few c =
 pub returns-clause-no : goal.returns-clause-no
 returns-clause-no c =
     let s = schema_of c.args.schema.now in
-    let child = c.args.child.0 in
-    let parent = c.args.parent.0 in
     let path = path_of c.from_vec.result c.push.new.self.items c.new-path.result.items c.args.parent
     c.from_vec.ensures c.in_ok-push.ensures.items c.new-path.ensures.items in
     IfOk-weaker c.ask.result _ _
     (λ b h. unused_is s child parent (b ≡ false)
     (subst (λ cs. b ≡ false ↔ IsNowhere s (Path cs) child) path h))
     c.ask.ensures.no
+  where
+    open c use {args.child.0 as child, args.parent.0 as parent}

@@ -21,8 +21,6 @@ categories-preserved c =
 pub returns-then-is_some-clause-none : goal.returns-then-is_some-clause-none
 returns-then-is_some-clause-none c =
     let s = schema_of c.args.schema.now in
-    let q = c.args.questions.now in
-    let w = c.args.wanted in
     some_told c.in_ok-found.found (IsFirstFound w s (asked_by q)) (IsSummarizable s (target_of q) (sources_of q))
     (sym c.is_some.ensures ∙ c.if-is_some.true)
     (first_shown w s (asked_by q) c.categories.b c.in_ok-found.found c.in_ok-found.ensures.bottom
@@ -30,6 +28,8 @@ returns-then-is_some-clause-none c =
     (subst (λ (f : Formula). (found : Found) → IsFirstFound w s f found
     → IsSummarizable s (target_of q) (sources_of q) → ⊥) (sym c.requires.asked)
     (summarizable_isnt s (target_of q) (sources_of q) c.constraints-valid.ensures.valid.hierarchy w))
+  where
+    open c use {args.questions.now as q, args.wanted as w}
 
 pub returns-then-is_some-clause-some : goal.returns-then-is_some-clause-some
 returns-then-is_some-clause-some c =

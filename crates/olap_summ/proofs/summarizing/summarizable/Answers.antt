@@ -9,17 +9,17 @@ use Rattle.olap_summ.proofs.summarizing.summarizable.Goals as goal
 pub returns-clause-none : goal.returns-clause-none
 returns-clause-none c =
     let s = schema_of c.args.schema.now in
-    let asked = c.in_ok-questions.ensures in
-    let found = c.in_ok-found in
     subst (λ l. IsNone found.found ↔ IsSummarizable s c.args.target.0 l) asked.sources
     (subst (λ n. IsNone found.found ↔ IsSummarizable s n (sources_of c.in_ok-questions.questions)) asked.target
     found.ensures.none)
+  where
+    open c use {in_ok-questions.ensures as asked, in_ok-found as found}
 
 pub returns-clause-some : goal.returns-clause-some
 returns-clause-some c =
-    let q = c.in_ok-questions.questions in
-    let asked = c.in_ok-questions.ensures in
     least_told (schema_of c.args.schema.now) (asked_by q) c.args.target.0 _ c.first_found.ensures.hierarchy
     (asked.made.asked ∙ ap (λ n. not_by_one n (sources_of q)) asked.target
     ∙ ap (not_by_one c.args.target.0) asked.sources)
     c.in_ok-found.found c.in_ok-found.ensures.some
+  where
+    open c use {in_ok-questions.questions as q, in_ok-questions.ensures as asked}

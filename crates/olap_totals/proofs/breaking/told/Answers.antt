@@ -11,10 +11,8 @@ use Rattle.olap_totals.proofs.breaking.told.Goals as goal
 
 pub returns-then-is_empty : goal.returns-then-is_empty
 returns-then-is_empty c =
-    let i = c.args.legal.now in
     let g = (schema_of c.args.schema.now).graph in
     let sources = ids c.args.sources.now in
-    let found = c.in_ok-found.found.items in
     let told = c.in_ok-found.ensures.told ∙ ap (λ (h : Graph). breaks h i c.args.target.0 sources) c.graph.ensures in
     let text = c.yes.ensures.bytes ∙ c.in_ok-text.ensures
     ∙ ap (λ (j : Instance). breaks_text j (map break_seen c.deref.result.now)) c.instance.ensures
@@ -24,13 +22,13 @@ returns-then-is_empty c =
           (subst (λ n. (n == 0) ≡ true) c.in_ok-found.found.ok.0 (sym c.is_empty.ensures ∙ c.if-is_empty.true))
           c.yes.ensures.status text;
     }
+  where
+    open c use {args.legal.now as i, in_ok-found.found.items as found}
 
 pub returns : goal.returns
 returns c =
-    let i = c.args.legal.now in
     let g = (schema_of c.args.schema.now).graph in
     let sources = ids c.args.sources.now in
-    let found = c.in_ok-found.found.items in
     let told = c.in_ok-found.ensures.told ∙ ap (λ (h : Graph). breaks h i c.args.target.0 sources) c.graph.ensures in
     let text = c.no.ensures.bytes ∙ c.in_ok-text.ensures
     ∙ ap (λ (j : Instance). breaks_text j (map break_seen c.deref.result.now)) c.instance.ensures
@@ -40,3 +38,5 @@ returns c =
           (subst (λ n. (n == 0) ≡ false) c.in_ok-found.found.ok.0 (sym c.is_empty.ensures ∙ c.if-is_empty.false))
           c.no.ensures.status text;
     }
+  where
+    open c use {args.legal.now as i, in_ok-found.found.items as found}

@@ -21,9 +21,7 @@ returns-in-Ok-changed_by_rest-clause-sound g c =
 
 pub returns-in-Ok-changed_by_rest-clause-step : goal.returns-in-Ok-changed_by_rest-clause-step
 returns-in-Ok-changed_by_rest-clause-step g c =
-    let i = c.args.legal.now in
     let views = views_of c.args.store.now in
-    let ok = c.in-Ok-changed_by_rest in
     let rest = g.L.Library.rest c.open_file.new.self in
     let so = subst (λ (h : Graph). IsOfRest rest (λ text. IsChangedBy c.args.change h i views (records_of text)
     (Ok ok.changed))) c.graph.ensures ok.ensures.changed in
@@ -34,13 +32,13 @@ returns-in-Ok-changed_by_rest-clause-step g c =
       sure = c.changed_by_rest.ensures.kept.sure ∙ c.open_file.ensures.sure;
     })
     ok.changed (record { text = so.text; told = so.told; so = so.so.ok })
+  where
+    open c use {args.legal.now as i, in-Ok-changed_by_rest as ok}
 
 pub returns-in-Err-Refused-Kind-clause-step : goal.returns-in-Err-Refused-Kind-clause-step
 returns-in-Err-Refused-Kind-clause-step g c =
     let step = step_of c.args.change in
-    let i = c.args.legal.now in
     let views = views_of c.args.store.now in
-    let e = c.in-Err-Refused-Kind in
     let rest = g.L.Library.rest c.open_file.new.self in
     let why = subst (λ (u : Unchanged). IsWhyUnchanged step c.graph.result.now i views rest u)
     (e.field-0-is ∙ ap unchanged.Refused e.field-0-0-is) e.ensures.fault in
@@ -54,3 +52,5 @@ returns-in-Err-Refused-Kind-clause-step g c =
       sure = c.changed_by_rest.ensures.kept.sure ∙ c.open_file.ensures.sure;
     })
     e.fault so c.refuse_part.result (rw c.name.ensures at c.refuse_part.ensures.refused)
+  where
+    open c use {args.legal.now as i, in-Err-Refused-Kind as e}

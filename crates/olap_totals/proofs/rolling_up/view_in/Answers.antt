@@ -20,9 +20,7 @@ returns-in_err-views g c = record {
 
 pub returns : goal.returns
 returns g c =
-    let i = c.args.legal.now in
     let read = c.in_ok-views.ensures.step in
-    let view = c.index-items-0.result in
     let direct = direct_view (members i) read.facts c.args.category.0 in
     let first = c.index-items-0.is ∙ ap (λ (views : List told.View). get_or views 0 view) c.items.ensures in
     let text = c.yes.ensures.bytes ∙ c.into_bytes.ensures ∙ c.in_ok-text.ensures.text
@@ -32,3 +30,5 @@ returns g c =
       judged = followed read.step (λ table. Told Yes (view_text i (direct_view (members i) table c.args.category.0)))
           (answered _ (told_shown (view_text i direct) c.yes.result c.yes.ensures.status text));
     }
+  where
+    open c use {args.legal.now as i, index-items-0.result as view}

@@ -9,8 +9,7 @@ members-init c = rw c.in_ok-cells.ensures.items (told_start c.args.legal.now c.a
 
 pub members-preserved : goal.members-preserved
 members-preserved c =
-    let i = c.args.legal.now in
-    let d = c.args.category.0 in
-    let x = c.members.x in
     subst (IsTold i d (x + 1)) (sym c.in_ok-push.ensures.items)
     (told_more i d x c.members.cells.items c.cell.result c.members.invariant c.cell.ensures)
+  where
+    open c use {args.legal.now as i, args.category.0 as d, members.x}

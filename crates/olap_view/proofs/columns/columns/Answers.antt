@@ -19,16 +19,19 @@ nobody = record { 0 = 0 }
 pub categories-preserved : goal.categories-preserved
 unfolding nobody
 categories-preserved c =
-    let i = c.args.legal.now in
-    let cs = c.args.categories.now in
-    let k = c.categories.k in
-    let old = c.categories.columns.items in
     let d = get_or cs k nobody in
-    let h = c.categories-test.true in
     let more = c.in_ok-push.ensures.items ∙ ap (λ (a : Ascent). old ++ a ∷ []) c.in_ok-new.ensures in
     subst (λ (l : List Ascent). AreColumns i (ids (take (k + 1) cs)) l) (sym more)
     (rw (ids_more cs k d h (get_or_default cs k nobody d h))
     (columns_more i (ids (take k cs)) old d.0 c.categories.invariant))
+  where
+    open c use {
+      args.legal.now as i,
+      args.categories.now as cs,
+      categories.k,
+      categories.columns.items as old,
+      categories-test.true as h,
+    }
 
 pub returns : goal.returns
 returns c =

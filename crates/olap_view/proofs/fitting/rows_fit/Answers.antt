@@ -15,23 +15,23 @@ nothing = record { member = record { 0 = 0 }; count = 0; sum = pos 0; least = po
 
 pub returns-then-not-row_fits : goal.returns-then-not-row_fits
 unfolding nothing
-returns-then-not-row_fits c =
-    let rows = c.args.rows.now in
-    let k = c.rows.row-index in (
-      λ e. absurd (false≢true e),
-      λ a. absurd (false≢true
-          (sym c.if-not-row_fits.true ∙ c.row_fits.ensures.1 (each_row IsStored rows k nothing c.rows-test.true a))),
-    )
+returns-then-not-row_fits c = (
+  λ e. absurd (false≢true e),
+  λ a. absurd (false≢true
+      (sym c.if-not-row_fits.true ∙ c.row_fits.ensures.1 (each_row IsStored rows k nothing c.rows-test.true a))),
+)
+  where
+    open c use {args.rows.now as rows, rows.row-index as k}
 
 pub rows-preserved : goal.rows-preserved
 unfolding nothing
 rows-preserved c =
-    let rows = c.args.rows.now in
-    let k = c.rows.row-index in
     let r = get_or rows k nothing in
     subst (All IsStored) (sym (rows_more_is rows k nothing c.rows-test.true))
     (All-push IsStored (rows_of (take k rows)) (row_of r) c.rows.invariant
     (c.row_fits.ensures.0 c.if-not-row_fits.false))
+  where
+    open c use {args.rows.now as rows, rows.row-index as k}
 
 pub returns : goal.returns
 returns c =

@@ -35,9 +35,9 @@ returns-clause-reads c =
 
 pub returns-clause-reads_back : goal.returns-clause-reads_back
 returns-clause-reads_back c =
-    let g = c.args.graph.now in
-    let i = c.args.instance.now in
     let views = views_of c.args.store.now in
     λ sound order. ap (store_read g i) (returns-clause-reads c)
     ∙ printed-stores g i views c.categories.ensures.hierarchy c.members.ensures.sound sound.store sound.fit
     sound.categories order
+  where
+    open c use {args.graph.now as g, args.instance.now as i}

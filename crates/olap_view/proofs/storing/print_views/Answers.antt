@@ -17,29 +17,33 @@ here views read k v e h = h ∙ ap (λ (l : List told.View). get_or l k v) e
 
 pub name-requires : goal.name-requires
 name-requires c =
-    let views = c.args.store.now.views in
-    let read = c.items-view-items.result.now in
-    let k = c.views.view-index in
-    let same = c.items-view-items.ensures in
     each_view (λ v. IsCategory c.args.graph.now v.target) views k c.view-item.result
     (inside views read k same c.views-test.true) (here views read k c.view-item.result same c.view-item.is)
     c.requires.categories
+  where
+    open c use {
+      args.store.now.views,
+      items-view-items.result.now as read,
+      items-view-items.ensures as same,
+      views.view-index as k,
+    }
 
 pub print_rows-requires-clause-at_members : goal.print_rows-requires-clause-at_members
 print_rows-requires-clause-at_members c =
     let n = length c.args.instance.now in
-    let views = c.args.store.now.views in
-    let read = c.items-view-items.result.now in
-    let k = c.views.view-index in
-    let v = c.view-item.result in
-    let same = c.items-view-items.ensures in
     told-members n v.rows (each_view (λ w. All (λ r. r.at < n) w.rows) views k v
     (inside views read k same c.views-test.true) (here views read k v same c.view-item.is) c.requires.at_members)
+  where
+    open c use {
+      args.store.now.views,
+      items-view-items.result.now as read,
+      items-view-items.ensures as same,
+      views.view-index as k,
+      view-item.result as v,
+    }
 
 pub views-preserved : goal.views-preserved
 views-preserved c =
-    let i = c.args.instance.now in
-    let v = c.view-item.result in
     record {
       text = stored-view header (records_of_one c.args.graph.now i) c.items-view-items.result.now c.views.view-index v
           (records_behind c.bytes-name.result.now i (rows_of v.rows)) c.views.out.text c.print_rows.new.out.text
@@ -47,3 +51,5 @@ views-preserved c =
           (ap (λ n. records_behind n i (rows_of v.rows)) (c.bytes-name.ensures ∙ c.name.ensures));
       width = c.in_ok-print_rows.ensures.width ∙ c.views.invariant.width;
     }
+  where
+    open c use {args.instance.now as i, view-item.result as v}

@@ -6,11 +6,6 @@ use Rattle.olap_view.proofs.storing.read_rows.Goals as goal
 
 pub rows-preserved : goal.rows-preserved
 rows-preserved c =
-    let g = c.args.graph.now in
-    let i = c.args.instance.now in
-    let inv = c.rows.invariant in
-    let seen = inv.seen in
-    let row = c.advance.new.self.row in
     let left = rw c.if-branch.true at c.in_ok-advance.ensures in
     let says = c.in-Ok.ensures.judged seen inv.told in
     record {
@@ -19,4 +14,12 @@ rows-preserved c =
           inv.has_seen left says.0;
       told = c.in_ok-enter-in-Ok.ensures g i seen row inv.told says.1;
       at = let e = inv.at in omega (arith, length-append seen (row ∷ []));
+    }
+  where
+    open c use {
+      args.graph.now as g,
+      args.instance.now as i,
+      rows.invariant as inv,
+      rows.invariant.seen,
+      advance.new.self.row,
     }

@@ -15,10 +15,10 @@ returns-clause-read c = (
 
 pub returns-clause-sound : goal.returns-clause-sound
 returns-clause-sound c =
-    let g = c.args.graph.now in
-    let i = c.args.instance.now in
     subst (IsSoundStore g i) (sym c.in_ok-views.ensures.views)
     (views-sound g i c.args.rows.now.left c.read_rows.new.table c.in_ok-read_rows.ensures.1)
+  where
+    open c use {args.graph.now as g, args.instance.now as i}
 
 pub returns-clause-order : goal.returns-clause-order
 returns-clause-order c =

@@ -7,9 +7,6 @@ use Rattle.olap_view.proofs.tallies.join_waiting.Goals.{in-Some, in_default}
 
 pub members-preserved : goal.members-preserved
 members-preserved c =
-    let t = c.args.table.now in
-    let ws = c.args.waiting.now in
-    let x = c.members.x in
     elim c.match-waiting-x.branch [
       | in-Some w ↦ subst (λ (u : Summarized). HasJoined t u ws (x + 1)) (sym w.table-is)
           (joined_some t c.members.table ws x c.members-test.true c.members.invariant w.join.new.self w.in-Some.summary
@@ -19,3 +16,5 @@ members-preserved c =
           (joined_none t c.members.table ws x c.members-test.true c.members.invariant
           w.in_default.is c.requires.waiting)
     ]
+  where
+    open c use {args.table.now as t, args.waiting.now as ws, members.x}

@@ -31,9 +31,6 @@ into_view-requires c = record {
 
 pub returns-clause-view : goal.returns-clause-view
 returns-clause-view c =
-    let i = c.args.legal.now in
-    let t = c.add_all.new.self in
-    let d = c.args.c.0 in
     let facts = facts_of c.args.facts.now in
     let stands : StandsFor t facts =
     subst (λ (l : List told_fact.Fact). StandsFor t (map fact_of l)) c.items.ensures
@@ -45,6 +42,8 @@ returns-clause-view c =
     ∙ ap (λ (j : Instance). direct_view (members j) facts d)
     (c.add_all.ensures.instance ∙ c.in_ok-tally.ensures.instance))
     c.into_view.ensures.view
+  where
+    open c use {args.legal.now as i, args.c.0 as d, add_all.new.self as t}
 
 pub returns-clause-members : goal.returns-clause-members
 returns-clause-members c =

@@ -55,8 +55,6 @@ views-init c = record {
 
 pub join_rows-requires-clause-few : goal.join_rows-requires-clause-few
 join_rows-requires-clause-few c =
-    let views = c.args.store.now.views in
-    let inv = c.views.invariant in
     record {
       rows = rows_chosen (each_view_of (take c.views.k views)) c.args.mask;
       few = let n = length-map views view_of in let f = c.requires.store.few in let t = c.views-test.true in
@@ -64,53 +62,45 @@ join_rows-requires-clause-few c =
       stored = inv.stored;
       merged = inv.merged;
     }
+  where
+    open c use {args.store.now.views, views.invariant as inv}
 
 pub join_rows-requires-clause-at_members : goal.join_rows-requires-clause-at_members
 join_rows-requires-clause-at_members c = λ k d h.
     let n = length c.args.legal.now in
-    let views = c.args.store.now.views in
-    let v = c.view-item.result in
-    let same = c.items-view-items.ensures in
     let at = each_view (λ w. All (λ r. r.at < n) w.rows) views c.views.k v
     (inside views c.items-view-items.result.now c.views.k v same c.views-test.true)
     (here views c.items-view-items.result.now c.views.k v same c.view-item.is) c.requires.at_members in
     subst (λ (i : Instance). (get_or c.items.result.now k d).member.0 < length i) (sym c.views.invariant.instance)
     (subst (λ (l : List row.Row). (get_or l k d).member.0 < n) (sym c.items.ensures)
     (each_row (λ r. r.at < n) v.rows k d (subst (λ (l : List row.Row). k < length l) c.items.ensures h) at))
+  where
+    open c use {args.store.now.views, view-item.result as v, items-view-items.ensures as same}
 
 pub join_rows-requires-clause-stored : goal.join_rows-requires-clause-stored
 join_rows-requires-clause-stored c =
-    let views = c.args.store.now.views in
-    let v = c.view-item.result in
-    let same = c.items-view-items.ensures in
     subst (λ (l : List row.Row). All IsStored (rows_of l)) (sym c.items.ensures)
     (each_view Fits views c.views.k v
     (inside views c.items-view-items.result.now c.views.k v same c.views-test.true)
     (here views c.items-view-items.result.now c.views.k v same c.view-item.is) c.requires.fit)
+  where
+    open c use {args.store.now.views, view-item.result as v, items-view-items.ensures as same}
 
 pub join_rows-requires-clause-short : goal.join_rows-requires-clause-short
 join_rows-requires-clause-short c =
-    let views = c.args.store.now.views in
-    let v = c.view-item.result in
-    let same = c.items-view-items.ensures in
     short c.args.legal.now views c.views.k v c.items.result.now
     (inside views c.items-view-items.result.now c.views.k v same c.views-test.true)
     (here views c.items-view-items.result.now c.views.k v same c.view-item.is) c.requires.store.members
     c.requires.at_members (rw c.in_ok-table.ensures.instance at c.in_ok-table.ensures.few) c.items.ensures
+  where
+    open c use {args.store.now.views, view-item.result as v, items-view-items.ensures as same}
 
 pub views-preserved : goal.views-preserved
 views-preserved c =
-    let i = c.args.legal.now in
-    let views = c.args.store.now.views in
-    let k = c.views.k in
-    let v = c.view-item.result in
-    let mask = c.args.mask in
-    let same = c.items-view-items.ensures in
     let h = inside views c.items-view-items.result.now k v same c.views-test.true in
     let e = here views c.items-view-items.result.now k v same c.view-item.is in
     let rows = rows_chosen (each_view_of (take k views)) mask in
     let next = rows_chosen (each_view_of (take (k + 1) views)) mask in
-    let inv = c.views.invariant in
     let few : length rows ≤ k * most_members = inv.few in
     elim c.if-has_bit.branch [
       | then-has_bit w ↦
@@ -145,6 +135,16 @@ views-preserved c =
             stored = subst (All IsStored) (sym kept) inv.stored;
           }
     ]
+  where
+    open c use {
+      args.legal.now as i,
+      args.store.now.views,
+      args.mask,
+      views.k,
+      views.invariant as inv,
+      view-item.result as v,
+      items-view-items.ensures as same,
+    }
 
 pub view-requires : goal.view-requires
 view-requires c = record {
@@ -159,11 +159,6 @@ returns-clause-members c =
 
 pub returns-clause-view : goal.returns-clause-view
 returns-clause-view c =
-    let i = c.args.legal.now in
-    let d = c.args.c.0 in
-    let views = c.args.store.now.views in
-    let t = c.views.table in
-    let inv = c.views.invariant in
     let all : take c.views.k views ≡ views = ended views c.items-view-items.result.now c.views.k
     c.items-view-items.ensures c.views-test.false in
     let rows = rows_chosen (views_of c.args.store.now) c.args.mask in
@@ -181,3 +176,5 @@ returns-clause-view c =
     ∙ ap (λ (j : Instance). rows_from_views (members j) d
     (chosen (views_of c.args.store.now) c.args.mask)) inv.instance))
     c.view.ensures.view
+  where
+    open c use {args.legal.now as i, args.c.0 as d, args.store.now.views, views.table as t, views.invariant as inv}

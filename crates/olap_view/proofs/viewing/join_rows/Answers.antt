@@ -24,25 +24,22 @@ nothing = record { member = record { 0 = 0 }; count = 0; sum = pos 0; least = po
 pub join-requires-clause-member : goal.join-requires-clause-member
 unfolding nothing
 join-requires-clause-member c =
-    let rows = c.args.rows.now in
-    let k = c.rows.row-index in
     subst (λ (i : Instance). (get_or rows k nothing).member.0 < length i) (sym c.rows.invariant.instance)
     (c.requires.at_members k nothing c.rows-test.true)
+  where
+    open c use {args.rows.now as rows, rows.row-index as k}
 
 pub join-requires-clause-this : goal.join-requires-clause-this
 unfolding nothing
 join-requires-clause-this c =
-    let rows = c.args.rows.now in
-    let k = c.rows.row-index in
     subst IsJoinable (sym c.summary.ensures)
     (stored_small (row_of (get_or rows k nothing))
     (each_row IsStored rows k nothing c.rows-test.true c.requires.stored))
+  where
+    open c use {args.rows.now as rows, rows.row-index as k}
 
 pub join-requires-clause-room : goal.join-requires-clause-room
 join-requires-clause-room c =
-    let rows = c.args.rows.now in
-    let k = c.rows.row-index in
-    let q = c.requires.few in
     let few : length (q.rows ++ rows_of (take k rows)) ≤ most_views * most_members =
     let l = rows_taken rows k in let s = c.requires.short in let f = q.few in
     omega (arith, length-append q.rows (rows_of (take k rows))) in
@@ -50,17 +47,13 @@ join-requires-clause-room c =
     (All-append IsStored q.rows (rows_of (take k rows)) q.stored
     (subst (All IsStored) (rows_of_taken rows k) (All-take IsStored k (rows_of rows) c.requires.stored)))
     (c.rows.invariant.merged q.rows q.merged)
+  where
+    open c use {args.rows.now as rows, rows.row-index as k, requires.few as q}
 
 pub rows-preserved : goal.rows-preserved
 unfolding nothing
 rows-preserved c =
-    let rows = c.args.rows.now in
-    let k = c.rows.row-index in
     let r = row_of (get_or rows k nothing) in
-    let inv = c.rows.invariant in
-    let t = c.rows.table in
-    let u = c.join.new.self in
-    let j = c.join.ensures in
     record {
       instance = j.instance ∙ inv.instance;
       categories = j.categories ∙ inv.categories;
@@ -73,4 +66,13 @@ rows-preserved c =
           (λ y h. j.at y h
           ∙ ap (λ s. stands_at t y ⊕ when (reaches t.instance r.at y) s) c.summary.ensures)
           (inv.merged earlier m));
+    }
+  where
+    open c use {
+      args.rows.now as rows,
+      rows.row-index as k,
+      rows.invariant as inv,
+      rows.table as t,
+      join.new.self as u,
+      join.ensures as j,
     }

@@ -146,9 +146,6 @@ counted-parts-init t c =
 
 pub counted-parts-preserved : goal.counted-parts-preserved
 counted-parts-preserved t c =
-    let b = c.args.self.now in
-    let i = b.instance.now in
-    let part = b.part.now in
     let parts = terms_of c.args.parts.now in
     let none = members c.parts.counted.none in
     let one = members c.parts.counted.one in
@@ -165,6 +162,8 @@ counted-parts-preserved t c =
       subst (λ l. IsCounted i part parts (terms_of l) (members c.with-counted.result.none)
           (members c.with-counted.result.one)) (sym c.deref-left.ensures) more,
     )
+  where
+    open c use {args.self.now as b, args.self.now.instance.now as i, args.self.now.part.now as part}
 
 pub counted-returns-clause-none : goal.counted-returns-clause-none
 counted-returns-clause-none t c =

@@ -8,8 +8,6 @@ use Rattle.std.proofs.lemmas.Bool.{false≢true}
 
 pub returns-then-not-derive : goal.returns-then-not-derive
 returns-then-not-derive g c =
-    let i = c.rounds.invariant in
-    let d = c.derive.ensures in
     record {
       found = λ e. absurd (false≢true e);
       nothing = λ _ v m a h. c.if-not-derive.ensures.none refl v (i.admits v m a);
@@ -18,12 +16,11 @@ returns-then-not-derive g c =
       admits = λ v m a. d.admits v (i.admits v m a);
       suits = i.suits;
     }
+  where
+    open c use {rounds.invariant as i, derive.ensures as d}
 
 pub returns-in-Found : goal.returns-in-Found
 returns-in-Found g c =
-    let i = c.rounds.invariant in
-    let d = c.derive.ensures in
-    let s = c.take_round.ensures in
     let more = c.in-Found.ensures.found refl in
     let took = λ (ss : List Step). g.J.Judge.Took c.args.judge.now c.take_round.new.state (ss ++ more.0) in
     let suits = λ (n : ℕ). g.J.Judge.Suits c.args.judge.now c.take_round.new.state n in
@@ -35,12 +32,11 @@ returns-in-Found g c =
       admits = λ v m a. s.admits v m (d.admits v (i.admits v m a));
       suits = subst suits (d.variables ∙ i.variables) s.suits;
     }
+  where
+    open c use {rounds.invariant as i, derive.ensures as d, take_round.ensures as s}
 
 pub returns-in-Nothing : goal.returns-in-Nothing
 returns-in-Nothing g c =
-    let i = c.rounds.invariant in
-    let d = c.derive.ensures in
-    let s = c.take_round.ensures in
     let suits = λ (n : ℕ). g.J.Judge.Suits c.args.judge.now c.take_round.new.state n in
     record {
       found = λ e. absurd (false≢true e);
@@ -51,12 +47,11 @@ returns-in-Nothing g c =
       admits = λ v m a. s.admits v m (d.admits v (i.admits v m a));
       suits = subst suits (d.variables ∙ i.variables) s.suits;
     }
+  where
+    open c use {rounds.invariant as i, derive.ensures as d, take_round.ensures as s}
 
 pub rounds-preserved : goal.rounds-preserved
 rounds-preserved g c =
-    let i = c.rounds.invariant in
-    let d = c.derive.ensures in
-    let s = c.take_round.ensures in
     let suits = λ (n : ℕ). g.J.Judge.Suits c.args.judge.now c.take_round.new.state n in
     record {
       trail = s.trail ∙ d.trail ∙ i.trail;
@@ -64,6 +59,8 @@ rounds-preserved g c =
       admits = λ v m a. s.admits v m (d.admits v (i.admits v m a));
       suits = subst suits (d.variables ∙ i.variables) s.suits;
     }
+  where
+    open c use {rounds.invariant as i, derive.ensures as d, take_round.ensures as s}
 
 pub rounds-init : goal.rounds-init
 rounds-init g c = record {
@@ -75,15 +72,13 @@ rounds-init g c = record {
 
 pub take_round-requires : goal.take_round-requires
 take_round-requires g c =
-    let i = c.rounds.invariant in
-    let d = c.derive.ensures in
     let suits = λ (n : ℕ). g.J.Judge.Suits c.args.judge.now c.rounds.state n in
     record { suits = subst suits (sym (d.variables ∙ i.variables)) i.suits }
+  where
+    open c use {rounds.invariant as i, derive.ensures as d}
 
 pub returns-in-Found-search : goal.returns-in-Found-search
 returns-in-Found-search g c =
-    let i = c.rounds.invariant in
-    let s = c.search.ensures in
     let more = c.in-Found-search.ensures.found refl in
     let took = λ (ss : List Step). g.J.Judge.Took c.args.judge.now c.search.new.state (ss ++ more.0) in
     let suits = λ (n : ℕ). g.J.Judge.Suits c.args.judge.now c.search.new.state n in
@@ -95,11 +90,11 @@ returns-in-Found-search g c =
       admits = λ v m a. s.admits v m (i.admits v m a);
       suits = subst suits i.variables s.suits;
     }
+  where
+    open c use {rounds.invariant as i, search.ensures as s}
 
 pub returns-in-Nothing-search : goal.returns-in-Nothing-search
 returns-in-Nothing-search g c =
-    let i = c.rounds.invariant in
-    let s = c.search.ensures in
     let suits = λ (n : ℕ). g.J.Judge.Suits c.args.judge.now c.search.new.state n in
     record {
       found = λ e. absurd (false≢true e);
@@ -110,11 +105,11 @@ returns-in-Nothing-search g c =
       admits = λ v m a. s.admits v m (i.admits v m a);
       suits = subst suits i.variables s.suits;
     }
+  where
+    open c use {rounds.invariant as i, search.ensures as s}
 
 pub returns-in-Stop-search : goal.returns-in-Stop-search
 returns-in-Stop-search g c =
-    let i = c.rounds.invariant in
-    let s = c.search.ensures in
     let suits = λ (n : ℕ). g.J.Judge.Suits c.args.judge.now c.search.new.state n in
     record {
       found = λ e. absurd (false≢true e);
@@ -124,3 +119,5 @@ returns-in-Stop-search g c =
       admits = λ v m a. s.admits v m (i.admits v m a);
       suits = subst suits i.variables s.suits;
     }
+  where
+    open c use {rounds.invariant as i, search.ensures as s}

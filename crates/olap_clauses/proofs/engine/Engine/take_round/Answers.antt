@@ -11,9 +11,6 @@ search-outcome-requires g c =
 
 pub returns : goal.returns
 returns g c =
-    let r = c.make_ready.ensures in
-    let s = c.search-outcome.ensures in
-    let b = c.bring.ensures in
     let suits = λ (n : ℕ). g.J.Judge.Suits c.args.judge.now c.search-outcome.new.state n in
     record {
       found = λ e. let more = s.found e in
@@ -26,3 +23,5 @@ returns g c =
       admits = λ v m a. b.admits v (s.admits v m (r.admits v a));
       suits = subst suits r.variables s.suits;
     }
+  where
+    open c use {make_ready.ensures as r, search-outcome.ensures as s, bring.ensures as b}

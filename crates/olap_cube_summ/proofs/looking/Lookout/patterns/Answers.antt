@@ -35,10 +35,9 @@ widened-requires-clause-found c =
 
 pub sources-preserved : goal.sources-preserved
 sources-preserved c =
-    let s = schema_of c.args.schema.now in
-    let q = c.args.question.now in
-    let root = c.sources.invariant.lookout.root in
-    let e = c.in_ok-patterns-2.ensures in record {
+    let s = schema_of c.args.schema.now in record {
       found = subst (λ b. AreFound s q b c.in_ok-patterns-2.patterns) root e.found;
       lookout = subst (λ b. IsLookout s q b c.widened.new.self) root e.lookout;
     }
+  where
+    open c use {args.question.now as q, sources.invariant.lookout.root, in_ok-patterns-2.ensures as e}

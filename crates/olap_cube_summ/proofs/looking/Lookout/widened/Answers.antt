@@ -37,9 +37,7 @@ joined-requires-clause-found c =
 pub masks-preserved : goal.masks-preserved
 masks-preserved c =
     let s = schema_of c.args.schema.now in
-    let q = c.args.question.now in
     let b = root_of c.args.self.now.search in
-    let before = c.masks.invariant in
     elim c.if-has.branch [
       | then-has+in_ok-found w ↦ record {
         found = subst (λ (x : CatSet 4). AreFound s q b x) (sym w.found-is)
@@ -52,3 +50,5 @@ masks-preserved c =
         lookout = subst (λ (x : Lookout). IsLookout s q b x) (sym w.self-is) before.lookout;
       }
     ]
+  where
+    open c use {args.question.now as q, masks.invariant as before}

@@ -7,12 +7,12 @@ use Rattle.olap_cube_views.proofs.legals.Legals.instances.Goals as goal
 
 pub dimensions-preserved : goal.dimensions-preserved
 dimensions-preserved c =
-    let legals = c.args.self.now in
-    let k = c.dimensions.k in
     let n = c.len-k-end.ensures.count in
     let h : k < length legals = let t = c.dimensions-test.true in omega arith in
     mapped_more (λ (i : Bor Instance). i.now) c.dimensions.instances.items c.push.new.self.items c.instance.result
     legals k [] h c.in_ok-push.ensures.items c.dimensions.invariant (c.instance.ensures ∙ c.legal.ensures)
+  where
+    open c use {args.self.now as legals, dimensions.k}
 
 pub returns-clause-instances : goal.returns-clause-instances
 returns-clause-instances c =

@@ -24,9 +24,7 @@ returns-in_err-take c = record {
 pub returns : goal.returns
 returns c = record {
   takes = λ gs is target fed h.
-      let a = c.self.inside in
       let r = cube_rolling (graphs_of a.graphs.now) a.front.begun a.front.splitter.stands a.front.tally in
-      let new = c.take.new.self in
       let js = instances_in a.columns.now in
       let k = subst (HasTakenFacts gs is target fed) (sym c.self.view_is) h in
       back gs is target fed r js c.self.invariant.same k
@@ -34,3 +32,5 @@ returns c = record {
       (cube_rolling (graphs_of a.graphs.now) new.begun new.splitter.stands new.tally))
       (c.in_ok-take.ensures.takes target fed (own gs is target fed r js c.self.invariant.same k));
 }
+  where
+    open c use {self.inside as a, take.new.self as new}

@@ -13,12 +13,12 @@ pub returns-then-branch-clause-ends : goal.returns-then-branch-clause-ends
 returns-then-branch-clause-ends c = λ target fed h.
     let gs = graphs_of c.args.graphs.now in
     let is = instances_in c.args.columns.now in
-    let s = c.args.self.now in
-    let row = c.finish.new.self.row in
     let last = rw c.if-branch.true at c.in_ok-finish.ensures in
     last-taken gs is fed h.done row c.add_record.new.tally
     (end-behind fed h.done (row ∷ []) s.splitter.stands h.stands_at last) c.add_record.result
     (c.add_record.ensures.counts h.done h.facts h.counted h.stands_for)
+  where
+    open c use {args.self.now as s, finish.new.self.row}
 
 pub returns-then-not-self-clause-ends : goal.returns-then-not-self-clause-ends
 returns-then-not-self-clause-ends c = λ target fed h.

@@ -19,12 +19,7 @@ pub returns-then-not-cut-clause-takes : goal.returns-then-not-cut-clause-takes
 returns-then-not-cut-clause-takes c = λ target fed h.
     let gs = graphs_of c.args.graphs.now in
     let is = instances_in c.args.columns.now in
-    let piece = c.args.piece.now in
-    let at = c.records.at in
-    let n = c.in_ok-cut.cut.taken in
-    let old = c.records.self in
     let g = c.records.invariant.taken target fed h in
-    let new = c.next.new.self in
     let missing = not-true _ c.if-not-cut.true in
     let none = no-cut piece at n c.in_ok-cut.cut.found new.row old.splitter.stands new.stands c.in_ok-cut.ensures.stands
     missing in
@@ -36,18 +31,20 @@ returns-then-not-cut-clause-takes c = λ target fed h.
     (ap (λ xs. standing at_start (fed ++ xs)) (sym whole)
     ∙ stands-on fed piece at n g.done [] old.splitter.stands new.stands g.stands_at none
     ∙ ap (λ d. behind d new.stands) (append-nil g.done))
+  where
+    open c use {
+      args.piece.now as piece,
+      records.at,
+      records.self as old,
+      in_ok-cut.cut.taken as n,
+      next.new.self as new,
+    }
 
 pub returns-in_err-add_record-clause-takes : goal.returns-in_err-add_record-clause-takes
 returns-in_err-add_record-clause-takes c = λ target fed h.
     let gs = graphs_of c.args.graphs.now in
     let is = instances_in c.args.columns.now in
-    let piece = c.args.piece.now in
-    let at = c.records.at in
-    let n = c.in_ok-cut.cut.taken in
-    let old = c.records.self in
     let g = c.records.invariant.taken target fed h in
-    let new = c.next.new.self in
-    let row = new.row in
     let one = one-cut piece at n c.in_ok-cut.cut.found row old.splitter.stands new.stands c.in_ok-cut.ensures.stands
     (not-false _ c.if-not-cut.false) in
     let stands = stands-on fed piece at n g.done (row ∷ []) old.splitter.stands new.stands g.stands_at one in
@@ -59,19 +56,20 @@ returns-in_err-add_record-clause-takes c = λ target fed h.
     subst (λ (rs : List (List (List ℕ))). IsRefusedBy c.in_err-add_record.field-0.0
     (cube_facts_read_within most_facts gs is rs)) (sym all)
     (c.in_err-add_record.ensures.counts g.done g.facts g.counted g.stands_for b.0))
+  where
+    open c use {
+      args.piece.now as piece,
+      records.at,
+      records.self as old,
+      in_ok-cut.cut.taken as n,
+      next.new.self as new,
+      next.new.self.row,
+    }
 
 pub records-preserved : goal.records-preserved
 records-preserved c =
     let gs = graphs_of c.args.graphs.now in
     let is = instances_in c.args.columns.now in
-    let piece = c.args.piece.now in
-    let at = c.records.at in
-    let n = c.in_ok-cut.cut.taken in
-    let old = c.records.self in
-    let inv = c.records.invariant in
-    let new = c.next.new.self in
-    let row = new.row in
-    let tally = c.add_record.new.tally in
     let one = one-cut piece at n c.in_ok-cut.cut.found row old.splitter.stands new.stands c.in_ok-cut.ensures.stands
     (not-false _ c.if-not-cut.false) in
     let part = c.in_ok-cut.ensures.taken in
@@ -88,4 +86,15 @@ records-preserved c =
           (stands-on fed piece at n g.done (row ∷ []) old.splitter.stands new.stands g.stands_at one)
           c.add_record.ensures.instances c.add_record.ensures.target
           (c.in_ok-add_record.ensures.counts g.done g.facts g.counted g.stands_for);
+    }
+  where
+    open c use {
+      args.piece.now as piece,
+      records.at,
+      records.self as old,
+      records.invariant as inv,
+      in_ok-cut.cut.taken as n,
+      next.new.self as new,
+      next.new.self.row,
+      add_record.new.tally,
     }

@@ -39,17 +39,17 @@ invariant_of-self c =
 
 pub invariant_of-self-2 : goal.invariant_of-self-2
 invariant_of-self-2 c =
-    let a = c.self.inside in
     let few : c.self.inside.added + 1 ≤ most_count =
     let r = c.requires.room in let e = ap (λ (t : CubeTallied). t.added) c.self.view_is in omega arith in
     let fits : SFits w64 c.args.value = search rules in
-    let new = c.add_fact.new.sums.rows.items in
     tally_more (tallied a.columns.items a.sums.rows.items a.added) c.self.invariant
     (fact_at c.args.members.now c.args.value) (entries_of new) few fits
     (c.in_ok-add_fact.ensures.within a.added c.self.invariant.within)
     (given_back c.deref.result.now a.columns.items c.args.members.now _ c.args.value a.sums.rows.items new a.added
     c.self.invariant.facts c.deref.ensures.value (to_z-of_z w64 c.args.value fits) c.in_ok-add_fact.ensures.stands
     c.self.invariant.stands)
+  where
+    open c use {self.inside as a, add_fact.new.sums.rows.items as new}
 
 pub returns-clause-stands : goal.returns-clause-stands
 returns-clause-stands c = λ facts s.

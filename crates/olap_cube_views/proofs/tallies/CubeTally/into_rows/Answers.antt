@@ -17,21 +17,21 @@ join_rows-requires c =
 
 pub returns-clause-rows : goal.returns-clause-rows
 returns-clause-rows c =
-    let a = c.self.inside in
     let t = tallied a.columns.items a.sums.rows.items a.added in
-    let rows = c.join_rows.new.rows.items in
     subst (λ (u : CubeTallied). (facts : List (Fact (List ℕ))) → CubeStandsFor u facts
     → cube_rows_of (length u.instances) rows ≡ direct_rows (tuples u.instances) u.target facts) c.self.view_is
     (λ facts s. told_rows t facts rows c.self.invariant.dimensions s c.join_rows.ensures.same
     c.join_rows.ensures.order)
+  where
+    open c use {self.inside as a, join_rows.new.rows.items as rows}
 
 pub returns-clause-members : goal.returns-clause-members
 returns-clause-members c =
-    let a = c.self.inside in
     let t = tallied a.columns.items a.sums.rows.items a.added in
-    let rows = c.join_rows.new.rows.items in
     subst (λ (u : CubeTallied). All (λ r. AreMembers u.instances r.at) (cube_rows_of (length u.instances) rows))
     c.self.view_is
     (direct_members t.instances t.target c.self.invariant.facts (cube_rows_of (length t.instances) rows)
     (told_rows t c.self.invariant.facts rows c.self.invariant.dimensions c.self.invariant.stands
     c.join_rows.ensures.same c.join_rows.ensures.order))
+  where
+    open c use {self.inside as a, join_rows.new.rows.items as rows}

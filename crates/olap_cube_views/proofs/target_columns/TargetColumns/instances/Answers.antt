@@ -9,14 +9,14 @@ use Rattle.olap_cube_views.proofs.target_columns.TargetColumns.instances.Goals a
 
 pub dimensions-preserved : goal.dimensions-preserved
 dimensions-preserved c =
-    let columns = c.args.self.now in
-    let k = c.dimensions.k in
     let l = length-map columns (λ (a : Ascent). a.instance) in
     let n = c.len-k-end.ensures.count in
     let h : k < length columns = let t = c.dimensions-test.true in omega arith in
     mapped_more (λ (i : Bor Instance). i.now) c.dimensions.instances.items c.push.new.self.items c.instance.result
     (instances_in columns) k [] (omega arith) c.in_ok-push.ensures.items c.dimensions.invariant
     (c.instance.ensures ∙ sym (get_or-map (λ (a : Ascent). a.instance) columns k (ascent [] 0) [] h))
+  where
+    open c use {args.self.now as columns, dimensions.k}
 
 pub returns-clause-instances : goal.returns-clause-instances
 returns-clause-instances c =

@@ -6,14 +6,14 @@ use Rattle.olap_cube_views.proofs.target_columns.TargetColumns.lent.Goals as goa
 
 pub dimensions-preserved : goal.dimensions-preserved
 dimensions-preserved c =
-    let columns = c.args.self.now in
-    let k = c.dimensions.k in
     let n = c.len-k-end.ensures.count in
     let h : k < length columns = let t = c.dimensions-test.true in omega arith in
     c.in_ok-push.ensures.items
     ∙ ap (λ (t : List Ascent). t ++ c.column-in-dimensions.result ∷ []) c.dimensions.invariant
     ∙ ap (λ (a : Ascent). take k columns ++ a ∷ []) (c.column-in-dimensions.ensures ∙ c.column.ensures)
     ∙ sym (take_more columns k (ascent [] 0) h)
+  where
+    open c use {args.self.now as columns, dimensions.k}
 
 pub returns-clause-columns : goal.returns-clause-columns
 returns-clause-columns c =

@@ -9,8 +9,6 @@ use Rattle.olap_cube_views.proofs.target_columns.TargetColumns.target.Goals as g
 
 pub dimensions-preserved : goal.dimensions-preserved
 dimensions-preserved c =
-    let columns = c.args.self.now in
-    let k = c.dimensions.k in
     let l = length-map columns (λ (a : Ascent). a.category) in
     let n = c.len-k-end.ensures.count in
     let h : k < length columns = let t = c.dimensions-test.true in omega arith in
@@ -18,3 +16,5 @@ dimensions-preserved c =
     (categories_in columns) k 0 (omega arith) c.in_ok-push.ensures.items c.dimensions.invariant
     (c.category.ensures ∙ ap (λ (a : Ascent). a.category) c.column.ensures
     ∙ sym (get_or-map (λ (a : Ascent). a.category) columns k (ascent [] 0) 0 h))
+  where
+    open c use {args.self.now as columns, dimensions.k}

@@ -22,16 +22,8 @@ nobody = record {
 pub lots-preserved : goal.lots-preserved
 unfolding nobody
 lots-preserved c =
-    let old = c.args.table.now in
-    let now = c.lots.table in
-    let inv = c.lots.invariant in
-    let lots = c.args.lots.now in
-    let k = c.lots.lot-index in
     let d = get_or old.categories c.args.k 0 in
     let lot = get_or lots k nobody in
-    let h = c.lots-test.true in
-    let e = c.join.ensures in
-    let was = c.if-not-join.false in
     record {
       instance = e.instance ∙ inv.instance;
       categories = e.categories ∙ inv.categories;
@@ -46,4 +38,15 @@ lots-preserved c =
           (subst (λ (cs : List ℕ). IsJoinedIn c.args.self (get_or cs c.args.k 0)
           (λ y. when (reaches now.instance lot.member.0 y) (summary_of lot.summary)) now c.join.new.table)
           inv.categories (e.joined was));
+    }
+  where
+    open c use {
+      args.table.now as old,
+      args.lots.now as lots,
+      lots.table as now,
+      lots.invariant as inv,
+      lots.lot-index as k,
+      lots-test.true as h,
+      join.ensures as e,
+      if-not-join.false as was,
     }

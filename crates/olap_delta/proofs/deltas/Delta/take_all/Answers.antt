@@ -23,20 +23,18 @@ take-requires-clause-member c =
 
 pub take-requires-clause-room : goal.take-requires-clause-room
 take-requires-clause-room c =
-    let xs = c.args.facts.now in
-    let k = c.facts.fact-index in
-    let taken = c.facts.invariant.taken in
     let a = length-map (take k xs) fact_of in
     let b = length-take-le k xs (omega (arith, c.facts-test.true)) in
     omega (arith, taken, a, b, c.facts-test.true, c.requires.room)
+  where
+    open c use {args.facts.now as xs, facts.fact-index as k, facts.invariant.taken}
 
 pub facts-preserved : goal.facts-preserved
 unfolding nothing
 facts-preserved c =
-    let xs = c.args.facts.now in
-    let k = c.facts.fact-index in
-    let e = c.take.ensures in
     subst (λ (fs : List (Fact ℕ)). AreTaken fs c.args.self.now c.take.new.self)
     (sym (one_more xs k nothing c.facts-test.true))
     (are_taken_more (so_far xs k) _ c.args.self.now c.facts.self c.take.new.self c.facts.invariant e.change e.instance
     e.categories e.taken e.views)
+  where
+    open c use {args.facts.now as xs, facts.fact-index as k, take.ensures as e}

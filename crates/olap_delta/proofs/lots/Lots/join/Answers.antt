@@ -11,8 +11,6 @@ use Rattle.olap_delta.proofs.lots.Lots.join.Goals as goal
 
 pub returns : goal.returns
 returns c =
-    let old = c.args.self.now in
-    let d = c.index.result.now in
     let alone = summary_of c.of_value-alone.result in
     let fits : SFits w64 c.args.fact.now.value = search rules in
     grown (fact_of c.args.fact.now) c.args.place
@@ -29,3 +27,5 @@ returns c =
       lots = refl;
       taken = refl;
     }) c.requires.lots
+  where
+    open c use {args.self.now as old, index.result.now as d}

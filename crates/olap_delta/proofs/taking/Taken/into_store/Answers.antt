@@ -8,9 +8,9 @@ use Rattle.olap_delta.proofs.taking.Taken.into_store.Goals as goal
 
 pub returns-in-Gone : goal.returns-in-Gone
 returns-in-Gone c = λ facts h.
-    let b = c.args.base in
     let views = views_of b.store.now in
-    let e = c.into_store.ensures in
     handed_out_after b.change b.legal.now views facts c.in-Gone.delta
     (subst (λ (t : Taken). AreIn b.change b.legal.now views facts t) c.in-Gone.is h)
     c.into_store.result e.ok e.sound e.order e.err
+  where
+    open c use {args.base as b, into_store.ensures as e}

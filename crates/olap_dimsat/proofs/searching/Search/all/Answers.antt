@@ -64,8 +64,8 @@ returns-clause-too_many c =
 
 pub returns-clause-made : goal.returns-clause-made
 returns-clause-made c =
-    let l = c.list-listed.ensures in
-    let u = c.undo.ensures in
     made_still (schema_of c.args.schema.now) (formula_of c.args.question.now) c.args.self.now _
     (task_of c.of-asker.result) c.list-listed.new.engine c.of-asker.ensures refl c.requires.made l.suited l.ready l.best
     u.variables (λ v h. u.admits v h) u.trail
+  where
+    open c use {list-listed.ensures as l, undo.ensures as u}

@@ -21,11 +21,11 @@ returns-then-not-found-clause-none c = λ _.
 
 pub returns-then-not-found-clause-made : goal.returns-then-not-found-clause-made
 returns-then-not-found-clause-made c =
-    let l = c.least-found.ensures in
-    let u = c.undo.ensures in
     made_still (schema_of c.args.schema.now) (formula_of c.args.question.now) c.args.self.now _
     (task_of c.of-asker.result) c.least-found.new.engine c.of-asker.ensures refl c.requires.made l.suited l.ready l.best
     u.variables (λ v h. u.admits v h) u.trail
+  where
+    open c use {least-found.ensures as l, undo.ensures as u}
 
 pub returns-clause-some : goal.returns-clause-some
 returns-clause-some c = λ _.
@@ -39,11 +39,10 @@ returns-clause-made c =
     let s = schema_of c.args.schema.now in
     let q = formula_of c.args.question.now in
     let t = task_of c.of-asker.result in
-    let l = c.least-found.ensures in
-    let u = c.undo.ensures in
-    let out = c.hand_out.ensures in
     let k = keeps s q c.args.self.now t c.of-asker.ensures c.requires.made in
     made_still s q c.args.self.now _ t c.least-found.new.engine c.of-asker.ensures refl c.requires.made l.suited l.ready
     (left_for t c.args.self.now c.args.into.now c.hand_out.new.found k.best c.requires.sizes
     out.left_root out.left_edges out.left_names (sym (ap (λ (x : Task). x.question.root) c.of-asker.ensures)))
     u.variables (λ v h. u.admits v h) u.trail
+  where
+    open c use {least-found.ensures as l, undo.ensures as u, hand_out.ensures as out}

@@ -24,11 +24,11 @@ returns-then-not-found-clause-made c =
     let s = schema_of c.args.schema.now in
     let q = formula_of c.args.question.now in
     let t = task_of c.of-asker.result in
-    let e = c.look-found.ensures in
-    let u = c.undo.ensures in
     let k = keeps s q c.args.self.now t c.of-asker.ensures c.requires.made in
     made_still s q c.args.self.now _ t c.look-found.new.engine c.of-asker.ensures refl c.requires.made
     e.suited e.ready k.best u.variables (λ v h. u.admits v h) u.trail
+  where
+    open c use {look-found.ensures as e, undo.ensures as u}
 
 pub returns-clause-some : goal.returns-clause-some
 returns-clause-some c = λ _.
@@ -43,12 +43,11 @@ returns-clause-made c =
     let s = schema_of c.args.schema.now in
     let q = formula_of c.args.question.now in
     let t = task_of c.of-asker.result in
-    let e = c.look-found.ensures in
-    let u = c.undo.ensures in
-    let out = c.hand_out.ensures in
     let k = keeps s q c.args.self.now t c.of-asker.ensures c.requires.made in
     made_still s q c.args.self.now _ t c.look-found.new.engine c.of-asker.ensures refl c.requires.made
     (suited_with t c.look-found.new.leaf c.hand_out.new.found (variables_of c.look-found.new.engine) e.suited
     (left_for t c.args.self.now c.args.into.now c.hand_out.new.found k.best c.requires.sizes
     out.left_root out.left_edges out.left_names (sym (ap (λ (x : Task). x.question.root) c.of-asker.ensures))))
     e.ready k.best u.variables (λ v h. u.admits v h) u.trail
+  where
+    open c use {look-found.ensures as e, undo.ensures as u, hand_out.ensures as out}

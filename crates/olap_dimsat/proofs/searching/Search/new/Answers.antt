@@ -46,14 +46,13 @@ pub returns-clause-made : goal.returns-clause-made
 returns-clause-made c =
     let s = schema_of c.args.schema.now in
     let q = formula_of c.args.question.now in
-    let g = c.graph-graph.result.now in
     let w = whole_is s g (map constraint_of c.constraints-constraints.result.now)
     c.graph-graph.ensures c.constraints-constraints.ensures.list in
-    let l = c.in_ok-leaf.ensures in
-    let b = c.in_ok-best.ensures in
     made_first s q g _ c.graph-graph.ensures c.constraints-constraints.ensures.valid
     (subst (λ (z : Schema). IsPosed z q c.args.root.0 c.in_ok-posed.posed) w c.in_ok-posed.ensures)
     l.decided
     (blank_for g _ c.in_ok-leaf.leaf.frozen c.args.root c.graph-graph.ensures refl l.root l.edges l.names)
     l.room
     (blank_for g _ c.in_ok-best.best c.args.root c.graph-graph.ensures refl b.root b.edges b.names)
+  where
+    open c use {graph-graph.result.now as g, in_ok-leaf.ensures as l, in_ok-best.ensures as b}

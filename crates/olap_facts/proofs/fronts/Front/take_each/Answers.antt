@@ -17,12 +17,7 @@ use Rattle.olap_facts.proofs.fronts.Front.take_each.Goals as goal
 
 pub returns-then-not-cut-clause-feeds : goal.returns-then-not-cut-clause-feeds
 returns-then-not-cut-clause-feeds c = λ fed facts h.
-    let piece = c.args.piece.now in
-    let at = c.records.at in
-    let n = c.in_ok-cut.cut.taken in
     let g = c.records.invariant.fed fed facts h in
-    let s = c.records.self.splitter.stands in
-    let new = c.next.new.self in
     let missing = not-true _ c.if-not-cut.true in
     let none = no-cut piece at n c.in_ok-cut.cut.found new.row s new.stands c.in_ok-cut.ensures.stands missing in
     let all = c.in_ok-cut.ensures.all missing ∙ ap length (rest_is at piece) in
@@ -35,17 +30,18 @@ returns-then-not-cut-clause-feeds c = λ fed facts h.
           ∙ ap (λ d. behind d new.stands) (append-nil g.done);
       counted = g.counted;
     }
+  where
+    open c use {
+      args.piece.now as piece,
+      records.at,
+      records.self.splitter.stands as s,
+      in_ok-cut.cut.taken as n,
+      next.new.self as new,
+    }
 
 pub returns-in_err-row-clause-feeds : goal.returns-in_err-row-clause-feeds
 returns-in_err-row-clause-feeds c = λ fed facts h.
-    let piece = c.args.piece.now in
-    let setting = c.args.setting in
-    let at = c.records.at in
-    let n = c.in_ok-cut.cut.taken in
     let g = c.records.invariant.fed fed facts h in
-    let s = c.records.self.splitter.stands in
-    let new = c.next.new.self in
-    let row = new.row in
     let one = one-cut piece at n c.in_ok-cut.cut.found row s new.stands c.in_ok-cut.ensures.stands
     (not-false _ c.if-not-cut.false) in
     let stands = stands-on fed piece at n g.done (row ∷ []) s new.stands g.stands one in
@@ -56,19 +52,19 @@ returns-in_err-row-clause-feeds c = λ fed facts h.
     subst (λ (rs : List (List (List ℕ))). IsRefusedBy c.in_err-row.field-0.0
     (facts_read_within setting.most setting.graph.now setting.instance.now rs)) (sym all)
     (c.in_err-row.ensures.counts g.done (facts ++ map fact_of c.records.batch.items) g.counted b.0))
+  where
+    open c use {
+      args.piece.now as piece,
+      args.setting,
+      records.at,
+      records.self.splitter.stands as s,
+      in_ok-cut.cut.taken as n,
+      next.new.self as new,
+      next.new.self.row,
+    }
 
 pub records-preserved-in-Some : goal.records-preserved-in-Some
 records-preserved-in-Some c =
-    let piece = c.args.piece.now in
-    let setting = c.args.setting in
-    let at = c.records.at in
-    let n = c.in_ok-cut.cut.taken in
-    let inv = c.records.invariant in
-    let s = c.records.self.splitter.stands in
-    let new = c.next.new.self in
-    let row = new.row in
-    let f = c.in-Some.fact in
-    let old = c.records.batch.items in
     let one = one-cut piece at n c.in_ok-cut.cut.found row s new.stands c.in_ok-cut.ensures.stands
     (not-false _ c.if-not-cut.false) in
     let part = c.in_ok-cut.ensures.taken in
@@ -99,16 +95,22 @@ records-preserved-in-Some c =
                 more counted;
           };
     }
+  where
+    open c use {
+      args.piece.now as piece,
+      args.setting,
+      records.at,
+      records.invariant as inv,
+      records.self.splitter.stands as s,
+      records.batch.items as old,
+      in_ok-cut.cut.taken as n,
+      next.new.self as new,
+      next.new.self.row,
+      in-Some.fact as f,
+    }
 
 pub records-preserved : goal.records-preserved
 records-preserved c =
-    let piece = c.args.piece.now in
-    let at = c.records.at in
-    let n = c.in_ok-cut.cut.taken in
-    let inv = c.records.invariant in
-    let s = c.records.self.splitter.stands in
-    let new = c.next.new.self in
-    let row = new.row in
     let one = one-cut piece at n c.in_ok-cut.cut.found row s new.stands c.in_ok-cut.ensures.stands
     (not-false _ c.if-not-cut.false) in
     let part = c.in_ok-cut.ensures.taken in
@@ -127,4 +129,14 @@ records-preserved c =
             counted = rw c.in_default.is at
                 c.in_ok-row.ensures.counts g.done (facts ++ map fact_of c.records.batch.items) g.counted;
           };
+    }
+  where
+    open c use {
+      args.piece.now as piece,
+      records.at,
+      records.invariant as inv,
+      records.self.splitter.stands as s,
+      in_ok-cut.cut.taken as n,
+      next.new.self as new,
+      next.new.self.row,
     }

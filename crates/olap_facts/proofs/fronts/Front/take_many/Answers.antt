@@ -21,13 +21,7 @@ settle-requires-clause-as_many c =
 
 pub returns-in_err-settle-clause-feeds : goal.returns-in_err-settle-clause-feeds
 returns-in_err-settle-clause-feeds c = λ fed facts h.
-    let piece = c.args.piece.now in
-    let s = c.args.setting in
-    let at = c.pieces.at in
-    let n = c.in_ok-taken.taken in
     let g = c.pieces.invariant.fed fed facts h in
-    let new = c.cut.new.splitter in
-    let old = c.pieces.self.splitter in
     let cut : HasCut old.stands (take n (drop at piece)) new.stands c.cut.new.self =
     subst (λ xs. HasCut old.stands (take n xs) new.stands c.cut.new.self) (rest_is at piece)
     c.in_ok-taken.ensures.cut in
@@ -40,16 +34,18 @@ returns-in_err-settle-clause-feeds c = λ fed facts h.
     (facts_read_within s.most s.graph.now s.instance.now rs)) (sym all)
     (c.in_err-settle.ensures.counts cut.rows g.done facts cut.are
     (rw c.pieces.invariant.begun at g.counted) b.0))
+  where
+    open c use {
+      args.piece.now as piece,
+      args.setting as s,
+      pieces.at,
+      pieces.self.splitter as old,
+      in_ok-taken.taken as n,
+      cut.new.splitter as new,
+    }
 
 pub pieces-preserved : goal.pieces-preserved
 pieces-preserved c =
-    let piece = c.args.piece.now in
-    let s = c.args.setting in
-    let at = c.pieces.at in
-    let n = c.in_ok-taken.taken in
-    let inv = c.pieces.invariant in
-    let new = c.cut.new.splitter in
-    let old = c.pieces.self.splitter in
     let cut : HasCut old.stands (take n (drop at piece)) new.stands c.cut.new.self =
     subst (λ xs. HasCut old.stands (take n xs) new.stands c.cut.new.self) (rest_is at piece)
     c.in_ok-taken.ensures.cut in
@@ -80,14 +76,22 @@ pieces-preserved c =
                 (g.done ++ cut.rows) after) (sym count) told);
           };
     }
+  where
+    open c use {
+      args.piece.now as piece,
+      args.setting as s,
+      pieces.at,
+      pieces.invariant as inv,
+      pieces.self.splitter as old,
+      in_ok-taken.taken as n,
+      cut.new.splitter as new,
+    }
 
 pub returns-clause-feeds : goal.returns-clause-feeds
 returns-clause-feeds c = λ fed facts h.
-    let piece = c.args.piece.now in
-    let s = c.args.setting in
-    let at = c.pieces.at in
     let g = c.pieces.invariant.fed fed facts h in
-    let self = c.pieces.self in
     let whole : take at piece ≡ piece = take_all at piece (omega arith) in
     subst (λ xs. Fed (feeding_in s self.splitter self.handed self.begun) (fed ++ xs)
     (facts ++ map fact_of c.pieces.batch.items)) whole g
+  where
+    open c use {args.piece.now as piece, args.setting as s, pieces.at, pieces.self}

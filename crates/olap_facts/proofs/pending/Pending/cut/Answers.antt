@@ -17,13 +17,6 @@ records-init c =
 
 pub records-preserved : goal.records-preserved
 records-preserved c =
-    let piece = c.args.piece.now in
-    let at = c.records.at in
-    let n = c.in_ok-cut.cut.taken in
-    let inv = c.records.invariant in
-    let s = c.records.splitter.stands in
-    let new = c.next.new.self in
-    let e = c.in_ok-push.ensures in
     let is-found = not-false _ c.if-not-cut.false in
     let one = one-cut piece at n c.in_ok-cut.cut.found new.row s new.stands c.in_ok-cut.ensures.stands is-found in
     let part = c.in_ok-cut.ensures.taken in
@@ -36,30 +29,43 @@ records-preserved c =
       cut = cut-more piece at n c.args.splitter.now.stands s new.stands c.records.self inv.cut c.push.new.self new.row
           one e.ids e.partial e.told;
     }
+  where
+    open c use {
+      args.piece.now as piece,
+      records.at,
+      records.invariant as inv,
+      records.splitter.stands as s,
+      in_ok-cut.cut.taken as n,
+      next.new.self as new,
+      in_ok-push.ensures as e,
+    }
 
 pub returns-then-not-cut-clause-taken : goal.returns-then-not-cut-clause-taken
 returns-then-not-cut-clause-taken c =
-    let piece = c.args.piece.now in
-    let at = c.records.at in
     let all = c.in_ok-cut.ensures.all (not-true _ c.if-not-cut.true) ∙ ap length (rest_is at piece) in
     let size = length-drop at piece in
     omega (arith, all, size, c.records.invariant.at)
+  where
+    open c use {args.piece.now as piece, records.at}
 
 pub returns-then-not-cut-clause-some : goal.returns-then-not-cut-clause-some
 returns-then-not-cut-clause-some c = λ l.
-    let piece = c.args.piece.now in
-    let at = c.records.at in
     let all = c.in_ok-cut.ensures.all (not-true _ c.if-not-cut.true) ∙ ap length (rest_is at piece) in
     let size = length-drop at piece in
     omega (arith, all, size, l, c.records.invariant.at)
+  where
+    open c use {args.piece.now as piece, records.at}
 
 pub returns-then-not-cut-clause-cut : goal.returns-then-not-cut-clause-cut
 returns-then-not-cut-clause-cut c =
-    let piece = c.args.piece.now in
-    let at = c.records.at in
-    let n = c.in_ok-cut.cut.taken in
-    let s = c.records.splitter.stands in
-    let new = c.next.new.self in
     let none = no-cut piece at n c.in_ok-cut.cut.found new.row s new.stands c.in_ok-cut.ensures.stands
     (not-true _ c.if-not-cut.true) in
     cut-end piece at n c.args.splitter.now.stands s new.stands c.records.self c.records.invariant.cut none
+  where
+    open c use {
+      args.piece.now as piece,
+      records.at,
+      records.splitter.stands as s,
+      in_ok-cut.cut.taken as n,
+      next.new.self as new,
+    }

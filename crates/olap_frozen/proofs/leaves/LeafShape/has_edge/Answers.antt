@@ -5,11 +5,10 @@ use Rattle.olap_frozen.proofs.leaves.LeafShape.has_edge.Goals as goal
 
 pub bounds-self-from : goal.bounds-self-from
 bounds-self-from c =
-    let s = c.args.self.now in
     let h = edge_inside s.graph.now c.args.c.0 c.args.d.0 c.in-Some.e.0 (sym c.in-Some.ensures.place) in
-    let e = s.leaf.sized.edge_count in
-    let f = c.from.ensures in
     omega (arith, h, e, f)
+  where
+    open c use {args.self.now as s, args.self.now.leaf.sized.edge_count as e, from.ensures as f}
 
 pub returns-in-Some : goal.returns-in-Some
 returns-in-Some c =

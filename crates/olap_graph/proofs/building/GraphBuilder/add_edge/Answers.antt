@@ -13,12 +13,7 @@ use Rattle.olap_graph.proofs.building.GraphBuilder.add_edge.Goals as goal
 
 pub invariant_of-self-2 : goal.invariant_of-self-2
 invariant_of-self-2 c =
-    let a = c.self.inside in
-    let names = a.names.items in
-    let child = c.args.child.0 in
-    let parent = c.args.parent.0 in
     let old : Graph = built c.self.inside in
-    let kinds = a.numbers.items in
     let grown : graph_of names kinds c.push.new.self.items ≡ with_edge old child parent =
     ap (graph_of names kinds) c.in_ok-push.ensures.items
     ∙ graph_of-edge names kinds a.edges.items (record { child = c.args.child; parent = c.args.parent }) in
@@ -40,6 +35,14 @@ invariant_of-self-2 c =
       unfinished =
           subst IsUnfinished (sym grown)
           (unfinished-with_edge old child parent c.self.invariant.unfinished of_child of_parent loop from_all none);
+    }
+  where
+    open c use {
+      self.inside as a,
+      self.inside.names.items as names,
+      self.inside.numbers.items as kinds,
+      args.child.0 as child,
+      args.parent.0 as parent,
     }
 
 pub returns-then-eq : goal.returns-then-eq
@@ -90,9 +93,6 @@ returns-then-len-ge-MOST_EDGES c =
 
 pub returns-in_err-push : goal.returns-in_err-push
 returns-in_err-push c =
-    let a = c.self.inside in
-    let r = c.from_residual.result in
-    let refused = c.from_residual.ensures in
     record {
       ok = no_value r _ refused.0;
       number = no_value r _ refused.0;
@@ -101,13 +101,11 @@ returns-in_err-push c =
       same = at_refusal r
           (ap (graph_of a.names.items a.numbers.items) c.in_err-push.ensures.items ∙ c.self.view_is);
     }
+  where
+    open c use {self.inside as a, from_residual.result as r, from_residual.ensures as refused}
 
 pub returns : goal.returns
 returns c =
-    let a = c.self.inside in
-    let now = c.args.self.now in
-    let child = c.args.child.0 in
-    let parent = c.args.parent.0 in
     let taken = found (λ e. e.0) c.edge.result c.edge.ensures.place c.if-is_some.ensures in
     let count = edges_counted a.names.items a.numbers.items a.edges.items c.len.result
     (c.len.ensures ∙ a.edges.ok.0) c.self.view_is in
@@ -123,3 +121,5 @@ returns c =
       err = tt;
       same = tt;
     }
+  where
+    open c use {self.inside as a, args.self.now, args.child.0 as child, args.parent.0 as parent}

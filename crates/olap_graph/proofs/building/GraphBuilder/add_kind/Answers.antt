@@ -12,14 +12,7 @@ use Rattle.olap_graph.proofs.building.GraphBuilder.add_kind.Goals as goal
 
 pub invariant_of-self-2 : goal.invariant_of-self-2
 invariant_of-self-2 c =
-    let a = c.self.inside in
-    let names = a.names.items in
-    let ends = a.edges.items in
-    let kinds = c.self.inside.numbers.items in
-    let name = c.args.name in
-    let headed = c.self.invariant.headed in
     let old : Graph = built c.self.inside in
-    let number = c.args.number in
     let pushed : c.push-2.new.self.items ≡ kinds ++ number ∷ [] =
     c.in_ok-push-2.ensures.items ∙ ap (λ t. t ++ number ∷ []) c.reserve.ensures.items in
     let grown : graph_of c.push.new.self.items c.push-2.new.self.items ends ≡ with_kind number old name =
@@ -41,6 +34,16 @@ invariant_of-self-2 c =
           subst IsUnfinished (sym grown)
           (unfinished-with_category number old name c.self.invariant.unfinished c.requires.name none);
     }
+  where
+    open c use {
+      self.inside as a,
+      self.inside.names.items as names,
+      self.inside.edges.items as ends,
+      self.inside.numbers.items as kinds,
+      self.invariant.headed,
+      args.name,
+      args.number,
+    }
 
 pub returns-then-is_some : goal.returns-then-is_some
 returns-then-is_some c =
@@ -56,9 +59,6 @@ returns-then-is_some c =
 
 pub returns-in_err-reserve : goal.returns-in_err-reserve
 returns-in_err-reserve c =
-    let a = c.self.inside in
-    let r = c.from_residual.result in
-    let refused = c.from_residual.ensures in
     record {
       ok = no_value r _ refused.0;
       number = no_value r _ refused.0;
@@ -67,12 +67,11 @@ returns-in_err-reserve c =
       same = at_refusal r
           (ap (λ ks. graph_of a.names.items ks a.edges.items) c.reserve.ensures.items ∙ c.self.view_is);
     }
+  where
+    open c use {self.inside as a, from_residual.result as r, from_residual.ensures as refused}
 
 pub returns-in_err-push : goal.returns-in_err-push
 returns-in_err-push c =
-    let a = c.self.inside in
-    let r = c.from_residual-in_err-push.result in
-    let refused = c.from_residual-in_err-push.ensures in
     record {
       ok = no_value r _ refused.0;
       number = no_value r _ refused.0;
@@ -82,15 +81,15 @@ returns-in_err-push c =
           (ap (λ ns. graph_of ns c.reserve.new.self.items a.edges.items) c.in_err-push.ensures.items
           ∙ ap (λ ks. graph_of a.names.items ks a.edges.items) c.reserve.ensures.items ∙ c.self.view_is);
     }
+  where
+    open c use {
+      self.inside as a,
+      from_residual-in_err-push.result as r,
+      from_residual-in_err-push.ensures as refused,
+    }
 
 pub returns : goal.returns
 returns c =
-    let a = c.self.inside in
-    let names = a.names.items in
-    let ends = a.edges.items in
-    let kinds = a.numbers.items in
-    let name = c.args.name in
-    let number = c.args.number in
     let place = c.category.ensures.place ∙ ap (category_named c.args.self.now) c.bytes.ensures in
     let size = c.len.ensures ∙ a.names.ok.0 ∙ headed_length names kinds ends c.self.invariant.headed in
     let count = size ∙ ap category_count c.self.view_is in
@@ -108,4 +107,13 @@ returns c =
           ∙ ap (λ (g : Graph). with_kind number g name) c.self.view_is;
       err = tt;
       same = tt;
+    }
+  where
+    open c use {
+      self.inside as a,
+      self.inside.names.items as names,
+      self.inside.edges.items as ends,
+      self.inside.numbers.items as kinds,
+      args.name,
+      args.number,
     }

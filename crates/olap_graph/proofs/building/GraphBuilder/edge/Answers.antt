@@ -9,8 +9,8 @@ use Rattle.olap_graph.proofs.building.GraphBuilder.edge.Goals as goal
 
 pub returns-clause-has : goal.returns-clause-has
 returns-clause-has c =
-    let child = c.args.child.0 in
-    let parent = c.args.parent.0 in
     let e = ap (λ es. position_from (joins child parent) 0 (map edge_of es)) c.deref.ensures.value in
     subst (λ (g : Graph). IsSome c.joining.result ↔ HasEdge g child parent) c.self.view_is
     (joins-found (map edge_of c.self.inside.edges.items) child parent c.joining.result (c.joining.ensures ∙ e))
+  where
+    open c use {args.child.0 as child, args.parent.0 as parent}

@@ -16,12 +16,6 @@ use Rattle.olap_graph.proofs.graphs.Graph.edge.Goals as goal
 
 pub leading-requires : goal.leading-requires
 leading-requires c = λ k d h.
-    let a = c.self.inside in
-    let names = a.names.items in
-    let ends = a.edges.items in
-    let kinds = c.self.inside.numbers.items in
-    let x = c.args.child.0 in
-    let out = c.items.result.now in
     let e = headed_length names kinds ends c.self.invariant.headed in
     let inside = subst (λ n. x < n) (sym (e ∙ ap category_count c.self.view_is)) c.requires in
     let q = out_read (drawn ends)
@@ -30,17 +24,18 @@ leading-requires c = λ k d h.
     c.index.ensures c.items.ensures in
     subst (λ n. (get_or out k d).0 < n) (length-map ends edge_of ∙ ap length (sym c.deref.ensures.value))
     (out_within (drawn ends) x out q k d h)
+  where
+    open c use {
+      self.inside as a,
+      self.inside.names.items as names,
+      self.inside.edges.items as ends,
+      self.inside.numbers.items as kinds,
+      args.child.0 as x,
+      items.result.now as out,
+    }
 
 pub returns-clause-place : goal.returns-clause-place
 returns-clause-place c =
-    let a = c.self.inside in
-    let names = a.names.items in
-    let ends = a.edges.items in
-    let kinds = c.self.inside.numbers.items in
-    let x = c.args.child.0 in
-    let y = c.args.parent.0 in
-    let out = c.items.result.now in
-    let r = c.leading.result in
     let e = headed_length names kinds ends c.self.invariant.headed in
     let inside = subst (λ n. x < n) (sym (e ∙ ap category_count c.self.view_is)) c.requires in
     let some =
@@ -53,6 +48,17 @@ returns-clause-place c =
     (edge_found names kinds ends (length names) x c.from.result y a.tables.out.items c.index.result.now out r
     c.self.invariant.tables.out c.self.invariant.hierarchy.edges_differ
     inside c.from.ensures c.index.ensures c.items.ensures some none)
+  where
+    open c use {
+      self.inside as a,
+      self.inside.names.items as names,
+      self.inside.edges.items as ends,
+      self.inside.numbers.items as kinds,
+      args.child.0 as x,
+      args.parent.0 as y,
+      items.result.now as out,
+      leading.result as r,
+    }
 
 pub returns-clause-has : goal.returns-clause-has
 returns-clause-has c =

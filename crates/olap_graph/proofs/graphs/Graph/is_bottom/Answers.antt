@@ -7,13 +7,16 @@ use Rattle.olap_graph.proofs.graphs.Graph.is_bottom.Goals as goal
 
 pub returns : goal.returns
 returns c =
-    let names = c.self.inside.names.items in
-    let ends = c.self.inside.edges.items in
-    let kinds = c.self.inside.numbers.items in
-    let x = c.args.c.0 in
     let e = headed_length names kinds ends c.self.invariant.headed in
     let inside = subst (λ n. x < n) (sym (e ∙ ap category_count c.self.view_is)) c.requires in
     subst (λ (g : Graph). IsTrue c.index.result.now ↔ IsBottom g x) c.self.view_is
     (bottom_is names kinds ends (length names) x c.self.inside.tables.bottoms.items c.index.result.now
     c.self.invariant.tables.bottoms e inside
     (c.index.ensures ∙ ap (λ i. get_or c.self.inside.tables.bottoms.items i c.index.result.now) c.from.ensures))
+  where
+    open c use {
+      self.inside.names.items as names,
+      self.inside.edges.items as ends,
+      self.inside.numbers.items as kinds,
+      args.c.0 as x,
+    }

@@ -9,20 +9,16 @@ use Rattle.olap_graph.proofs.graphs.Graph.of.Goals as goal
 
 pub of-requires-clause-within : goal.of-requires-clause-within
 of-requires-clause-within c =
-    let names = c.args.names.items in
-    let ends = c.args.edges.items in
-    let kinds = c.args.numbers.items in
     let size : c.len.result ≡ category_count (graph_of names kinds ends) =
     let h = headed_length names kinds ends c.requires.headed in let l = c.len.ensures in let o = c.args.names.ok in
     omega arith in
     subst (λ (es : List Ends). LiesWithin (drawn es) c.len.result) (sym c.deref.ensures.value)
     (lies_within names kinds ends c.len.result size c.requires.unfinished.categories)
+  where
+    open c use {args.names.items as names, args.edges.items as ends, args.numbers.items as kinds}
 
 pub returns-in-Some-clause-err : goal.returns-in-Some-clause-err
 returns-in-Some-clause-err c =
-    let names = c.args.names.items in
-    let ends = c.args.edges.items in
-    let kinds = c.args.numbers.items in
     let size : c.len.result ≡ category_count (graph_of names kinds ends) =
     let h = headed_length names kinds ends c.requires.headed in let l = c.len.ensures in let o = c.args.names.ok in
     omega arith in
@@ -32,12 +28,11 @@ returns-in-Some-clause-err c =
     first_without_way names kinds ends c.len.result c.in_ok-tables.tables.reached.items c.in-Some.category
     tables.reached size
     (subst (λ rows. IsFirstWithout rows c.in-Some.category) c.deref-2.ensures.value c.in-Some.ensures.some)
+  where
+    open c use {args.names.items as names, args.edges.items as ends, args.numbers.items as kinds}
 
 pub invariant_of-result : goal.invariant_of-result
 invariant_of-result c =
-    let names = c.args.names.items in
-    let ends = c.args.edges.items in
-    let kinds = c.args.numbers.items in
     let h = headed_length names kinds ends c.requires.headed in
     let size : c.len.result ≡ category_count (graph_of names kinds ends) = let l = c.len.ensures in
     let o = c.args.names.ok in omega arith in
@@ -52,12 +47,11 @@ invariant_of-result c =
       hierarchy = hierarchy (graph_of names kinds ends) c.requires.unfinished way;
       tables = subst (λ n. AreTables (drawn ends) n c.in_ok-tables.tables) (size ∙ sym h) tables;
     }
+  where
+    open c use {args.names.items as names, args.edges.items as ends, args.numbers.items as kinds}
 
 pub returns-clause-way : goal.returns-clause-way
 returns-clause-way c =
-    let names = c.args.names.items in
-    let ends = c.args.edges.items in
-    let kinds = c.args.numbers.items in
     let size : c.len.result ≡ category_count (graph_of names kinds ends) =
     let h = headed_length names kinds ends c.requires.headed in let l = c.len.ensures in let o = c.args.names.ok in
     omega arith in
@@ -66,3 +60,5 @@ returns-clause-way c =
     (drawn es) c.len.result c.in_ok-tables.tables) c.deref.ensures.value c.in_ok-tables.ensures in
     all_reach names kinds ends c.len.result c.in_ok-tables.tables.reached.items tables.reached size
     (subst HaveAll c.deref-2.ensures.value c.in_default.ensures.none)
+  where
+    open c use {args.names.items as names, args.edges.items as ends, args.numbers.items as kinds}

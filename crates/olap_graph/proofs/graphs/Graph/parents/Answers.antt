@@ -7,12 +7,6 @@ use Rattle.olap_graph.proofs.graphs.Graph.parents.Goals as goal
 
 pub returns-clause-edges : goal.returns-clause-edges
 returns-clause-edges c = λ k d h.
-    let a = c.self.inside in
-    let names = a.names.items in
-    let ends = a.edges.items in
-    let kinds = c.self.inside.numbers.items in
-    let x = c.args.c.0 in
-    let out = c.items.result.now in
     let e = headed_length names kinds ends c.self.invariant.headed in
     let inside = subst (λ n. x < n) (sym (e ∙ ap category_count c.self.view_is)) c.requires in
     let q = out_read (drawn ends)
@@ -20,3 +14,12 @@ returns-clause-edges c = λ k d h.
     c.from.ensures
     c.index.ensures c.items.ensures in
     subst (λ (g : Graph). (get_or out k d).0 < length g.edges) c.self.view_is (out_within (drawn ends) x out q k d h)
+  where
+    open c use {
+      self.inside as a,
+      self.inside.names.items as names,
+      self.inside.edges.items as ends,
+      self.inside.numbers.items as kinds,
+      args.c.0 as x,
+      items.result.now as out,
+    }

@@ -10,12 +10,6 @@ use Rattle.olap_graph.proofs.graphs.Graph.reaches.Goals as goal
 
 pub returns : goal.returns
 returns c =
-    let names = c.self.inside.names.items in
-    let ends = c.self.inside.edges.items in
-    let kinds = c.self.inside.numbers.items in
-    let rows = c.self.inside.tables.reached.items in
-    let x = c.args.c.0 in
-    let y = c.args.d.0 in
     let e = headed_length names kinds ends c.self.invariant.headed in
     let inside = subst (λ n. x < n) (sym (e ∙ ap category_count c.self.view_is)) c.requires.child in
     let within : c.from.result < length rows =
@@ -24,3 +18,12 @@ returns c =
     subst (λ (g : Graph). IsTrue c.has.result ↔ CategoryReaches g x y) c.self.view_is
     (row_is names kinds ends (length names) x y rows c.has.result c.self.invariant.tables.reached inside
     (c.has.ensures ∙ ap (λ s. contains s y) set))
+  where
+    open c use {
+      self.inside.names.items as names,
+      self.inside.edges.items as ends,
+      self.inside.numbers.items as kinds,
+      self.inside.tables.reached.items as rows,
+      args.c.0 as x,
+      args.d.0 as y,
+    }

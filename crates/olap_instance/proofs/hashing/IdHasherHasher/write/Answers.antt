@@ -14,10 +14,10 @@ with-value point value = record { point = point; value = value }
 
 pub returns : goal.returns
 returns c =
-    let h = c.args.self.now in
-    let bytes = c.args.bytes.now in
     let few : length c.steps.rest.now < 7 = let n = c.steps-test.false in omega arith in
     let value : c.stepped-self.result ≡ value_after (length bytes) h.point h.value bytes =
     c.stepped-self.ensures ∙ ap (stepped h.point c.steps.value) c.with_rest.ensures
     ∙ sym (left-over (length bytes) h.point c.steps.value c.steps.rest.now few) ∙ c.steps.invariant in
     ap (with-value h.point) value
+  where
+    open c use {args.self.now as h, args.bytes.now as bytes}

@@ -5,8 +5,6 @@ use Rattle.olap_instance.proofs.lists.Lists.add.Goals as goal
 
 pub invariant_of-self-2 : goal.invariant_of-self-2
 invariant_of-self-2 g c =
-    let items = c.self.inside.items.items in
-    let starts = c.self.inside.starts.items in
     let e : c.len-end.result ≡ length items = c.len-end.ensures ∙ c.self.inside.items.ok.0 in
     let now = c.in_ok-push.ensures.items ∙ ap (λ n. c.reserve.new.self.items ++ n ∷ []) e
     ∙ ap (λ ss. ss ++ length items ∷ []) c.reserve.ensures.items in
@@ -16,11 +14,11 @@ invariant_of-self-2 g c =
     rw (now, more)
     (ascending-more (length items) _ (starts ++ length items ∷ []) (omega arith)
     (ascending-begin (length items) starts c.self.invariant))
+  where
+    open c use {self.inside.items.items, self.inside.starts.items as starts}
 
 pub returns-clause-ok : goal.returns-clause-ok
 returns-clause-ok g c =
-    let items = c.self.inside.items.items in
-    let starts = c.self.inside.starts.items in
     let e : c.len-end.result ≡ length items = c.len-end.ensures ∙ c.self.inside.items.ok.0 in
     let now = c.in_ok-push.ensures.items ∙ ap (λ n. c.reserve.new.self.items ++ n ∷ []) e
     ∙ ap (λ ss. ss ++ length items ∷ []) c.reserve.ensures.items in
@@ -29,3 +27,5 @@ returns-clause-ok g c =
     rw (← c.self.view_is, now, more)
     (lists-more items c.args.items.now (starts ++ length items ∷ []) _ []
     (ascending-begin (length items) starts c.self.invariant) (lists-begin items starts))
+  where
+    open c use {self.inside.items.items, self.inside.starts.items as starts}

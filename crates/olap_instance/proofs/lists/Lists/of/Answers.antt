@@ -10,29 +10,26 @@ span-from-requires-clause-place g c =
 
 pub span-from-requires-clause-order : goal.span-from-requires-clause-order
 span-from-requires-clause-order g c =
-    let items = c.self.inside.items.items in
-    let starts = c.self.inside.starts.items in
     let l = rw (← c.self.view_is) at c.requires in
     let n = count-lists items starts in
     let end : c.len.result ≡ length items = c.len.ensures ∙ c.self.inside.items.ok.0 in
     rw (c.deref.ensures.value, end)
     (ascending-at (length items) starts c.args.place (c.args.place + 1) (omega arith) refl c.self.invariant).0
+  where
+    open c use {self.inside.items.items, self.inside.starts.items as starts}
 
 pub span-from-requires-clause-within : goal.span-from-requires-clause-within
 span-from-requires-clause-within g c =
-    let items = c.self.inside.items.items in
-    let starts = c.self.inside.starts.items in
     let l = rw (← c.self.view_is) at c.requires in
     let n = count-lists items starts in
     let end : c.len.result ≡ length items = c.len.ensures ∙ c.self.inside.items.ok.0 in
     rw (c.deref.ensures.value, end)
     (ascending-at (length items) starts c.args.place (c.args.place + 1) (omega arith) refl c.self.invariant).1
+  where
+    open c use {self.inside.items.items, self.inside.starts.items as starts}
 
 pub returns : goal.returns
 returns g c =
-    let items = c.self.inside.items.items in
-    let starts = c.self.inside.starts.items in
-    let place = c.args.place in
     let l = rw (← c.self.view_is) at c.requires in
     let n = count-lists items starts in
     let end : c.len.result ≡ length items = c.len.ensures ∙ c.self.inside.items.ok.0 in
@@ -43,3 +40,5 @@ returns g c =
     ∙ ap (λ e. get_or starts (place + 1) e) end in
     rw (from, to, c.deref-2.ensures.value, ← c.self.view_is)
     (sym (list-at items starts place (place + 1) (omega arith) refl))
+  where
+    open c use {self.inside.items.items, self.inside.starts.items as starts, args.place}

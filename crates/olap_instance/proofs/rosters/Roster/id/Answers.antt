@@ -14,12 +14,11 @@ bounds-as_slice-place c =
 
 pub returns : goal.returns
 returns c =
-    let a = c.self.inside in
-    let x = c.args.place in
-    let id = c.index-as_slice-place in
     let l : x < length (members_of_roster a) = rw (← c.self.view_is) at c.requires in
     let n = count-is a c.self.invariant in
     rw (← c.self.view_is)
     (c.bytes.ensures ∙ id.is ∙ ap (λ ids. get_or ids x id.result) c.as_slice.ensures.keys
     ∙ get_or_default a.ids.keys x id.result [] (omega arith)
     ∙ sym (ap (λ (m : Member). m.id) (member-is a c.self.invariant x l)))
+  where
+    open c use {self.inside as a, args.place as x, index-as_slice-place as id}

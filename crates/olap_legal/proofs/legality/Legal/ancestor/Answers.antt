@@ -7,9 +7,9 @@ use Rattle.olap_legal.proofs.legality.Legal.ancestor.Goals as goal
 
 pub returns-in-Some-clause-some : goal.returns-in-Some-clause-some
 returns-in-Some-clause-some c =
-    let a = c.self.inside in
-    let x = c.args.x.0 in
     let inside = subst (λ (i : Instance). x < length i) (sym c.self.view_is) c.requires in
     subst (λ (i : Instance). IsAncestor i x c.args.c.0 c.in-Some.y) c.self.view_is
     (ancestor_of a.instance a.categories x c.args.c.0 c.in-Some.y a.table c.self.invariant.table inside
     c.in-Some.ensures.some)
+  where
+    open c use {self.inside as a, args.x.0 as x}

@@ -34,10 +34,8 @@ list_reached-count-requires-clause-fresh c = λ k h l.
 
 pub categories-preserved : goal.categories-preserved
 categories-preserved c =
-    let v = c.categories.invariant in
     let g = c.args.graph.now in
     let n = c.args.categories in
-    let listed = c.list_reached-count.ensures in
     let slots_is = c.deref_mut.ensures.value in
     let order_is = c.deref_mut-in-categories.ensures.value in
     let more = slots_more c.requires.few c.categories-test.true v (λ j. c.from.ensures j * c.from-width.ensures j)
@@ -46,14 +44,19 @@ categories-preserved c =
     (λ k h. listed.slots k h ∙ ap (λ w. get_or w k 0) slots_is)
     (λ k h. listed.order k h ∙ ap (λ w. get_or w k 0) order_is)
     listed.listed in
-    let slots = c.list_reached-count.new.slots in
-    let order = c.list_reached-count.new.order in
     let slots_now = take_at slots (drop (length slots) c.categories.slots.items) c.categories.slots.len
     (listed.length ∙ c.deref_mut.ensures.len) in
     let order_now = take_at order (drop (length order) c.categories.order.items) c.categories.order.len
     (listed.same ∙ ap length slots_is ∙ v.slots_size ∙ sym v.order_size ∙ sym (ap length order_is)
     ∙ c.deref_mut-in-categories.ensures.len) in
     rw (slots_now, order_now, c.in_ok-push.ensures.items) more
+  where
+    open c use {
+      categories.invariant as v,
+      list_reached-count.ensures as listed,
+      list_reached-count.new.slots,
+      list_reached-count.new.order,
+    }
 
 pub returns : goal.returns
 returns c =

@@ -6,11 +6,6 @@ use Rattle.olap_legal.proofs.tables.Table.join.Goals as goal
 
 pub returns-clause-each : goal.returns-clause-each
 returns-clause-each c = λ good.
-    let t = c.args.self.now in
-    let n = c.args.categories in
-    let h = c.requires.x in
-    let v = c.requires.laid in
-    let reached = c.reached-reached.result.now in
     let start = start_read t v h c.index.ensures in
     let size = c.reached-reached.ensures.len ∙ ap (count_of t.slots) c.category.ensures in
     let each : (k : ℕ) → k < length reached → get_or reached k 0 ≡ order_of n t.slots _ k =
@@ -19,3 +14,11 @@ returns-clause-each c = λ good.
     (λ k l. c.part-cells.ensures.each k l ∙ ap (λ w. get_or w (c.index.result.now + k) 0) c.deref.ensures.value
     ∙ ap (λ w. get_or t.cells.items (w + k) 0) start)
     (c.join.ensures.each good) (c.join.ensures.others good)
+  where
+    open c use {
+      args.self.now as t,
+      args.categories as n,
+      requires.x as h,
+      requires.laid as v,
+      reached-reached.result.now as reached,
+    }

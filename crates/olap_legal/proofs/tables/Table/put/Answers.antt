@@ -9,12 +9,6 @@ use Rattle.olap_legal.proofs.tables.Table.put.Goals as goal
 
 pub returns-clause-here : goal.returns-clause-here
 returns-clause-here c =
-    let t = c.args.self.now in
-    let n = c.args.categories in
-    let h = c.requires.x in
-    let v = c.requires.laid in
-    let reached = c.reached-reached.result.now in
-    let cells = c.write.new.cells in
     let after : Table = record { slots = t.slots; starts = t.starts; cells = with_items t.cells cells } in
     let size_kept = c.write.ensures.same_length ∙ c.deref_mut.ensures.len in
     let now = take_at cells (drop (length cells) t.cells.items) t.cells.len size_kept in
@@ -27,13 +21,18 @@ returns-clause-here c =
     row_written after laid h reached size each c.args.row.now c.requires.fits
     (λ k l. ap (λ w. get_or w (get_or t.starts.items c.args.x 0 + k) 0) now
     ∙ ap (λ w. get_or cells (w + k) 0) (sym start) ∙ c.write.ensures.here k l)
+  where
+    open c use {
+      args.self.now as t,
+      args.categories as n,
+      requires.x as h,
+      requires.laid as v,
+      reached-reached.result.now as reached,
+      write.new.cells,
+    }
 
 pub returns-clause-others : goal.returns-clause-others
 returns-clause-others c =
-    let t = c.args.self.now in
-    let h = c.requires.x in
-    let v = c.requires.laid in
-    let cells = c.write.new.cells in
     let after : Table = record { slots = t.slots; starts = t.starts; cells = with_items t.cells cells } in
     let size_kept = c.write.ensures.same_length ∙ c.deref_mut.ensures.len in
     let now = take_at cells (drop (length cells) t.cells.items) t.cells.len size_kept in
@@ -47,3 +46,5 @@ returns-clause-others c =
     ∙ c.write.ensures.after k (subst (λ w. w + length c.reached-reached.result.now ≤ k) (sym start)
     (subst (λ w. get_or t.starts.items c.args.x 0 + w ≤ k) (sym size) l))
     ∙ ap (λ w. get_or w k 0) c.deref_mut.ensures.value)
+  where
+    open c use {args.self.now as t, requires.x as h, requires.laid as v, write.new.cells}

@@ -11,9 +11,6 @@ use Rattle.olap_proof.proofs.ways.Ways.from.Goals as goal
 
 pub returns : goal.returns
 returns c = λ d.
-    let a = c.self.inside in
-    let k = c.args.child.0 in
-    let kept = c.self.invariant in
     let is = leads_is a.there.items a.absent.items (map way_kept a.list.items) kept.once kept.said k d in
     let same : members c.row_of.result ≡ row a.there.items k =
     c.row_of.ensures ∙ ap (λ rows. row rows k) c.deref.ensures.value in (
@@ -22,3 +19,5 @@ returns c = λ d.
       λ m. subst (λ s. IsIn s d) (sym same)
           (is.1 (subst (λ (ws : List Way). Contains ws (leading_way k d)) (sym c.self.view_is) m)),
     )
+  where
+    open c use {self.inside as a, self.invariant as kept, args.child.0 as k}

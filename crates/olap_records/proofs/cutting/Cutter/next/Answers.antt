@@ -8,29 +8,19 @@ use Rattle.olap_records.proofs.cutting.Cutter.next.Goals as goal
 
 pub returns-in-EndRecord-clause-stands : goal.returns-in-EndRecord-clause-stands
 returns-in-EndRecord-clause-stands c =
-    let s = c.bytes.self in
-    let piece = c.args.piece.now in
-    let inv = c.bytes.invariant in
-    let p = c.step-place in
     ended-record (stand_of [] c.args.self.now) piece c.bytes.at c.bytes-test.true (fields_of s.row)
     (partial_of s.row ++ (s.field.items ++ between c.bytes.from c.bytes.at piece)) s.place s.whole inv.part inv.stands
     p.result.0 p.result.1 p.ensures.place p.ensures.action c.in-EndRecord.is
     (fields_of c.end_field-in-EndRecord.new.row) c.in_ok-end_field-in-EndRecord.ensures.fields
+  where
+    open c use {bytes.self as s, bytes.invariant as inv, args.piece.now as piece, step-place as p}
 
 pub bytes-preserved-in-Copy : goal.bytes-preserved-in-Copy
 bytes-preserved-in-Copy c =
-    let s = c.bytes.self in
     let t = stand_of [] c.args.self.now in
-    let piece = c.args.piece.now in
-    let i = c.bytes.at in
-    let from = c.bytes.from in
-    let inv = c.bytes.invariant in
-    let p = c.step-place in
-    let end = c.run_end-at.result in
     let bounds = c.run_end-at.ensures.bounds in
     let fields = fields_of s.row in
     let partial = partial_of s.row in
-    let field = s.field.items in
     record {
       part = inv.part;
       from = omega (arith, inv.from, bounds.0);
@@ -43,18 +33,23 @@ bytes-preserved-in-Copy c =
           (run-at-hand partial field from i end piece inv.from c.bytes-test.true bounds.0)
           ∙ ap (λ w. stand_by [] w fields (partial ++ (field ++ between from end piece)) p.result.0) (sym inv.part);
     }
+  where
+    open c use {
+      bytes.self as s,
+      bytes.at as i,
+      bytes.from,
+      bytes.invariant as inv,
+      bytes.self.field.items as field,
+      args.piece.now as piece,
+      step-place as p,
+      run_end-at.result as end,
+    }
 
 pub bytes-preserved-in-Skip : goal.bytes-preserved-in-Skip
 bytes-preserved-in-Skip c =
-    let s = c.bytes.self in
-    let piece = c.args.piece.now in
-    let i = c.bytes.at in
-    let inv = c.bytes.invariant in
-    let p = c.step-place in
     let fields = fields_of s.row in
     let partial = partial_of s.row in
     let rest = between c.bytes.from i piece in
-    let new = c.extend_from_slice.new.self.items in
     record {
       part = inv.part;
       from = omega arith;
@@ -68,15 +63,18 @@ bytes-preserved-in-Skip c =
           ∙ ap (λ w. stand_by [] w fields (partial ++ (new ++ between (i + 1) (i + 1) piece)) p.result.0)
           (sym inv.part);
     }
+  where
+    open c use {
+      bytes.self as s,
+      bytes.at as i,
+      bytes.invariant as inv,
+      args.piece.now as piece,
+      step-place as p,
+      extend_from_slice.new.self.items as new,
+    }
 
 pub bytes-preserved : goal.bytes-preserved
 bytes-preserved c =
-    let s = c.bytes.self in
-    let piece = c.args.piece.now in
-    let i = c.bytes.at in
-    let inv = c.bytes.invariant in
-    let p = c.step-place in
-    let new = c.end_field.new in
     let row = fields_of new.row in
     let at_hand = partial_of new.row ++ (new.field.items ++ between (i + 1) (i + 1) piece) in
     record {
@@ -90,4 +88,13 @@ bytes-preserved c =
           (none-at-hand (partial_of new.row) new.field.items (i + 1) piece c.in_ok-end_field-in-EndField.ensures.partial
           c.in_ok-end_field-in-EndField.ensures.field)
           ∙ ap (λ w. stand_by [] w row at_hand p.result.0) (sym inv.part);
+    }
+  where
+    open c use {
+      bytes.self as s,
+      bytes.at as i,
+      bytes.invariant as inv,
+      args.piece.now as piece,
+      step-place as p,
+      end_field.new,
     }

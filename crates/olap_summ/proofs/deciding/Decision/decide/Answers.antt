@@ -77,14 +77,14 @@ so_far c =
 pub returns-clause-no : goal.returns-clause-no
 returns-clause-no c =
     let s = schema_of c.args.schema.now in
-    let q = c.args.questions.now in
-    let d = c.args.self.now in
     let same = ap length c.deref_mut-asked-items.ensures.value in
     let many : length d.searches.items ≤ c.searches.asked-index = omega arith in (
       λ e. answer_is_yes s q d c.constraints-valid.ensures.valid c.candidates_exist.ensures c.requires.made
           (all_asked s q d c.searches.asked-index c.requires.made c.searches.invariant.none many),
       λ z. refl,
     )
+  where
+    open c use {args.questions.now as q, args.self.now as d}
 
 pub returns-clause-yes : goal.returns-clause-yes
 returns-clause-yes c = λ t. absurd (true≢false (sym t))

@@ -18,8 +18,6 @@ pub categories-preserved : goal.categories-preserved
 categories-preserved c =
     let s = schema_of c.args.schema.now in
     let q = asked_by c.args.questions.now in
-    let n = c.categories.b in
-    let xs = c.categories.searches.items in
     elim c.if-is_bottom.branch [
       | then-is_bottom+in_ok-search+in_ok-push w ↦
           subst (AreMadeBefore s q (n + 1)) (sym (ap (λ v. v.items) w.searches-is ∙ w.in_ok-push.ensures.items))
@@ -32,6 +30,8 @@ categories-preserved c =
           let t = c.is_bottom.ensures.1 (subst (λ (g : Graph). IsBottom g n) (sym c.graph-graph.ensures) bottom) in
           true≢false (sym t ∙ w.if-is_bottom.false)))
     ]
+  where
+    open c use {categories.b as n, categories.searches.items as xs}
 
 pub returns : goal.returns
 returns c =

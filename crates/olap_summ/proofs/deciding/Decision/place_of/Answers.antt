@@ -16,9 +16,9 @@ returns-clause-within c =
 
 pub returns-clause-names : goal.returns-clause-names
 returns-clause-names c = λ d.
-    let xs = c.args.self.now.searches.items in
-    let place = c.searches.place in
     let within = place_within xs c.args.root.0 place c.requires c.searches.invariant in
     sym (first_names xs place c.args.root.0 d within c.searches.invariant (sym (root_at xs place d within)
     ∙ root_at xs place c.index.result.now within ∙ sym (ap (λ (a : Asked). a.root.0) c.index.ensures)
     ∙ c.searches-test.false))
+  where
+    open c use {args.self.now.searches.items as xs, searches.place}

@@ -7,15 +7,14 @@ use Rattle.olap_summ.proofs.seeing.Seen.mark_edge.Goals as goal
 
 pub returns-clause-seen : goal.returns-clause-seen
 returns-clause-seen c =
-    let old = c.args.self.now in
-    let child = c.ends.result.0.0 in
-    let parent = c.ends.result.1.0 in
     seen_chosen (schema_of c.args.schema.now) c.args.found.now c.constraints-valid.ensures.valid.hierarchy
     c.requires.root c.requires.witness old _ c.args.e.0 child parent c.requires.edge c.requires.chosen
     (subst (λ g. edge_at g c.args.e.0 ≡ record { child = child; parent = parent }) c.graph.ensures c.ends.ensures.edge)
     (ap (λ n. slice_set (slice_set old.categories.items n true) c.from-3.result true) c.from-2.ensures
     ∙ ap (λ n. slice_set (slice_set old.categories.items child true) n true) c.from-3.ensures)
     (ap (λ n. slice_set old.edges.items n true) c.from.ensures) c.requires.seen
+  where
+    open c use {args.self.now as old, ends.result.0.0 as child, ends.result.1.0 as parent}
 
 pub returns-clause-kept : goal.returns-clause-kept
 returns-clause-kept c =

@@ -15,8 +15,6 @@ edges-init c = record {
 pub edges-preserved : goal.edges-preserved
 edges-preserved c =
     let s = schema_of c.args.schema.now in
-    let root = c.args.found.now.frozen.root.0 in
-    let before = c.edges.invariant in
     elim c.if-chosen-from.branch [
       | then-chosen-from w ↦ record {
         seen = subst (IsSeen s) (sym w.self-is) w.mark_edge.ensures.seen;
@@ -31,3 +29,5 @@ edges-preserved c =
         kept = subst (Keeps c.args.self.now) (sym w.self-is) before.kept;
       }
     ]
+  where
+    open c use {args.found.now.frozen.root.0 as root, edges.invariant as before}

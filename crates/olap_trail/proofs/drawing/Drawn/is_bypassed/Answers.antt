@@ -9,14 +9,7 @@ use Rattle.olap_trail.proofs.drawing.Drawn.is_bypassed.Goals as goal
 
 pub returns-then-first-new : goal.returns-then-first-new
 returns-then-first-new g c =
-    let a = c.self.inside in
     let es = map edge_of a.edges.items in
-    let k = c.args.new.child.0 in
-    let p = c.args.new.parent.0 in
-    let x = c.args.first.child.0 in
-    let z = c.args.first.parent.0 in
-    let old = c.index.result.now in
-    let own = c.index-2.result.now in
     let x_inside = subst (λ (v : Drawing). x < v.count) (sym c.self.view_is) c.requires.child in
     let z_inside = subst (λ (v : Drawing). z < v.count) (sym c.self.view_is) c.requires.parent in
     let through = subst (λ (v : Drawing). IsAbove v.edges p (members c.args.through.now)) (sym c.self.view_is)
@@ -35,17 +28,20 @@ returns-then-first-new g c =
     (bypassed_is (more es k p) x z (members c.grown-beyond.result) (members c.with.result) c.meets.result beyond
     next_now
     c.meets.ensures)
+  where
+    open c use {
+      self.inside as a,
+      args.new.child.0 as k,
+      args.new.parent.0 as p,
+      args.first.child.0 as x,
+      args.first.parent.0 as z,
+      index.result.now as old,
+      index-2.result.now as own,
+    }
 
 pub returns-else-first-new : goal.returns-else-first-new
 returns-else-first-new g c =
-    let a = c.self.inside in
     let es = map edge_of a.edges.items in
-    let k = c.args.new.child.0 in
-    let p = c.args.new.parent.0 in
-    let x = c.args.first.child.0 in
-    let z = c.args.first.parent.0 in
-    let old = c.index.result.now in
-    let own = c.index-2.result.now in
     let x_inside = subst (λ (v : Drawing). x < v.count) (sym c.self.view_is) c.requires.child in
     let z_inside = subst (λ (v : Drawing). z < v.count) (sym c.self.view_is) c.requires.parent in
     let through = subst (λ (v : Drawing). IsAbove v.edges p (members c.args.through.now)) (sym c.self.view_is)
@@ -57,7 +53,17 @@ returns-else-first-new g c =
     let next : IsNext (more es k p) x (members own) =
     next_same es k p x (members own) c.if-first-new.false
     (next_read c.self.invariant x c.from-2.result own x_inside c.from-2.ensures c.index-2.ensures) in
-    let r = c.meets-else-first-new.result in
     subst (λ (v : Drawing). IsTrue r ↔ IsBypassed (v.edges ++ edge_of c.args.new ∷ []) x z) c.self.view_is
     (bypassed_is (more es k p) x z (members c.grown-beyond.result) (members own) r beyond next
     c.meets-else-first-new.ensures)
+  where
+    open c use {
+      self.inside as a,
+      args.new.child.0 as k,
+      args.new.parent.0 as p,
+      args.first.child.0 as x,
+      args.first.parent.0 as z,
+      index.result.now as old,
+      index-2.result.now as own,
+      meets-else-first-new.result as r,
+    }

@@ -16,19 +16,17 @@ edges-init g c = record {
 
 pub is_bypassed-requires : goal.is_bypassed-requires
 is_bypassed-requires g c =
-    let items = c.deref-first-items.result.now in
     let x = get_or items c.edges.first-index (record { child = record { 0 = 0 }; parent = record { 0 = 0 } }) in
     let j = joins_at items c.args.self.now.edges c.edges.first-index
     (record { child = record { 0 = 0 }; parent = record { 0 = 0 } })
     c.edges.invariant.items c.edges-test.true in
     let w = c.edges.invariant.within x.child.0 x.parent.0 j in
-    let width = c.requires.width in
     (omega arith, (search (rules, width), (w.0, (w.1, (c.requires.parent, c.above-through.ensures)))))
+  where
+    open c use {deref-first-items.result.now as items, requires.width}
 
 pub returns-then-is_bypassed : goal.returns-then-is_bypassed
 returns-then-is_bypassed g c =
-    let es = c.args.self.now.edges in
-    let items = c.deref-first-items.result.now in
     let x = get_or items c.edges.first-index (record { child = record { 0 = 0 }; parent = record { 0 = 0 } }) in
     let j = joins_at items es c.edges.first-index (record { child = record { 0 = 0 }; parent = record { 0 = 0 } })
     c.edges.invariant.items c.edges-test.true in (
@@ -40,6 +38,8 @@ returns-then-is_bypassed g c =
       },
       λ t. refl,
     )
+  where
+    open c use {args.self.now.edges as es, deref-first-items.result.now as items}
 
 pub edges-preserved : goal.edges-preserved
 edges-preserved g c =

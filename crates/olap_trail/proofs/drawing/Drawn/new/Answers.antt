@@ -13,10 +13,6 @@ pub invariant_of-result : goal.invariant_of-result
 invariant_of-result g c =
     let room = vec_capacity c.in_ok-with_capacity.field-0 in
     let set_room = vec_capacity c.fill.new.rows in
-    let rows = c.fill.new.rows.items in
-    let parents = c.in_ok-vec.field-0.items in
-    let cycles = c.in_ok-vec-2.field-0.items in
-    let n = c.from-count.result in
     let stages = c.from-stages.result + 1 in
     subst (λ (es : List Edge). AreTables room set_room es 0 rows parents cycles)
     (sym (ap (map edge_of) c.in_ok-with_capacity.ensures.items))
@@ -30,3 +26,10 @@ invariant_of-result g c =
     (λ i. c.fill.ensures.same i ∙ ap (λ (xs : List (CatSet g.row.W)). row xs i) c.in_ok-rows.ensures.items)
     (c.in_ok-vec.ensures.items_if_clones_equal (λ y e. e))
     (c.in_ok-vec-2.ensures.items_if_clones_equal (λ y e. e)))
+  where
+    open c use {
+      fill.new.rows.items as rows,
+      in_ok-vec.field-0.items as parents,
+      in_ok-vec-2.field-0.items as cycles,
+      from-count.result as n,
+    }

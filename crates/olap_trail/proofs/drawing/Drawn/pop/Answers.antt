@@ -13,21 +13,17 @@ use Rattle.olap_trail.proofs.drawing.Drawn.pop.Goals as goal
 
 pub index-requires : goal.index-requires
 index-requires g c =
-    let a = c.self.inside in
-    let ends = c.in-Some.ends in
     let es = map edge_of c.pop.new.self.items in
     let whole = ap (map edge_of) c.in-Some.ensures.items ∙ map_push edge_of c.pop.new.self.items ends in
     let t = subst (λ (fs : List Edge). AreTables (vec_capacity a.edges) (vec_capacity a.rows) fs a.place a.rows.items
     a.parents.items a.cycles.items) whole c.self.invariant in
     let w = last_within es ends.child.0 ends.parent.0 t in
-    let e = c.from-child.ensures in
-    let o = a.parents.ok in
     omega (arith, w.0, e, o)
+  where
+    open c use {self.inside as a, self.inside.parents.ok as o, in-Some.ends, from-child.ensures as e}
 
 pub without-requires : goal.without-requires
 without-requires g c =
-    let a = c.self.inside in
-    let ends = c.in-Some.ends in
     let es = map edge_of c.pop.new.self.items in
     let whole = ap (map edge_of) c.in-Some.ensures.items ∙ map_push edge_of c.pop.new.self.items ends in
     let t = subst (λ (fs : List Edge). AreTables (vec_capacity a.edges) (vec_capacity a.rows) fs a.place a.rows.items
@@ -36,27 +32,22 @@ without-requires g c =
     let l = t.wide in
     let width = t.width in
     (search (rules, width), omega (arith, w.1, l))
+  where
+    open c use {self.inside as a, in-Some.ends}
 
 pub index_mut-requires : goal.index_mut-requires
 index_mut-requires g c =
-    let a = c.self.inside in
-    let ends = c.in-Some.ends in
     let es = map edge_of c.pop.new.self.items in
     let whole = ap (map edge_of) c.in-Some.ensures.items ∙ map_push edge_of c.pop.new.self.items ends in
     let t = subst (λ (fs : List Edge). AreTables (vec_capacity a.edges) (vec_capacity a.rows) fs a.place a.rows.items
     a.parents.items a.cycles.items) whole c.self.invariant in
     let w = last_within es ends.child.0 ends.parent.0 t in
-    let e = c.from-child.ensures in
-    let o = a.parents.ok in
     omega (arith, w.0, e, o)
+  where
+    open c use {self.inside as a, self.inside.parents.ok as o, in-Some.ends, from-child.ensures as e}
 
 pub invariant_of-self : goal.invariant_of-self
 invariant_of-self g c =
-    let a = c.self.inside in
-    let ends = c.in-Some.ends in
-    let k = ends.child.0 in
-    let i = c.from-child.result in
-    let r = c.without.result in
     let room = vec_capacity c.pop.new.self in
     let es = map edge_of c.pop.new.self.items in
     let whole = ap (map edge_of) c.in-Some.ensures.items ∙ map_push edge_of c.pop.new.self.items ends in
@@ -74,3 +65,11 @@ invariant_of-self g c =
     (tables_pop es k ends.parent.0 t room (a.place - c.len.result) r
     (let q = c.in-Some.ensures.capacity in let s = t.reserved in omega (arith, q, s))
     (place_back es k ends.parent.0 t c.len.result size) taken)
+  where
+    open c use {
+      self.inside as a,
+      in-Some.ends,
+      in-Some.ends.child.0 as k,
+      from-child.result as i,
+      without.result as r,
+    }

@@ -20,38 +20,33 @@ use Rattle.olap_trail.proofs.drawing.Drawn.push.Goals as goal
 
 pub fill-requires : goal.fill-requires
 fill-requires g c =
-    let a = c.self.inside in
-    let width = c.self.invariant.width in
-    let n = c.len-count.ensures in
-    let o = a.parents.ok in
     let full = subst (λ (v : Drawing). length v.edges + 1 < v.room) (sym c.self.view_is) c.requires.room in
     let f = next_fits c.self.invariant full in
     (search (rules, width), omega (arith, n, o, f))
+  where
+    open c use {self.inside as a, self.invariant.width, self.inside.parents.ok as o, len-count.ensures as n}
 
 pub draw-requires : goal.draw-requires
 draw-requires g c =
-    let a = c.self.inside in
-    let width = c.self.invariant.width in
-    let wide = c.self.invariant.wide in
-    let n = c.len-count.ensures in
-    let o = a.parents.ok in
     let f = c.fill.ensures.enough in
     let l = ap length c.deref_mut.ensures.value in
     (search (rules, width), (omega (arith, n, o, wide, width.1), omega (arith, f, l)))
+  where
+    open c use {
+      self.inside as a,
+      self.invariant.width,
+      self.invariant.wide,
+      self.inside.parents.ok as o,
+      len-count.ensures as n,
+    }
 
 pub invariant_of-self : goal.invariant_of-self
 invariant_of-self g c =
-    let a = c.self.inside in
-    let ends = c.args.ends in
-    let k = ends.child.0 in
-    let p = ends.parent.0 in
     let es = map edge_of a.edges.items in
     let room = vec_capacity c.push.new.self in
     let n = length a.parents.items in
     let place = a.place + c.len-count.result in
-    let filled = c.fill.new.rows in
     let set_room = vec_capacity filled in
-    let rows = c.draw.new.rows in
     let through = members c.above-through.result in
     let size : c.len-count.result ≡ n = let l = c.len-count.ensures in let o = a.parents.ok in omega (arith, l, o) in
     let child = subst (λ (v : Drawing). k < v.count) (sym c.self.view_is) c.requires.child in
@@ -85,7 +80,7 @@ invariant_of-self g c =
     let written = take_at rows (drop (length rows) filled.items) filled.len
     (c.draw.ensures.count ∙ c.deref_mut.ensures.len) in
     let reserved : length a.cycles.items ≤ room + 1 =
-    let r = c.self.invariant.reserved in let q = c.push.ensures.capacity in omega (arith, r, q) in
+    let q = c.push.ensures.capacity in omega (arith, r, q) in
     let marks = slice_set a.cycles.items c.len.result c.closes_cycle-closes.result in
     let left = take filled.len (rows ++ drop (length rows) filled.items) in
     let nexts = slice_set a.parents.items c.from-child.result c.with.result in
@@ -95,6 +90,16 @@ invariant_of-self g c =
     (sym c.from-child.ensures)
     (tables_push tables k p room place c.len.result rows c.with.result c.closes_cycle-closes.result through child parent
     full new reserved fits (ap (λ j. a.place + j) size) stage copied above own cyclic)))
+  where
+    open c use {
+      self.inside as a,
+      self.invariant.reserved as r,
+      args.ends,
+      args.ends.child.0 as k,
+      args.ends.parent.0 as p,
+      fill.new.rows as filled,
+      draw.new.rows,
+    }
 
 pub index-requires : goal.index-requires
 index-requires g c =
@@ -108,19 +113,18 @@ index_mut-requires g c =
 
 pub with-requires : goal.with-requires
 with-requires g c =
-    let width = c.self.invariant.width in
-    let wide = c.self.invariant.wide in
     let parent = subst (λ (v : Drawing). c.args.ends.parent.0 < v.count) (sym c.self.view_is) c.requires.parent in
     (search (rules, width), omega (arith, parent, wide))
+  where
+    open c use {self.invariant.width, self.invariant.wide}
 
 pub unwrap-requires : goal.unwrap-requires
 unwrap-requires g c =
-    let a = c.self.inside in
     let full = subst (λ (v : Drawing). length v.edges + 1 < v.room) (sym c.self.view_is) c.requires.room in
     let m = length-map a.edges.items edge_of in
-    let r = c.self.invariant.reserved in
-    let o = a.edges.ok in
     c.push.ensures.succeeds (omega (arith, full, m, r, o))
+  where
+    open c use {self.inside as a, self.invariant.reserved as r, self.inside.edges.ok as o}
 
 pub index_mut-requires-2 : goal.index_mut-requires-2
 index_mut-requires-2 g c =
@@ -134,8 +138,6 @@ index_mut-requires-2 g c =
 
 pub returns : goal.returns
 returns g c =
-    let a = c.self.inside in
-    let ends = c.args.ends in
     let grown = pushed (is_ok c.push.result) c.push.new.self.items (a.edges.items ++ ends ∷ []) a.edges.items
     (ap is_ok c.unwrap.ensures) c.push.ensures.items in
     let edges = ap (map edge_of) grown ∙ map_push edge_of a.edges.items ends in
@@ -144,3 +146,5 @@ returns g c =
     drawn_more _ c.args.self.now _ (count ∙ ap (λ (v : Drawing). v.count) c.self.view_is)
     (room ∙ ap (λ (v : Drawing). v.room) c.self.view_is)
     (edges ∙ ap (λ (v : Drawing). v.edges ++ edge_of ends ∷ []) c.self.view_is)
+  where
+    open c use {self.inside as a, args.ends}

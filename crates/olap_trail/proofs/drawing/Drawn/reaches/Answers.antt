@@ -7,10 +7,6 @@ use Rattle.olap_trail.proofs.drawing.Drawn.reaches.Goals as goal
 
 pub returns-else-c-d : goal.returns-else-c-d
 returns-else-c-d g c =
-    let a = c.self.inside in
-    let x = c.args.c.0 in
-    let y = c.args.d.0 in
-    let r = c.index.result.now in
     let inside : x < length a.parents.items = subst (λ (v : Drawing). x < v.count) (sym c.self.view_is) c.requires in
     let beyond = subst (λ (v : Drawing). IsBeyond v.edges x (members r)) c.self.view_is
     (beyond_read c.self.invariant x (a.place + c.from.result) r inside (ap (λ j. a.place + j) c.from.ensures)
@@ -18,3 +14,5 @@ returns-else-c-d g c =
       λ h. inr ((beyond y).0 (sym c.has.ensures ∙ h)),
       λ o. elim o [ inl e ↦ absurd (c.if-c-d.false e) | inr w ↦ c.has.ensures ∙ (beyond y).1 w ],
     )
+  where
+    open c use {self.inside as a, args.c.0 as x, args.d.0 as y, index.result.now as r}

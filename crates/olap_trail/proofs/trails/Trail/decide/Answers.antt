@@ -17,7 +17,6 @@ use Rattle.olap_trail.proofs.trails.Trail.decide.Goals as goal
 
 pub unwrap-requires : goal.unwrap-requires
 unwrap-requires g c =
-    let a = c.self.inside in
     let d : Decision = record { edge = c.args.edge.0; present = c.args.present } in
     let ds = decisions_of a.decisions.items in
     let inside = subst (λ (v : Decided). c.args.edge.0 < length v.graph.edges) (sym c.self.view_is) c.requires.edge in
@@ -27,13 +26,12 @@ unwrap-requires g c =
     let n = few_decisions (whole a.graph a.root.0 ds d) held in
     let l = length_push ds d in
     let m = length-map a.decisions.items decision_of in
-    let r = c.self.invariant.reserved in
-    let o = a.decisions.ok in
     c.push.ensures.succeeds (omega (arith, n, l, m, r, o))
+  where
+    open c use {self.inside as a, self.invariant.reserved as r, self.inside.decisions.ok as o}
 
 pub push-requires-then-present : goal.push-requires-then-present
 push-requires-then-present g c =
-    let a = c.self.inside in
     let d : Decision = record { edge = c.args.edge.0; present = c.args.present } in
     let ds = decisions_of a.decisions.items in
     let inside = subst (λ (v : Decided). c.args.edge.0 < length v.graph.edges) (sym c.self.view_is) c.requires.edge in
@@ -46,8 +44,6 @@ push-requires-then-present g c =
     let l = length_push ds d in
     let p = few_present (decided a) in
     let q = ap length c.self.invariant.edges in
-    let room = c.self.invariant.room in
-    let count = c.self.invariant.count in
     let child = subst (λ (v : Decided). IsCategory v.graph c.ends-ends.result.child.0) (sym c.self.view_is)
     c.ends-ends.ensures.child in
     let parent = subst (λ (v : Decided). IsCategory v.graph c.ends-ends.result.parent.0) (sym c.self.view_is)
@@ -70,6 +66,8 @@ push-requires-then-present g c =
         ),
       ),
     )
+  where
+    open c use {self.inside as a, self.invariant.room, self.invariant.count}
 
 pub invariant_of-self : goal.invariant_of-self
 invariant_of-self g c =

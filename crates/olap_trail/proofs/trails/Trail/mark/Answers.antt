@@ -8,10 +8,8 @@ use Rattle.olap_trail.proofs.trails.Trail.mark.Goals as goal
 
 pub overflow_cast-result : goal.overflow_cast-result
 overflow_cast-result g c =
-    let a = c.self.inside in
     let n = few_decisions (decided a) c.self.invariant.decisions in
     let m = length-map a.decisions.items decision_of in
-    let f = c.self.invariant.few_edges in
-    let l = c.len.ensures in
-    let o = a.decisions.ok in
     omega (arith, n, m, f, l, o)
+  where
+    open c use {self.inside as a, self.invariant.few_edges as f, self.inside.decisions.ok as o, len.ensures as l}

@@ -11,11 +11,10 @@ use Rattle.olap_trail.proofs.trails.Trail.reaches.Goals as goal
 
 pub returns : goal.returns
 returns g c =
-    let x = c.args.c.0 in
-    let y = c.args.d.0 in
-    let r = c.reaches.result in
     let read = subst (λ (es : List Edge). IsTrue r ↔ ((x ≡ y) ⊎ Climb (Joins es) x y)) c.self.invariant.edges
     c.reaches.ensures in
     let q = reaches_is (present_edges (decided c.self.inside)) x y in
     subst (λ (v : Decided). IsTrue r ↔ CategoryReaches (present_graph v) x y) c.self.view_is
     (λ m. q.0 (read.0 m), λ w. read.1 (q.1 w))
+  where
+    open c use {args.c.0 as x, args.d.0 as y, reaches.result as r}

@@ -11,8 +11,6 @@ use Rattle.olap_trail.proofs.trails.Trail.take_back.Goals as goal
 
 pub index_mut-requires : goal.index_mut-requires
 index_mut-requires g c =
-    let a = c.self.inside in
-    let last = c.in-Some.last in
     let d = decision_of last in
     let ds = decisions_of c.pop.new.self.items in
     let split : decisions_of a.decisions.items ≡ ds ++ d ∷ [] =
@@ -21,15 +19,18 @@ index_mut-requires g c =
     subst (λ es. AreDecisions (record { graph = a.graph; root = a.root.0; decisions = es })) split
     c.self.invariant.decisions in
     let l = last_edge a.graph a.root.0 ds d held in
-    let e = c.from.ensures in
-    let s = c.self.invariant.size in
-    let o = a.statuses.ok in
     omega (arith, l, e, s, o)
+  where
+    open c use {
+      self.inside as a,
+      self.invariant.size as s,
+      self.inside.statuses.ok as o,
+      in-Some.last,
+      from.ensures as e,
+    }
 
 pub invariant_of-self : goal.invariant_of-self
 invariant_of-self g c =
-    let a = c.self.inside in
-    let last = c.in-Some.last in
     let d = decision_of last in
     let ds = decisions_of c.pop.new.self.items in
     let split : decisions_of a.decisions.items ≡ ds ++ d ∷ [] =
@@ -59,11 +60,11 @@ invariant_of-self g c =
           statuses_pop a.statuses.items ds d c.from.result c.from.ensures inside (last_new a.graph a.root.0 ds d held)
           (λ e. c.self.invariant.statuses e ∙ ap (λ es. status_in es e) split);
     }
+  where
+    open c use {self.inside as a, in-Some.last}
 
 pub invariant_of-self-else-last : goal.invariant_of-self-else-last
 invariant_of-self-else-last g c =
-    let a = c.self.inside in
-    let last = c.in-Some.last in
     let d = decision_of last in
     let ds = decisions_of c.pop.new.self.items in
     let split : decisions_of a.decisions.items ≡ ds ++ d ∷ [] =
@@ -91,3 +92,5 @@ invariant_of-self-else-last g c =
           statuses_pop a.statuses.items ds d c.from.result c.from.ensures inside (last_new a.graph a.root.0 ds d held)
           (λ e. c.self.invariant.statuses e ∙ ap (λ es. status_in es e) split);
     }
+  where
+    open c use {self.inside as a, in-Some.last}

@@ -20,11 +20,7 @@ returns-in_err-fact-clause-views c = λ g i categories fed h.
 
 pub returns-clause-views : goal.returns-clause-views
 returns-clause-views c = λ g i categories fed h.
-    let feed = c.self.inside.feed in
-    let tally = c.self.inside.tally in
     let k = subst (HasTaken g i categories fed) (sym c.self.view_is) h in
-    let last = c.in_ok-fact.field-0 in
-    let after = c.match-branch-2.tally in
     let added : IsAdded tally after k.facts (facts_if last) =
     elim c.match-branch-2.branch [
       | in-Some w ↦
@@ -45,3 +41,5 @@ returns-clause-views c = λ g i categories fed h.
     rolled-up g i categories fed feed tally c.self.invariant k (facts_if last) after
     (each_view_of c.in_ok-into_views.field-0) (c.in_ok-fact.ensures.reads fed k.facts k.reads) added
     c.in_ok-into_views.ensures.views
+  where
+    open c use {self.inside.feed, self.inside.tally, in_ok-fact.field-0 as last, match-branch-2.tally as after}

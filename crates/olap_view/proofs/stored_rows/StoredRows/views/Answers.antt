@@ -18,14 +18,9 @@ nobody = record { 0 = 0 }
 pub categories-preserved : goal.categories-preserved
 unfolding nobody
 categories-preserved c =
-    let i = c.args.instance.now in
-    let t = c.args.self.now in
-    let cs = c.args.self.now.categories.items in
-    let k = c.categories.c-index in
     let d = get_or cs k nobody in
     let h : c.categories.c-index < length c.args.self.now.categories.items =
     let o = c.args.self.now.categories.ok in let q = c.categories-test.true in omega arith in
-    let inv = c.categories.invariant in
     let items = c.in_ok-push.ensures.items in
     record {
       views = ap each_view_of items
@@ -36,6 +31,14 @@ categories-preserved c =
       members = subst (λ (l : List told.View). All (λ w. All (λ r. r.member.0 < length i) w.rows) l) (sym items)
           (All-push (λ (w : told.View). All (λ r. r.member.0 < length i) w.rows) c.categories.views.items
           c.in_ok-view.view inv.members c.in_ok-view.ensures.members);
+    }
+  where
+    open c use {
+      args.instance.now as i,
+      args.self.now as t,
+      args.self.now.categories.items as cs,
+      categories.c-index as k,
+      categories.invariant as inv,
     }
 
 pub returns-clause-views : goal.returns-clause-views

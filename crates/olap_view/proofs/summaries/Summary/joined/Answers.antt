@@ -9,8 +9,6 @@ use Rattle.olap_base.proofs.GeneralLemmas.{in_64_bits}
 
 pub returns : goal.returns
 returns c =
-    let s = c.args.self in
-    let t = c.args.other in
     let u = c.requires.this in
     let v = c.requires.that in
     let lf : SFits w64 c.args.self.least = search rules in
@@ -26,3 +24,5 @@ returns c =
     let b : to_z w64 (of_z w64 c.max.result) ≡ int_max c.args.self.greatest c.args.other.greatest =
     to_z-of_z w64 c.max.result xf ∙ c.max.ensures.value ∙ in_64_bits int_max s.greatest t.greatest gf gg in
     rw (sum, a, b)
+  where
+    open c use {args.self as s, args.other as t}

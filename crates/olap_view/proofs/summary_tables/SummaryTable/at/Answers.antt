@@ -6,9 +6,9 @@ use Rattle.olap_view.proofs.summary_tables.SummaryTable.at.Goals as goal
 
 pub returns : goal.returns
 returns c =
-    let a = c.self.inside in
-    let y = c.args.y.0 in
     c.at.ensures
     ∙ sym (summarized_is a.legal.now a.table y
     (subst (λ (t : Summarized). y < length t.instance) (sym c.self.view_is) c.requires.among.member))
     ∙ ap (λ (t : Summarized). stands_at t y) c.self.view_is
+  where
+    open c use {self.inside as a, args.y.0 as y}

@@ -55,9 +55,6 @@ put-requires c =
 pub rows-preserved : goal.rows-preserved
 unfolding nobody
 rows-preserved c =
-    let inv = c.rows.invariant in
-    let read = c.items-row-items.result.now in
-    let k = c.rows.row-index in
     let row = get_or read k nobody in
     record {
       instance = c.put.ensures.instance ∙ inv.instance;
@@ -73,6 +70,8 @@ rows-preserved c =
           (subst (λ (cs : List ℕ). IsAmong c.args.self.now.instance cs y) (sym inv.categories) m))
           ∙ ap (λ (s : Summary). cond (y == row.member.0) (Some s) (stands_at c.rows.self y)) c.summary.ensures));
     }
+  where
+    open c use {rows.invariant as inv, rows.row-index as k, items-row-items.result.now as read}
 
 pub returns-clause-at : goal.returns-clause-at
 returns-clause-at c = λ y m.

@@ -24,13 +24,13 @@ join-requires-clause-columns c =
     c.self.invariant.1
 
 pub invariant_of-self : goal.invariant_of-self
-invariant_of-self c =
-    let a = c.self.inside in
-    let j = c.join.ensures in (
-      table_kept a.legal.now a.table c.join.new.self j.same_categories j.same_places j.same_length c.self.invariant.0,
-      subst (λ (cs : Vec CatId Global). AreColumns a.legal.now (ids cs.items) a.columns.items)
-          (sym j.same_categories) c.self.invariant.1,
-    )
+invariant_of-self c = (
+  table_kept a.legal.now a.table c.join.new.self j.same_categories j.same_places j.same_length c.self.invariant.0,
+  subst (λ (cs : Vec CatId Global). AreColumns a.legal.now (ids cs.items) a.columns.items)
+      (sym j.same_categories) c.self.invariant.1,
+)
+  where
+    open c use {self.inside as a, join.ensures as j}
 
 pub returns-clause-at : goal.returns-clause-at
 returns-clause-at c =

@@ -45,26 +45,32 @@ fill-requires-clause-among c =
 
 pub fill-requires-clause-order : goal.fill-requires-clause-order
 fill-requires-clause-order c =
-    let views = c.args.store.now.views in
-    let read = c.items-view-items.result.now in
-    let k = c.views.view-index in
-    let v = c.view-item.result in
-    let same = c.items-view-items.ensures in
     subst (λ (i : Instance). IsInFileOrder i (view_of v)) (sym c.views.invariant.instance)
     (each_view (IsInFileOrder c.args.legal.now) views k v (inside views read k v same c.views-test.true c.view-item.is)
     (here views read k v same c.views-test.true c.view-item.is) c.requires.order)
+  where
+    open c use {
+      args.store.now.views,
+      items-view-items.result.now as read,
+      items-view-items.ensures as same,
+      views.view-index as k,
+      view-item.result as v,
+    }
 
 pub views-preserved : goal.views-preserved
 views-preserved c =
-    let views = c.args.store.now.views in
-    let read = c.items-view-items.result.now in
-    let k = c.views.view-index in
-    let v = c.view-item.result in
-    let same = c.items-view-items.ensures in
     filled_next c.args.legal.now (views_of c.args.store.now) k c.views.table c.fill.new.self c.requires.differ
     c.requires.order (inside_each views read k v same c.views-test.true c.view-item.is) (view_of v)
     (here_each views read k v same c.views-test.true c.view-item.is) c.views.invariant c.fill.ensures.instance
     c.fill.ensures.categories c.fill.ensures.at
+  where
+    open c use {
+      args.store.now.views,
+      items-view-items.result.now as read,
+      items-view-items.ensures as same,
+      views.view-index as k,
+      view-item.result as v,
+    }
 
 pub returns-clause-views : goal.returns-clause-views
 returns-clause-views c =

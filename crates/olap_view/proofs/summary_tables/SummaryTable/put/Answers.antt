@@ -9,12 +9,11 @@ use Rattle.olap_view.proofs.summary_tables.SummaryTable.put.Goals as goal
 
 pub returns-clause-at : goal.returns-clause-at
 returns-clause-at c =
-    let a = c.self.inside in
-    let y = c.args.y.0 in
-    let p = c.put.ensures in
     subst (λ (t : Summarized). (z : ℕ) → IsAmong t.instance t.categories z
     → stands_at (summarized a.legal.now c.put.new.self) z
     ≡ cond (z == y) (Some (summary_of c.args.summary)) (stands_at t z)) c.self.view_is
     (put_at a.legal.now a.table c.put.new.self y c.args.summary c.self.invariant.0.places
     (subst (λ (t : Summarized). IsAmong t.instance t.categories y) (sym c.self.view_is) c.requires.among)
     p.places p.summaries)
+  where
+    open c use {self.inside as a, args.y.0 as y, put.ensures as p}

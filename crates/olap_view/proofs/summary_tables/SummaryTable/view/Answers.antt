@@ -11,9 +11,9 @@ use Rattle.olap_base.proofs.GeneralLemmas.{if_ok}
 
 pub returns-clause-view : goal.returns-clause-view
 returns-clause-view c =
-    let a = c.self.inside in
-    let d = c.args.c.0 in
     if_ok c.view.result (λ (v : told.View). view_of v ≡ view_in c.instance.result.now a.table d)
     (λ (v : told.View). view_of v ≡ view_at c.args.self.now d)
     (λ v e. e ∙ ap (λ (i : Instance). view_in i a.table d) c.instance.ensures ∙ view_at-is a.legal.now a.table d
     ∙ ap (λ (t : Summarized). view_at t d) c.self.view_is) c.view.ensures.view
+  where
+    open c use {self.inside as a, args.c.0 as d}

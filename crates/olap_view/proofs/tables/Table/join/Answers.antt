@@ -13,10 +13,6 @@ use Rattle.olap_view.proofs.tables.Table.join.Goals as goal
 
 pub join_in-requires-clause-column : goal.join_in-requires-clause-column
 join_in-requires-clause-column c =
-    let i = c.args.legal.now in
-    let t = c.args.self.now in
-    let k = c.categories.k in
-    let d = c.index-c.result.now in
     let same : c.categories.self.categories.items ≡ t.categories.items =
     ap (λ v. v.items) c.categories.invariant.same_categories in
     let is : d ≡ get_or t.categories.items k d = c.index-c.ensures ∙ ap (λ (l : List CatId). get_or l k d) same in
@@ -26,14 +22,11 @@ join_in-requires-clause-column c =
     let at : get_or (categories_of t) k 0 ≡ d.0 =
     get_or-map (λ e. e.0) t.categories.items k d 0 h ∙ ap (λ e. e.0) (sym is) in
     c.index-columns-k.is ∙ c.requires.columns.each k c.index-columns-k.result inside ∙ ap (ascent i) at
+  where
+    open c use {args.legal.now as i, args.self.now as t, categories.k, index-c.result.now as d}
 
 pub join_in-requires-clause-room : goal.join_in-requires-clause-room
 join_in-requires-clause-room c = λ y m e.
-    let i = c.args.legal.now in
-    let t = c.args.self.now in
-    let j = c.categories.invariant in
-    let k = c.categories.k in
-    let d = c.index-c.result.now in
     let same : c.categories.self.categories.items ≡ t.categories.items = ap (λ v. v.items) j.same_categories in
     let is : d ≡ get_or t.categories.items k d = c.index-c.ensures ∙ ap (λ (l : List CatId). get_or l k d) same in
     let h : c.categories.k < length c.args.self.now.categories.items =
@@ -45,14 +38,17 @@ join_in-requires-clause-room c = λ y m e.
     (sym (untouched i (ids (take k t.categories.items)) d.0 c.args.x.0 (summary_of c.args.summary) t c.categories.self j
     (id_fresh t.categories.items k d h is c.requires.differ) y among e))
     (c.requires.room d.0 in_it y m e)
+  where
+    open c use {
+      args.legal.now as i,
+      args.self.now as t,
+      categories.invariant as j,
+      categories.k,
+      index-c.result.now as d,
+    }
 
 pub categories-preserved : goal.categories-preserved
 categories-preserved c =
-    let i = c.args.legal.now in
-    let t = c.args.self.now in
-    let j = c.categories.invariant in
-    let k = c.categories.k in
-    let d = c.index-c.result.now in
     let s = summary_of c.args.summary in
     let same : c.categories.self.categories.items ≡ t.categories.items = ap (λ v. v.items) j.same_categories in
     let is : d ≡ get_or t.categories.items k d = c.index-c.ensures ∙ ap (λ (l : List CatId). get_or l k d) same in
@@ -62,3 +58,11 @@ categories-preserved c =
     (sym (ids_more t.categories.items k d h is))
     (so_far_step i (ids (take k t.categories.items)) d.0 c.args.x.0 s t c.categories.self j
     (id_fresh t.categories.items k d h is c.requires.differ) c.join_in.new.self c.join_in.ensures)
+  where
+    open c use {
+      args.legal.now as i,
+      args.self.now as t,
+      categories.invariant as j,
+      categories.k,
+      index-c.result.now as d,
+    }

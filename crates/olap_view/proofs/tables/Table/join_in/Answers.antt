@@ -18,9 +18,6 @@ ancestor-requires c = subst (λ (w : Ascent). c.args.x.0 < length w.instance) (s
 
 pub returns-in-Some : goal.returns-in-Some
 returns-in-Some c =
-    let i = c.args.legal.now in
-    let t = c.args.self.now in
-    let y = c.in-Some.y.0 in
     let s = summary_of c.args.summary in
     let a = subst (λ (w : Ascent). IsAncestor w.instance c.args.x.0 w.category y) c.requires.column
     c.in-Some.ensures.some in
@@ -40,6 +37,8 @@ returns-in-Some c =
     joined_some i c.args.c.0 c.args.x.0 s t c.requires.places c.requires.among y (Some c.beside.result)
     _ a refl refl (ap (λ k. set t.summaries.items k (Some c.beside.result)) place)
     (c.beside.ensures ∙ ap (λ o. option_map summary_of o ⊕ Some s) there)
+  where
+    open c use {args.legal.now as i, args.self.now as t, in-Some.y.0 as y}
 
 pub returns-in_default : goal.returns-in_default
 returns-in_default c =

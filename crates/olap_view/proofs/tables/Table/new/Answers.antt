@@ -15,9 +15,7 @@ places-init c =
 
 pub places-preserved : goal.places-preserved
 places-preserved c =
-    let i = c.args.instance.now in
     let cs = ids c.args.categories.now in
-    let y = c.places.y in
     let inside : y < length i = let e = c.members-members.ensures.count in let t = c.places-test.true in omega arith in
     elim c.if-is_among.branch [
       | then-is_among w ↦ rw (w.places-is, w.count-is)
@@ -27,3 +25,5 @@ places-preserved c =
           (λ m. let t = c.is_among.ensures.1 (subst (Contains cs) (sym c.category.ensures) m) in
           let z : false ≡ true = sym w.if-is_among.false ∙ t in cc))
     ]
+  where
+    open c use {args.instance.now as i, places.y}

@@ -16,13 +16,11 @@ use Rattle.olap_base.proofs.GeneralLemmas.{none_from_never}
 
 pub rows-preserved : goal.rows-preserved
 rows-preserved c =
-    let i = c.args.instance.now in
     let t = c.args.self.now in
     let h : ℕ → Option (Row ℕ) = λ y. row_at y (summary_at t y) in
     let p = λ (y : ℕ). category_of i y == c.args.c.0 in
     let y = c.rows.y in
     let old = rows_of c.rows.rows.items in
-    let members = c.rows.invariant.members in
     let inside : c.rows.y < length c.args.instance.now = let t = c.rows-test.true in let e =
     c.members-y-end.ensures.count in omega arith in
     elim c.if-category-c.branch [
@@ -58,3 +56,5 @@ rows-preserved c =
             (sym (ap (λ v. v.items) w.rows-is)) members;
       }
     ]
+  where
+    open c use {args.instance.now as i, rows.invariant.members}

@@ -17,26 +17,20 @@ nobody = record { 0 = 0 }
 pub view-requires-clause-among : goal.view-requires-clause-among
 unfolding nobody
 view-requires-clause-among c =
-    let t = c.args.self.now in
-    let cs = c.args.self.now.categories.items in
-    let k = c.categories.c-index in
     let d = get_or cs k nobody in
     let h : c.categories.c-index < length c.args.self.now.categories.items =
     let o = c.args.self.now.categories.ok in let q = c.categories-test.true in omega arith in
     subst (λ (l : List CatId). Contains (categories_of t) (get_or l k nobody).0) (sym c.deref-c-items.ensures.value)
     (id_in cs k d h (get_or_default cs k nobody d h))
+  where
+    open c use {args.self.now as t, args.self.now.categories.items as cs, categories.c-index as k}
 
 pub categories-preserved : goal.categories-preserved
 unfolding nobody
 categories-preserved c =
-    let i = c.args.instance.now in
-    let t = c.args.self.now in
-    let cs = c.args.self.now.categories.items in
-    let k = c.categories.c-index in
     let d = get_or cs k nobody in
     let h : c.categories.c-index < length c.args.self.now.categories.items =
     let o = c.args.self.now.categories.ok in let q = c.categories-test.true in omega arith in
-    let inv = c.categories.invariant in
     let items = c.in_ok-push.ensures.items in
     record {
       views = ap each_view_of items
@@ -47,6 +41,14 @@ categories-preserved c =
       members = subst (λ (l : List told.View). All (λ w. All (λ r. r.member.0 < length i) w.rows) l) (sym items)
           (All-push (λ (w : told.View). All (λ r. r.member.0 < length i) w.rows) c.categories.views.items
           c.in_ok-view.view inv.members c.in_ok-view.ensures.members);
+    }
+  where
+    open c use {
+      args.instance.now as i,
+      args.self.now as t,
+      args.self.now.categories.items as cs,
+      categories.c-index as k,
+      categories.invariant as inv,
     }
 
 pub returns-clause-views : goal.returns-clause-views

@@ -13,9 +13,6 @@ nothing = record { member = record { 0 = 0 }; value = pos 0 }
 pub facts-preserved : goal.facts-preserved
 unfolding nothing
 facts-preserved c =
-    let xs = c.args.facts.now in
-    let k = c.facts.fact-index in
-    let inv = c.facts.invariant in
     let f = fact_of (get_or xs k nothing) in
     let more = ap (map fact_of) (take_more xs k nothing c.facts-test.true)
     ∙ map-append fact_of (take k xs) (get_or xs k nothing ∷ []) in
@@ -29,3 +26,5 @@ facts-preserved c =
           subst (λ (fs : List (Fact ℕ)). StandsFor c.add_to_table.new.self fs) whole
           (c.add_to_table.ensures.stands (before ++ map fact_of (take k xs)) (inv.stands before s));
     }
+  where
+    open c use {args.facts.now as xs, facts.fact-index as k, facts.invariant as inv}

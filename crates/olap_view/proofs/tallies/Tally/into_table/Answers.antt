@@ -25,8 +25,6 @@ join_waiting-requires-clause-waiting c =
 
 pub returns-clause-table : goal.returns-clause-table
 returns-clause-table c =
-    let a = c.self.inside in
-    let j = c.join_waiting.ensures in
     subst (λ (t : Tallied). IsTableOf t c.join_waiting.new.table) c.self.view_is (record {
       instance = j.instance;
       categories = j.categories;
@@ -34,12 +32,11 @@ returns-clause-table c =
           ∙ ap (λ (ws : Waiting). stands_at a.table y ⊕ waiting_at a.table.instance ws y) c.deref.ensures.value
           ∙ sym (tallied_is a.table a.waiting.items a.added y m.member);
     })
+  where
+    open c use {self.inside as a, join_waiting.ensures as j}
 
 pub returns-clause-fit : goal.returns-clause-fit
 returns-clause-fit c = λ d k.
-    let a = c.self.inside in
-    let j = c.join_waiting.ensures in
-    let q = c.self.invariant in
     view_stored (tallied a.table a.waiting.items a.added) c.join_waiting.new.table (record {
       instance = j.instance;
       categories = j.categories;
@@ -47,3 +44,5 @@ returns-clause-fit c = λ d k.
           ∙ ap (λ (ws : Waiting). stands_at a.table y ⊕ waiting_at a.table.instance ws y) c.deref.ensures.value
           ∙ sym (tallied_is a.table a.waiting.items a.added y m.member);
     }) d q.facts (subst (λ (t : Tallied). Contains t.categories d) (sym c.self.view_is) k) q.few q.values q.stands
+  where
+    open c use {self.inside as a, self.invariant as q, join_waiting.ensures as j}

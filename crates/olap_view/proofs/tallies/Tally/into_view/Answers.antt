@@ -19,18 +19,17 @@ view-requires c = record {
 
 pub returns-clause-view : goal.returns-clause-view
 returns-clause-view c =
-    let a = c.args.self in
-    let t = c.into_table-table.result in
-    let d = c.args.c.0 in
     if_ok c.view.result (λ (v : told.View). view_of v ≡ view_at t d)
     (λ (v : told.View). (facts : List (Fact ℕ)) → StandsFor a facts → view_of v
     ≡ direct_view (members a.instance) facts d)
     (λ v e facts s. e ∙ view_is a t c.into_table-table.ensures.table d facts c.requires.among s) c.view.ensures.view
+  where
+    open c use {args.self as a, args.c.0 as d, into_table-table.result as t}
 
 pub returns-clause-fits : goal.returns-clause-fits
 returns-clause-fits c =
-    let t = c.into_table-table.result in
-    let d = c.args.c.0 in
     if_ok c.view.result (λ (v : told.View). view_of v ≡ view_at t d)
     (λ (v : told.View). Fits (view_of v))
     (λ v e. subst Fits (sym e) (c.into_table-table.ensures.fit d c.requires.among)) c.view.ensures.view
+  where
+    open c use {into_table-table.result as t, args.c.0 as d}
