@@ -1,91 +1,47 @@
 -- What holds of each atom of the constraints and of a question that are of the graph.
---     each_equality      of each atom on names of a formula
---     each_comparison    of each atom on numbers
-use Rattle.std.proofs.Common.{◌≡◌, ℕ, ℤ, List, [], ◌∷◌, true, false}
+--     atoms_are_of    each atom of a formula of the graph is of the graph
+--     all_each        so what holds of each atom on names that is holds of those of a schema and a question
+use Rattle.std.proofs.Common.{◌≡◌, ℕ, List, [], ◌∷◌, true, false, get_or}
+use Rattle.std.proofs.lemmas.List.Elements.{All-append, All-cons, All-contains, All-contains_itself, All-nil}
 use Rattle.std.specs.Prelude.{All, Contains, flat_map, ◌≤◌, length}
-use Rattle.std.proofs.lemmas.List.Elements.{All-append, All-cons, All-contains, All-nil}
-use Rattle.olap_base.specs.Deciding.{contains_cons}
-use Rattle.olap_base.specs.Graph.{Graph, IsCategory, is_number}
-use Rattle.olap_base.specs.Limits.{most_text_bytes}
-use Rattle.olap_base.proofs.ListLemmas.{contains_head}
+use Rattle.olap_base.{proofs.ListLemmas.contains_head, specs.Deciding.contains_cons}
+use Rattle.olap_base.specs.{Graph.{Graph, IsCategory, is_number}, Limits.most_text_bytes}
 use Rattle.olap_numerals.specs.Numerals.{IsSmall}
-use Rattle.olap_ast.specs.Atoms.{Comparison, Equality, all_comparisons, all_equalities, comparisons, comparisons_of_terms, equalities, equalities_of_terms}
-use Rattle.olap_ast.specs.Constants.{HasKinds}
-use Rattle.olap_ast.specs.Formula.{Formula, Formula.And, Formula.Compare, Formula.Equals, Formula.Falsity, Formula.Iff, Formula.Implies, Formula.Not, Formula.One, Formula.Or, Formula.Path, Formula.Reach, Formula.Truth, Formula.Via, Formula.Xor, Terms, Terms.End, Terms.More}
-use Rattle.olap_ast.specs.Schema.{Constraint, Schema}
-use Rattle.olap_ast.proofs.ComparedLemmas.{atom_of_number, atom_of_text}
-use Rattle.olap_ast.specs.Valid.{AreFormulasAt, IsFormulaAt}
+use Rattle.olap_ast.{proofs.ComparedLemmas.text_of_atom, specs.Atoms.{Equality, all_equalities}}
+use Rattle.olap_ast.specs.Constants.{HasKinds, all_compared}
+use Rattle.olap_ast.specs.Formula.{Compared, Constant, Constant.ANumber, Constant.AText, Formula, Formula.And, Formula.Compare, Formula.Equals, Formula.Iff, Formula.Implies, Formula.Not, Formula.One, Formula.Or, Formula.Xor, Terms, Terms.End, Terms.More, compared, compared_in}
+use Rattle.olap_ast.specs.{Schema.{Constraint, Schema}, Valid.{AreFormulasAt, IsFormulaAt}}
 
 -- ---- the atoms of one formula
 
--- it holds of each atom on names that is of the graph
-abbrev pub OfNames : Graph → (Equality → Type 0) → Type 0
-OfNames g P = (d : ℕ) (k : List ℕ) → IsCategory g d × (is_number g d ≡ false) × (length k ≤ most_text_bytes)
-    → P (record { category = d; text = k })
+-- a constant with which the names of a category's members can be compared
+abbrev Fits : Graph → ℕ → Constant → Type 0
+Fits g d (AText k) = IsCategory g d × (is_number g d ≡ false) × (length k ≤ most_text_bytes)
+Fits g d (ANumber n) = IsCategory g d × (is_number g d ≡ true) × IsSmall n
 
--- it holds of each atom on numbers that is of the graph
-abbrev pub OfNumbers : Graph → (Comparison → Type 0) → Type 0
-OfNumbers g P = (d : ℕ) (n : ℤ) → IsCategory g d × (is_number g d ≡ true) × IsSmall n
-    → P (record { category = d; number = n })
-
-mutual
-  pub each_equality : (P : Equality → Type 0) (g : Graph) → OfNames g P → (r : ℕ) (f : Formula) → IsFormulaAt g r f
-      → All P (equalities f)
-  each_equality P g of r Truth v = All-nil P
-  each_equality P g of r Falsity v = All-nil P
-  each_equality P g of r (Path cs) v = All-nil P
-  each_equality P g of r (Reach d) v = All-nil P
-  each_equality P g of r (Via d e) v = All-nil P
-  each_equality P g of r (Equals d k) v = All-cons P (record { category = d; text = k }) [] (of d k v) (All-nil P)
-  each_equality P g of r (Compare d op n) v = All-nil P
-  each_equality P g of r (Not f) v = each_equality P g of r f v
-  each_equality P g of r (And f h) v = All-append P (equalities f) (equalities h) (each_equality P g of r f v.0)
-      (each_equality P g of r h v.1)
-  each_equality P g of r (Or f h) v = All-append P (equalities f) (equalities h) (each_equality P g of r f v.0)
-      (each_equality P g of r h v.1)
-  each_equality P g of r (Implies f h) v = All-append P (equalities f) (equalities h) (each_equality P g of r f v.0)
-      (each_equality P g of r h v.1)
-  each_equality P g of r (Iff f h) v = All-append P (equalities f) (equalities h) (each_equality P g of r f v.0)
-      (each_equality P g of r h v.1)
-  each_equality P g of r (Xor f h) v = All-append P (equalities f) (equalities h) (each_equality P g of r f v.0)
-      (each_equality P g of r h v.1)
-  each_equality P g of r (One ts) v = each_equality_of_terms P g of r ts v
-
-  each_equality_of_terms : (P : Equality → Type 0) (g : Graph) → OfNames g P → (r : ℕ) (ts : Terms)
-      → AreFormulasAt g r ts → All P (equalities_of_terms ts)
-  each_equality_of_terms P g of r End v = All-nil P
-  each_equality_of_terms P g of r (More f ts) v = All-append P (equalities f) (equalities_of_terms ts)
-      (each_equality P g of r f v.0) (each_equality_of_terms P g of r ts v.1)
+-- an atom is of the graph
+abbrev IsOf : Graph → Compared → Type 0
+IsOf g a = Fits g a.category a.constant
 
 mutual
-  pub each_comparison : (P : Comparison → Type 0) (g : Graph) → OfNumbers g P → (r : ℕ) (f : Formula)
-      → IsFormulaAt g r f → All P (comparisons f)
-  each_comparison P g of r Truth v = All-nil P
-  each_comparison P g of r Falsity v = All-nil P
-  each_comparison P g of r (Path cs) v = All-nil P
-  each_comparison P g of r (Reach d) v = All-nil P
-  each_comparison P g of r (Via d e) v = All-nil P
-  each_comparison P g of r (Equals d k) v = All-nil P
-  each_comparison P g of r (Compare d op n) v =
-      All-cons P (record { category = d; number = n }) [] (of d n v) (All-nil P)
-  each_comparison P g of r (Not f) v = each_comparison P g of r f v
-  each_comparison P g of r (And f h) v = All-append P (comparisons f) (comparisons h)
-      (each_comparison P g of r f v.0) (each_comparison P g of r h v.1)
-  each_comparison P g of r (Or f h) v = All-append P (comparisons f) (comparisons h)
-      (each_comparison P g of r f v.0) (each_comparison P g of r h v.1)
-  each_comparison P g of r (Implies f h) v = All-append P (comparisons f) (comparisons h)
-      (each_comparison P g of r f v.0) (each_comparison P g of r h v.1)
-  each_comparison P g of r (Iff f h) v = All-append P (comparisons f) (comparisons h)
-      (each_comparison P g of r f v.0) (each_comparison P g of r h v.1)
-  each_comparison P g of r (Xor f h) v = All-append P (comparisons f) (comparisons h)
-      (each_comparison P g of r f v.0) (each_comparison P g of r h v.1)
-  each_comparison P g of r (One ts) v = each_comparison_of_terms P g of r ts v
+  -- each atom of a formula of the graph is of the graph
+  atoms_are_of : (g : Graph) (r : ℕ) (f : Formula) → IsFormulaAt g r f → All (IsOf g) (compared f)
+  atoms_are_of g r (Equals d k) v = All-cons (IsOf g) _ [] v (All-nil (IsOf g))
+  atoms_are_of g r (Compare d op n) v = All-cons (IsOf g) _ [] v (All-nil (IsOf g))
+  atoms_are_of g r (Not f) v = atoms_are_of g r f v
+  atoms_are_of g r (And f h) v = All-append (IsOf g) _ _ (atoms_are_of g r f v.0) (atoms_are_of g r h v.1)
+  atoms_are_of g r (Or f h) v = All-append (IsOf g) _ _ (atoms_are_of g r f v.0) (atoms_are_of g r h v.1)
+  atoms_are_of g r (Implies f h) v = All-append (IsOf g) _ _ (atoms_are_of g r f v.0) (atoms_are_of g r h v.1)
+  atoms_are_of g r (Iff f h) v = All-append (IsOf g) _ _ (atoms_are_of g r f v.0) (atoms_are_of g r h v.1)
+  atoms_are_of g r (Xor f h) v = All-append (IsOf g) _ _ (atoms_are_of g r f v.0) (atoms_are_of g r h v.1)
+  atoms_are_of g r (One ts) v = atoms_of_terms_are_of g r ts v
+  atoms_are_of g r f v = All-nil (IsOf g)
 
-  each_comparison_of_terms : (P : Comparison → Type 0) (g : Graph) → OfNumbers g P → (r : ℕ) (ts : Terms)
-      → AreFormulasAt g r ts → All P (comparisons_of_terms ts)
-  each_comparison_of_terms P g of r End v = All-nil P
-  each_comparison_of_terms P g of r (More f ts) v = All-append P (comparisons f) (comparisons_of_terms ts)
-      (each_comparison P g of r f v.0) (each_comparison_of_terms P g of r ts v.1)
+  -- and of the parts of `one(..)`
+  atoms_of_terms_are_of : (g : Graph) (r : ℕ) (ts : Terms) → AreFormulasAt g r ts → All (IsOf g) (compared_in ts)
+  atoms_of_terms_are_of g r End v = All-nil (IsOf g)
+  atoms_of_terms_are_of g r (More f ts) v =
+      All-append (IsOf g) _ _ (atoms_are_of g r f v.0) (atoms_of_terms_are_of g r ts v.1)
 
 -- ---- the atoms of the constraints and of a question
 
@@ -93,49 +49,40 @@ mutual
 abbrev pub AreOf : Graph → List Constraint → Type 0
 AreOf g cs = (c : Constraint) → Contains cs c → IsFormulaAt g c.root c.formula
 
--- what holds of atoms on names holds of those of all constraints
-constraints_each : (P : Equality → Type 0) (g : Graph) → OfNames g P → (cs : List Constraint) → AreOf g cs
-    → All P (flat_map (λ c. equalities c.formula) cs)
-constraints_each P g of [] f = All-nil P
-constraints_each P g of (c ∷ cs) f =
-    All-append P (equalities c.formula) (flat_map (λ (d : Constraint). equalities d.formula) cs)
-    (each_equality P g of c.root c.formula (f c (contains_head c cs)))
-    (constraints_each P g of cs (λ d h. f d (contains_cons d cs c h)))
+-- each atom of them and of a question is of the graph
+all_are_of : (g : Graph) (cs : List Constraint) (r : ℕ) (q : Formula) → AreOf g cs → IsFormulaAt g r q
+    → All (IsOf g) (all_compared cs q)
+all_are_of g cs r q f v = All-append (IsOf g) _ _ (constraints cs f) (atoms_are_of g r q v)
+  where
+    constraints : (cs : List Constraint) → AreOf g cs → All (IsOf g) (flat_map (λ c. compared c.formula) cs)
+    constraints [] f = All-nil (IsOf g)
+    constraints (c ∷ cs) f = All-append (IsOf g) _ _ (atoms_are_of g c.root c.formula (f c (contains_head c cs)))
+        (constraints cs (λ d h. f d (contains_cons d cs c h)))
 
--- what holds of atoms on numbers holds of those of all constraints
-constraints_numbers : (P : Comparison → Type 0) (g : Graph) → OfNumbers g P → (cs : List Constraint) → AreOf g cs
-    → All P (flat_map (λ c. comparisons c.formula) cs)
-constraints_numbers P g of [] f = All-nil P
-constraints_numbers P g of (c ∷ cs) f =
-    All-append P (comparisons c.formula) (flat_map (λ (d : Constraint). comparisons d.formula) cs)
-    (each_comparison P g of c.root c.formula (f c (contains_head c cs)))
-    (constraints_numbers P g of cs (λ d h. f d (contains_cons d cs c h)))
+module _ (s : Schema) (r : ℕ) (q : Formula) (f : AreOf s.graph s.constraints) (v : IsFormulaAt s.graph r q) where
+  -- so is each with one of their constants
+  constant_fits : (d : ℕ) (k : Constant)
+      → Contains (all_compared s.constraints q) (record { category = d; constant = k })
+      → Fits s.graph d k
+  constant_fits d k c = All-contains (IsOf s.graph) (all_compared s.constraints q) _
+      (all_are_of s.graph s.constraints r q f v) c
 
--- and of those of the question
+  -- the atoms are of the kinds of their categories
+  pub has_kinds : HasKinds s q
+  has_kinds = record {
+    texts = λ d k c. (constant_fits d (AText k) c).1;
+    numbers = λ d n c. let t = constant_fits d (ANumber n) c in (t.1, t.2);
+  }
+
+-- it holds of each atom on names that is of the graph
+abbrev pub OfNames : Graph → (Equality → Type 0) → Type 0
+OfNames g P = (d : ℕ) (k : List ℕ) → IsCategory g d × (is_number g d ≡ false) × (length k ≤ most_text_bytes)
+    → P (record { category = d; text = k })
+
+-- so it holds of those of the constraints and of the question
 pub all_each : (P : Equality → Type 0) (s : Schema) (r : ℕ) (q : Formula) → OfNames s.graph P
     → AreOf s.graph s.constraints → IsFormulaAt s.graph r q → All P (all_equalities s q)
-all_each P s r q of f v =
-    All-append P (flat_map (λ (c : Constraint). equalities c.formula) s.constraints) (equalities q)
-    (constraints_each P s.graph of s.constraints f) (each_equality P s.graph of r q v)
-
--- and of those of the question, on numbers
-pub all_numbers : (P : Comparison → Type 0) (s : Schema) (r : ℕ) (q : Formula) → OfNumbers s.graph P
-    → AreOf s.graph s.constraints → IsFormulaAt s.graph r q → All P (all_comparisons s q)
-all_numbers P s r q of f v =
-    All-append P (flat_map (λ (c : Constraint). comparisons c.formula) s.constraints) (comparisons q)
-    (constraints_numbers P s.graph of s.constraints f) (each_comparison P s.graph of r q v)
-
--- ---- kinds
-
--- the atoms are of the kinds of their categories
-pub has_kinds : (s : Schema) (r : ℕ) (q : Formula) → AreOf s.graph s.constraints → IsFormulaAt s.graph r q
-    → HasKinds s q
-has_kinds s r q f v =
-    let T : Equality → Type 0 = λ a. is_number s.graph a.category ≡ false in
-    let N : Comparison → Type 0 = λ a. (is_number s.graph a.category ≡ true) × IsSmall a.number in
-    record {
-      texts = λ d text c. All-contains T (all_equalities s q) (record { category = d; text = text })
-          (all_each T s r q (λ e k h. h.1) f v) (atom_of_text s q d text c);
-      numbers = λ d n c. All-contains N (all_comparisons s q) (record { category = d; number = n })
-          (all_numbers N s r q (λ e k h. (h.1, h.2)) f v) (atom_of_number s q d n c);
-    }
+all_each P s r q of f v i d l =
+    let a = get_or (all_equalities s q) i d in
+    of a.category a.text (constant_fits s r q f v a.category (AText a.text)
+    (text_of_atom s q a.category a.text (All-contains_itself (all_equalities s q) i d l)))

@@ -1,27 +1,18 @@
 -- The fresh name and the candidates exist, whatever the schema and the question, and there is one fresh name.
 use Rattle.std.proofs.Common.{◌≡◌, ℕ, zero, suc, ◌+◌, ◌<◌, ◌≤◌, List, [], ◌∷◌, length, map, replicate, Bool, true, false, refl, ap, sym, subst, ◌∙◌, ◌⊎◌, inl, inr, arith, Ordering, Less, Equal, Greater, nat_cmp}
+use Rattle.std.proofs.lemmas.List.{length-append, length-replicate, Elements.All-cons, Kept.AllPairs-cons}
+use Rattle.std.specs.{Cmp.Lexicographic.{slice_cmp, texts_ties, nat_list_cmp_total}, Ordering.{ordering_reverse, is_eq}}
 use Rattle.std.specs.Prelude.{Contains, codes, All, AllPairs}
-use Rattle.std.proofs.lemmas.List.{length-append, length-replicate}
-use Rattle.std.proofs.lemmas.List.Elements.{All-cons}
-use Rattle.std.proofs.lemmas.List.Kept.{AllPairs-cons}
-use Rattle.std.specs.Ordering.{ordering_reverse, is_eq}
-use Rattle.std.specs.Cmp.Lexicographic.{slice_cmp, texts_ties, nat_list_cmp_total}
+use Rattle.olap_base.proofs.{DecisionLemmas.stable, GeneralLemmas.same_or_below_suc}
+use Rattle.olap_base.proofs.ListLemmas.{contains_head, Contains-nil, Contains-map, Contains-from_map}
+use Rattle.olap_base.specs.{Deciding.{decide_contains, contains_cases, contains_cons}, Graph.is_number}
+use Rattle.olap_ast.proofs.ComparedLemmas.{atom_of_text, constants_in_order, number_constant, text_of_atom}
+use Rattle.olap_ast.{proofs.TextLemmas.same_text, specs.Atoms.{Equality, all_equalities, texts_on}}
+use Rattle.olap_ast.specs.Constants.{IsConstant, IsFreshName, IsBefore, AreInByteOrder, FreshNamesExist, HasKinds, fresh_candidate, numbers}
+use Rattle.olap_ast.specs.{Formula.{Constant.AText, Formula}, Frozen.{AreNamesOf, CandidatesExist}, Schema.Schema}
+use Rattle.olap_numerals.{proofs.NameLemmas.number_names_exist, specs.Representatives.AreSmall}
 use native.Mathlib.Decide.{ℕ_discrete}
 use mathlib.Core.List.{List-discrete}
-use Rattle.olap_base.specs.Deciding.{decide_contains, contains_cases, contains_cons}
-use Rattle.olap_base.proofs.ListLemmas.{contains_head, Contains-nil, Contains-map, Contains-from_map}
-use Rattle.olap_ast.specs.Atoms.{Equality, all_equalities, texts_on}
-use Rattle.olap_ast.specs.Formula.{Constant.AText, Formula}
-use Rattle.olap_ast.specs.Schema.{Schema}
-use Rattle.olap_ast.specs.Constants.{IsConstant, IsFreshName, IsBefore, AreInByteOrder, FreshNamesExist, HasKinds, fresh_candidate, numbers}
-use Rattle.olap_ast.specs.Frozen.{AreNamesOf, CandidatesExist}
-use Rattle.olap_base.specs.Graph.{is_number}
-use Rattle.olap_numerals.specs.Representatives.{AreSmall}
-use Rattle.olap_numerals.proofs.NameLemmas.{number_names_exist}
-use Rattle.olap_ast.proofs.ComparedLemmas.{atom_of_text, constants_in_order, number_constant, text_of_atom}
-use Rattle.olap_ast.proofs.TextLemmas.{same_text}
-use Rattle.olap_base.proofs.GeneralLemmas.{eqb_same, same_or_below_suc}
-use Rattle.olap_base.proofs.DecisionLemmas.{stable}
 
 -- ---- the fresh name
 

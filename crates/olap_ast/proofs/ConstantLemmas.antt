@@ -1,13 +1,10 @@
 -- The atoms of the constraints and of the question compare names with constants alone.
-use Rattle.std.proofs.Common.{ℕ, ℤ, List, []}
+use Rattle.std.proofs.{Common.{ℕ, ℤ, List}, lemmas.List.Elements.{Contains-append_left, Contains-append_right}}
 use Rattle.std.specs.Prelude.{Contains, flat_map}
-use Rattle.std.proofs.lemmas.List.Elements.{Contains-append_left, Contains-append_right}
 use Rattle.olap_base.proofs.ListLemmas.{Contains-flat_map}
-use Rattle.olap_ast.specs.Formula.{Formula, Constant.ANumber, Constant.AText}
-use Rattle.olap_ast.specs.Atoms.{comparisons, equalities}
+use Rattle.olap_ast.{proofs.ComparedLemmas.{number_of_atom, text_of_atom}, specs.Atoms.{comparisons, equalities}}
+use Rattle.olap_ast.specs.{Constants.IsConstant, Formula.{Formula, Constant.ANumber, Constant.AText}}
 use Rattle.olap_ast.specs.Schema.{Schema, Constraint}
-use Rattle.olap_ast.specs.Constants.{IsConstant}
-use Rattle.olap_ast.proofs.ComparedLemmas.{number_of_atom, text_of_atom}
 
 -- where the atom stands in a constraint
 pub constant_in_constraint : (s : Schema) (q : Formula) (c : Constraint) → Contains s.constraints c →

@@ -1,16 +1,14 @@
 -- The truth of a formula at a member of an instance can be decided.
 use Rattle.std.proofs.Common.{◌≡◌, ℕ, ℤ, List, [], ◌∷◌, length, true, refl, sym, subst, inl, inr}
-use Rattle.std.proofs.Math.Bool.{Bool-discrete}
+use Rattle.std.{proofs.Math.Bool.Bool-discrete, specs.List.range_with_len, specs.Prelude.Contains}
 use Rattle.olap_numerals.specs.Comparing.{Op, is_numbered}
-use Rattle.std.specs.Prelude.{Contains}
-use Rattle.std.specs.List.{range_with_len}
+use Rattle.olap_base.proofs.DecisionLemmas.{dec_not, dec_implies}
+use Rattle.olap_base.proofs.ListLemmas.{contains_head, Contains-nil, Contains-range, Contains-from_range}
+use Rattle.olap_base.specs.Deciding.{dec_or, dec_and, dec_iff, decide_reaches, contains_cons, contains_cases}
+use Rattle.olap_base.specs.Instance.{Instance, IsMemberOf, Reaches, ReachesCategory, ReachesVia, category_of, name_of, parents_of}
+use Rattle.olap_ast.specs.Formula.{Formula, Terms, Formula.Truth, Formula.Falsity, Formula.Path, Formula.Reach, Formula.Via, Formula.Equals, Formula.Compare, Formula.Not, Formula.And, Formula.Or, Formula.Implies, Formula.Iff, Formula.Xor, Formula.One, Terms.End, Terms.More, Holds, ExactlyOneHolds, NoneHolds, HasPath, IsNumbered, ReachesNamed, ReachesNumbered}
 use native.Mathlib.Decide.{ℕ_discrete}
 use mathlib.Core.List.{List-discrete}
-use Rattle.olap_base.specs.Instance.{Instance, IsMemberOf, Reaches, ReachesCategory, ReachesVia, category_of, name_of, parents_of}
-use Rattle.olap_base.specs.Deciding.{dec_or, dec_and, dec_iff, decide_reaches, contains_cons, contains_cases}
-use Rattle.olap_base.proofs.ListLemmas.{contains_head, Contains-nil, Contains-range, Contains-from_range}
-use Rattle.olap_ast.specs.Formula.{Formula, Terms, Formula.Truth, Formula.Falsity, Formula.Path, Formula.Reach, Formula.Via, Formula.Equals, Formula.Compare, Formula.Not, Formula.And, Formula.Or, Formula.Implies, Formula.Iff, Formula.Xor, Formula.One, Terms.End, Terms.More, Holds, ExactlyOneHolds, NoneHolds, HasPath, IsNumbered, ReachesNamed, ReachesNumbered}
-use Rattle.olap_base.proofs.DecisionLemmas.{dec_not, dec_implies}
 
 -- whether P holds of one in the list
 pub dec_some : {A : Type 0} (P : A → Type 0) → ((x : A) → Dec (P x)) → (xs : List A) →

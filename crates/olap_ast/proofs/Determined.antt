@@ -1,26 +1,19 @@
 -- What the definitions leave no choice in, whichever candidates are taken.
 use Rattle.std.proofs.Common.{◌≡◌, ℕ, zero, suc, ◌≤◌, ◌<ℤ◌, List, [], ◌∷◌, map, length, Bool, true, false, refl, ap, sym, subst, ◌∙◌, arith, Ordering, Less, Greater, nat_cmp}
+use Rattle.std.proofs.lemmas.{Int.ints, List.Elements.All-contains_itself}
+use Rattle.std.specs.{Cmp.Lexicographic.{slice_cmp, nat_list_cmp_total}, Ordering.ordering_reverse}
 use Rattle.std.specs.Prelude.{◌≢◌, Contains, AllPairs, slice_index}
-use Rattle.std.specs.Ordering.{ordering_reverse}
-use Rattle.std.specs.Cmp.Lexicographic.{slice_cmp, nat_list_cmp_total}
-use Rattle.std.proofs.lemmas.Int.{ints}
-use Rattle.std.proofs.lemmas.List.Elements.{All-contains_itself}
-use Rattle.olap_base.proofs.ViewLemmas.{agree_exactly}
-use Rattle.olap_base.specs.Graph.{IsBottom, is_number}
+use Rattle.olap_base.proofs.{RankLemmas.not_after_both, ViewLemmas.agree_exactly}
+use Rattle.olap_base.specs.{Graph.{IsBottom, is_number}, Instance.category_of, Ranks.IsNotAfter}
 use Rattle.olap_numerals.specs.Numerals.{canonical}
-use Rattle.olap_base.specs.Instance.{category_of}
-use Rattle.olap_ast.specs.Formula.{Constant.AText, Formula}
-use Rattle.olap_ast.specs.Schema.{Schema}
-use Rattle.olap_base.specs.Ranks.{IsNotAfter}
+use Rattle.olap_ast.proofs.{CandidatesExist.fresh_names_exist, OrderedLists.{Apart, no_longer, same_list}}
+use Rattle.olap_ast.proofs.{Summing.one_of, Uniqueness.{code_is_one, counterexample_is_one, least_is_one}}
 use Rattle.olap_ast.specs.Constants.{AreInByteOrder, IsBefore, IsConstant}
 use Rattle.olap_ast.specs.Findings.{Finding, Finding.Unsatisfiable, Finding.Redundant, Finding.Unused, TheFindingsAreOne, finding_rank}
+use Rattle.olap_ast.specs.Formula.{Constant.AText, Formula}
 use Rattle.olap_ast.specs.Frozen.{AreCandidates, AreNamesOf, Candidates, Frozen, IsFrozen, IsFrozenInstance, IsLeastFrozen, TheLeastIsOne, chosen, code, instance_of, name_in, root_place, text_of_index, thawed}
+use Rattle.olap_ast.specs.Schema.{Schema}
 use Rattle.olap_ast.specs.Summarizable.{IsCounterexample, IsSummarizable, TheCounterexampleIsOne, not_by_one}
-use Rattle.olap_ast.proofs.CandidatesExist.{fresh_names_exist}
-use Rattle.olap_ast.proofs.OrderedLists.{Apart, no_longer, same_list}
-use Rattle.olap_ast.proofs.Summing.{one_of}
-use Rattle.olap_ast.proofs.Uniqueness.{code_is_one, counterexample_is_one, least_is_one}
-use Rattle.olap_base.proofs.RankLemmas.{not_after_both}
 
 -- ---- candidates
 
@@ -105,8 +98,7 @@ pub still_frozen : (s : Schema) (q : Formula) (r : ℕ) (k h : Candidates) → A
 still_frozen s q r k h a b f z = record {
   edge_count = z.edge_count;
   name_count = z.name_count;
-  in_range = λ c l. subst (λ (ts : List (List ℕ)). slice_index f.names c ≤ length ts) (same_texts s q k h a b c)
-      (z.in_range c l);
+  in_range = λ c l. rw (same_texts s q k h a b c) at (z.in_range c l);
   absent = z.absent;
   stands_for = subst (λ i. IsFrozenInstance s q r i) (same_thawed s q k h a b r f) z.stands_for;
 }
@@ -155,8 +147,7 @@ apart_findings f g a b = a.1 (same_rank f g (not_after_both (finding_rank f) (fi
 
     back : (f : Finding) → of_rank (finding_rank f) ≡ f
     back (Unsatisfiable c) = refl
-    back (Redundant c) = refl
-    back (Unused c) = refl
+    back f = refl
 
     same_rank : (f g : Finding) → finding_rank f ≡ finding_rank g → f ≡ g
     same_rank f g e = sym (back f) ∙ ap of_rank e ∙ back g

@@ -1,11 +1,9 @@
 -- The smallest example of a legal instance: one store below `All`.
 use Rattle.std.proofs.Common.{◌≡◌, ℕ, ◌≤◌, List, [], ◌∷◌, true, false, refl, ap, inl, inr, arith, lit≤}
-use Rattle.std.specs.Prelude.{Contains, ◌≢◌, All, codes}
-use Rattle.olap_base.specs.Graph.{IsCategoryName, IsLetterOrDigit, reserved}
+use Rattle.std.{proofs.lemmas.List.Elements.All-from_recursion, specs.Prelude.{Contains, ◌≢◌, All, codes}}
 use Rattle.olap_base.proofs.ListLemmas.{Contains-map, Contains-nil}
-use Rattle.std.proofs.lemmas.List.Elements.{All-from_recursion}
-use Rattle.olap_ast.specs.Example.{OneStoreIsLegal}
-use Rattle.olap_ast.proofs.OneMember.{hierarchy, is_instance, lawful, numerals}
+use Rattle.olap_base.specs.Graph.{IsCategoryName, IsLetterOrDigit, reserved}
+use Rattle.olap_ast.{proofs.OneMember.{hierarchy, is_instance, lawful, numerals}, specs.Example.OneStoreIsLegal}
 
 -- the first byte of a text
 unfoldable pub head : List ℕ → ℕ

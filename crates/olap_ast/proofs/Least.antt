@@ -1,8 +1,7 @@
 -- The least number and the first list with a property, where it can be decided and holds below a bound only.
 use Rattle.std.proofs.Common.{◌≡◌, ℕ, zero, suc, ◌<◌, List, [], ◌∷◌, sym, subst, inl, inr, arith}
 use Rattle.std.specs.Prelude.{◌≤◌, ◌⊎◌}
-use Rattle.olap_base.specs.Ranks.{IsNotAfter}
-use Rattle.olap_base.proofs.GeneralLemmas.{less_or_equal}
+use Rattle.olap_base.{proofs.GeneralLemmas.less_or_equal, specs.Ranks.IsNotAfter}
 
 -- k has the property, and no number with it is below k
 pub record IsLeast (P : ℕ → Type 0) (k : ℕ) : Type 0 where

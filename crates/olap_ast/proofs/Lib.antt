@@ -6,6 +6,7 @@ pub mod Least
 pub mod Violated
 mod Truth
 mod PartLemmas
+mod KindLemmas
 pub mod ComparedLemmas
 pub mod ConstantLemmas
 pub mod AtomLemmas

@@ -1,9 +1,7 @@
 -- One more part at the end of those before.
 use Rattle.std.proofs.Common.{◌≡◌, List, [], ◌∷◌, ◌++◌, map, refl, ap}
+use Rattle.olap_ast.specs.{Listing.parts_before, Trees.formula_of, declared.formulas.Formula.Formula}
 use Rattle.olap_ast.specs.Formula as Meaning
-use Rattle.olap_ast.specs.Listing.{parts_before}
-use Rattle.olap_ast.specs.Trees.{formula_of}
-use Rattle.olap_ast.specs.declared.formulas.Formula.{Formula}
 
 -- the parts and one more before some terms are the parts before that one and the terms
 pub parts_before-push : (fs : List Formula) (f : Formula) (terms : Meaning.Terms) →

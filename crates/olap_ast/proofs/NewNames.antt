@@ -1,19 +1,15 @@
 -- The new name of a member answers each atom of the constraints and of the question as its name does.
 use Rattle.std.proofs.Common.{◌≡◌, ◌∙◌, ◌↔◌, ℕ, ℤ, pos, List, Bool, true, false, cond, ◌||◌, Option, Some, None, refl, ap, sym, subst, inl, inr, arith}
-use Rattle.std.specs.Prelude.{◌==◌, ◌≢◌, IsSome, IsTrue, unwrap_or}
-use Rattle.std.proofs.lemmas.Bool.Decides.{nat_tests}
+use Rattle.std.{proofs.lemmas.Bool.Decides.nat_tests, specs.Prelude.{◌==◌, ◌≢◌, IsSome, IsTrue, unwrap_or}}
 use Rattle.olap_base.specs.Graph.{is_number}
-use Rattle.olap_numerals.specs.Comparing.{Op}
+use Rattle.olap_numerals.proofs.{ComparingLemmas.of_number, NumeralLemmas.{numbers_read_back, spelled_small}}
+use Rattle.olap_numerals.{proofs.RepresentativeLemmas.representatives_answer_alike, specs.Comparing.Op}
 use Rattle.olap_numerals.specs.Numerals.{canonical, number_of}
 use Rattle.olap_numerals.specs.Representatives.{AreSmall, IsNumberName, representative}
-use Rattle.olap_numerals.proofs.ComparingLemmas.{of_number}
-use Rattle.olap_numerals.proofs.NumeralLemmas.{numbers_read_back, spelled_small}
-use Rattle.olap_numerals.proofs.RepresentativeLemmas.{representatives_answer_alike}
-use Rattle.olap_ast.specs.Atoms.{is_constant, is_constant_is}
-use Rattle.olap_ast.specs.Formula.{Constant.ANumber, Constant.AText, Formula, IsNumbered}
-use Rattle.olap_ast.specs.Schema.{Schema}
-use Rattle.olap_ast.specs.Constants.{HasKinds, IsConstant, IsFreshName, IsNameOf, new_name, new_numeral, numbers}
 use Rattle.olap_ast.proofs.ComparedLemmas.{constant_number, constant_text, number_constant, text_constant}
+use Rattle.olap_ast.specs.Atoms.{is_constant, is_constant_is}
+use Rattle.olap_ast.specs.Constants.{HasKinds, IsConstant, IsFreshName, IsNameOf, new_name, new_numeral, numbers}
+use Rattle.olap_ast.specs.{Formula.{Constant.ANumber, Constant.AText, Formula, IsNumbered}, Schema.Schema}
 
 -- a text that spells a number, and which
 pub spelled : (name : List ℕ) → IsSome (number_of name) → (a : ℤ) × (number_of name ≡ Some a)
@@ -80,12 +76,11 @@ module _ (s : Schema) (q : Formula) (fresh : List ℕ) (kinds : HasKinds s q) (f
       go : (m : Bool) → m ≡ false → (a b : Bool) → IsTrue b ↔ IsConstant s q d (AText name)
           → (cond m (new_numeral s q d name) (cond (a || b) name fresh) ≡ text) ↔ (name ≡ text)
       go true e a b t' = absurd (cc)
-      go false e true b t' = (λ e. e, λ e. e)
-      go false e false true t' = (λ e. e, λ e. e)
       go false e false false t' = (
         λ e. absurd (free d (subst (λ w. IsConstant s q d (AText w)) (sym e) t)),
         λ e. absurd (let z : false ≡ true = t'.1 (subst (λ w. IsConstant s q d (AText w)) (sym e) t) in cc),
       )
+      go m e a b t' = (λ e. e, λ e. e)
 
   -- and each comparison that is asked for
   pub new_numbered : (name : List ℕ) (op : Op) (n : ℤ) → IsConstant s q d (ANumber n)
@@ -141,6 +136,5 @@ module _ (s : Schema) (q : Formula) (fresh : List ℕ) (kinds : HasKinds s q) (f
 
       go : (m : Bool) → m ≡ false → (b : Bool) → b ≡ true
           → cond m (new_numeral s q d name) (cond (b || is_constant s q d name) name fresh) ≡ name
-      go true e b t = absurd (cc)
       go false e true t = refl
-      go false e false t = absurd (cc)
+      go m e b t = absurd (cc)

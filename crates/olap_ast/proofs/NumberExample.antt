@@ -1,28 +1,18 @@
 -- The smallest example with numbers: the size 9, where sizes are below 10.
 use Rattle.std.proofs.Common.{◌≡◌, ℕ, ℤ, pos, zero, suc, ◌<◌, ◌≤◌, ◌<ℤ◌, ◌≤ℤ◌, List, [], ◌∷◌, length, map, true, false, refl, ap, sym, subst, ◌∙◌, inl, inr, arith, lit≤}
+use Rattle.std.proofs.lemmas.{Fmt.decimal_digit, Int.ints, List.Elements.{All-contains, All-from_recursion}}
 use Rattle.std.specs.Prelude.{Contains, ◌≢◌, All, AllPairs, codes, IsSome, IsTrue, slice_index}
-use Rattle.std.proofs.lemmas.Fmt.{decimal_digit}
-use Rattle.std.proofs.lemmas.Int.{ints}
-use Rattle.std.proofs.lemmas.List.Elements.{All-contains, All-from_recursion}
-use Rattle.olap_base.specs.Deciding.{contains_cases}
-use Rattle.olap_base.specs.Above.{HasOneMemberEach}
-use Rattle.olap_base.specs.Graph.{IsHierarchy, IsLetterOrDigit, is_number}
+use Rattle.olap_base.{proofs.ListLemmas.{contains_head, Contains-nil, Contains-only}, specs.Above.HasOneMemberEach}
+use Rattle.olap_base.specs.{Deciding.contains_cases, Graph.{IsHierarchy, IsLetterOrDigit, is_number}}
 use Rattle.olap_base.specs.Instance.{IsMember, Reaches, category_of, name_of}
-use Rattle.olap_base.proofs.ListLemmas.{contains_head, Contains-nil, Contains-only}
-use Rattle.olap_numerals.specs.Comparing.{Op.Less, is_numbered}
-use Rattle.olap_numerals.specs.Numerals.{canonical, number_of}
+use Rattle.olap_numerals.specs.{Comparing.{Op.Less, is_numbered}, Numerals.{canonical, number_of}}
 use Rattle.olap_numerals.specs.Representatives.{AreNumberNames, IsLeast, IsNear, IsNumberName}
-use Rattle.olap_ast.specs.Constants.{IsNameOf}
-use Rattle.olap_ast.specs.Example.{NineIsFrozen, nine, size_below_all, sizes}
+use Rattle.olap_ast.proofs.{AtomLemmas.has_kinds, CandidatesExist.candidates_exist, Examples.{head, name_is, small}}
+use Rattle.olap_ast.proofs.{OneMember.{hierarchy, is_instance, lawful, numerals, one_member}, OrderedLists.head_before}
+use Rattle.olap_ast.specs.{Constants.IsNameOf, Example.{NineIsFrozen, nine, size_below_all, sizes}}
 use Rattle.olap_ast.specs.Formula.{Formula.Compare, Formula.Truth}
 use Rattle.olap_ast.specs.Frozen.{AreCandidates, Candidates, IsFrozen, IsFrozenInstance, chosen, is_present, thawed}
-use Rattle.olap_ast.specs.Schema.{Constraint, IsLegal, Meets}
-use Rattle.olap_ast.specs.Valid.{IsFormulaAt}
-use Rattle.olap_ast.proofs.AtomLemmas.{has_kinds}
-use Rattle.olap_ast.proofs.CandidatesExist.{candidates_exist}
-use Rattle.olap_ast.proofs.Examples.{head, name_is, small}
-use Rattle.olap_ast.proofs.OneMember.{hierarchy, is_instance, lawful, numerals, one_member}
-use Rattle.olap_ast.proofs.OrderedLists.{head_before}
+use Rattle.olap_ast.specs.{Schema.{Constraint, IsLegal, Meets}, Valid.IsFormulaAt}
 
 -- ---- the instance
 
@@ -146,11 +136,9 @@ frozen_nine = record {
     one_each : HasOneMemberEach nine
     one_each zero zero h l e = refl
     one_each zero (suc zero) h l e = absurd (let q : 1 ≡ 0 = e in omega arith)
-    one_each zero (suc (suc y)) h l e = absurd (omega arith)
     one_each (suc zero) zero h l e = absurd (let q : 0 ≡ 1 = e in omega arith)
     one_each (suc zero) (suc zero) h l e = refl
-    one_each (suc zero) (suc (suc y)) h l e = absurd (omega arith)
-    one_each (suc (suc x)) y h l e = absurd (omega arith)
+    one_each x y h l e = absurd (omega arith)
 
     reached : (y : ℕ) → IsMember nine y → Reaches nine 0 y
     reached zero h = inl refl

@@ -1,12 +1,11 @@
 -- One member below `all`, of a category below `All`.
 use Rattle.std.proofs.Common.{◌≡◌, ℕ, zero, suc, ◌<◌, List, [], ◌∷◌, Bool, true, false, refl, ap, sym, subst, ◌∙◌, ◌↔◌, ◌⊎◌, inl, inr, arith}
 use Rattle.std.specs.Prelude.{◌≢◌, codes, IsSome, IsTrue}
-use Rattle.olap_base.specs.Steps.{Steps.here, Steps.step, Climb, Climb.climb, Climb-from_leads}
+use Rattle.olap_base.proofs.ListLemmas.{contains_head, Contains-nil, Distinct, AllPairs-from_Distinct, Contains-only}
 use Rattle.olap_base.specs.Graph.{CategoryReaches, Edge, Graph, HasEdge, IsCategoryName, IsHierarchy}
 use Rattle.olap_base.specs.Instance.{Instance, IsBelow, IsFarBelow, IsInstance, IsLawful, category_of, member_at, parents_of}
-use Rattle.olap_base.proofs.ListLemmas.{contains_head, Contains-nil, Distinct, AllPairs-from_Distinct, Contains-only}
-use Rattle.olap_numerals.specs.Named.{HasNumerals}
-use Rattle.olap_numerals.specs.Numerals.{number_of}
+use Rattle.olap_base.specs.Steps.{Steps.here, Steps.step, Climb, Climb.climb, Climb-from_leads}
+use Rattle.olap_numerals.specs.{Named.HasNumerals, Numerals.number_of}
 
 -- a category of a kind, below `All`
 abbrev pub one_category : List ℕ → Bool → Graph
@@ -67,11 +66,9 @@ module _ (category : List ℕ) (kind : Bool) (id name : List ℕ) where
       → (member_at (one_member id name) x).id ≡ (member_at (one_member id name) y).id → x ≡ y
   ids n zero zero h l e = refl
   ids n zero (suc zero) h l e = absurd (n e)
-  ids n zero (suc (suc y)) h l e = absurd (omega arith)
   ids n (suc zero) zero h l e = absurd (n (sym e))
   ids n (suc zero) (suc zero) h l e = refl
-  ids n (suc zero) (suc (suc y)) h l e = absurd (omega arith)
-  ids n (suc (suc x)) y h l e = absurd (omega arith)
+  ids n x y h l e = absurd (omega arith)
 
   -- each category reaches `All`
   reach : (c : ℕ) → c < 2 → CategoryReaches (one_category category kind) c 0
@@ -83,10 +80,7 @@ module _ (category : List ℕ) (kind : Bool) (id name : List ℕ) where
   -- category places, moved along an equation
   edge_there : (x y : ℕ) → (x ≡ 0) × (y ≡ 1) → HasEdge (one_category category kind)
       (category_of (one_member id name) x) (category_of (one_member id name) y)
-  edge_there x y e = subst (λ a. HasEdge (one_category category kind) (category_of (one_member id name) a)
-      (category_of (one_member id name) y)) (sym e.0)
-      (subst (λ b. HasEdge (one_category category kind) 1 (category_of (one_member id name) b)) (sym e.1)
-      (contains_head (record { child = 1; parent = 0 }) []))
+  edge_there x y e = rw e.0 (rw e.1 (contains_head (record { child = 1; parent = 0 }) []))
 
   -- the last of two has the number 1
   last_is : (x : ℕ) → suc x ≡ 2 → x ≡ 1

@@ -1,24 +1,17 @@
 -- An instance is legal exactly if its parts are: what is asked of a member looks upwards, and a part has all of that.
-use Rattle.std.proofs.lemmas.List.Elements.{All-contains}
-use Rattle.std.proofs.Math.Decide.{dec_lt}
-use Rattle.std.proofs.Math.ListN.{get_or-map}
-use Rattle.std.proofs.lemmas.List.{get_or_past, length-map}
-use Rattle.std.proofs.Common.{◌≡◌, ℕ, suc, ◌<◌, zero, List, get_or, length, map, refl, sym, ap, subst, ◌∙◌, inl, inr, arith}
+use Rattle.std.proofs.Common.{◌≡◌, ◌↔◌, ℕ, suc, ◌<◌, zero, List, get_or, length, map, refl, sym, ap, subst, ◌∙◌, inl, inr, arith}
+use Rattle.std.proofs.{Math.Decide.dec_lt, Math.ListN.get_or-map, lemmas.Bool.cases_order}
+use Rattle.std.proofs.lemmas.List.{get_or_past, length-map, Elements.All-contains}
 use Rattle.std.specs.Prelude.{◌≢◌, AllPairs, Contains, IsSome, IsTrue}
-use Rattle.olap_base.specs.Graph.{Graph, HasEdge, is_number}
-use Rattle.olap_base.specs.Instance.{Instance, nobody, IsInstance, IsLawful, IsBelow, IsMember, IsFarBelow, category_of, name_of, member_at, parents_of}
-use Rattle.olap_base.specs.Deciding.{below_is_member}
-use Rattle.olap_base.specs.Steps.{Climb, Climb.climb, Climb-from_leads, leads_from_Climb}
-use Rattle.olap_base.proofs.AboveLemmas.{reaches_all}
-use Rattle.olap_base.proofs.ListLemmas.{Contains-from_map, Contains-map}
+use Rattle.olap_base.proofs.{AboveLemmas.reaches_all, ListLemmas.{Contains-from_map, Contains-map}}
 use Rattle.olap_base.proofs.Part.{IsPart, increasing_injective, part_instance, part_lawful, part_lift, part_inside}
-use Rattle.olap_numerals.specs.Named.{HasNumerals}
-use Rattle.olap_numerals.specs.Numerals.{number_of}
-use Rattle.olap_ast.specs.Formula.{Holds, IsNumbered}
-use Rattle.olap_ast.specs.Parts.{IsPartOf, LegalExactlyIfPartsAre, StandsIn}
-use Rattle.olap_ast.specs.Schema.{Constraint, Meets, Schema, IsLegal}
+use Rattle.olap_base.specs.{Deciding.below_is_member, Graph.{Graph, HasEdge, is_number}}
+use Rattle.olap_base.specs.Instance.{Instance, nobody, IsInstance, IsLawful, IsBelow, IsMember, IsFarBelow, category_of, name_of, member_at, parents_of}
+use Rattle.olap_base.specs.Steps.{Climb, Climb.climb, Climb-from_leads, leads_from_Climb}
+use Rattle.olap_numerals.specs.{Named.HasNumerals, Numerals.number_of}
 use Rattle.olap_ast.proofs.Truth.{Any_number, Any_text, NamesAgree, NumbersAgree, same}
-use Rattle.std.proofs.lemmas.Bool.{cases_order}
+use Rattle.olap_ast.specs.{Formula.{Formula, Holds, IsNumbered}, Parts.{IsPartOf, LegalExactlyIfPartsAre, StandsIn}}
+use Rattle.olap_ast.specs.Schema.{Constraint, Meets, Schema, IsLegal}
 
 -- a list whose elements differ after a function has no doubles
 pairs_differ : (f : ℕ → ℕ) (xs : List ℕ) → AllPairs ◌≢◌ (map f xs) → AllPairs ◌≢◌ xs
@@ -61,10 +54,14 @@ module _ (i j : Instance) (e : ℕ → ℕ) (p : IsPartOf i j e) where
     λ q. subst (λ t. IsNumbered t op n) (name_is k h) q,
   )
 
+  -- a formula has one truth in both
+  same_in_part : (k : ℕ) → k < length j → (f : Formula) → Holds j k f ↔ Holds i (e k) f
+  same_in_part k h f =
+      same i j e as_part Any_text Any_number names_agree numbers_agree k h f (λ a b r. tt, λ a b r. tt)
+
   -- a constraint that the whole meets is met in the part
   met_in_part : (c : Constraint) → Meets i c → Meets j c
-  met_in_part c m k (h, q) =
-      (same i j e as_part Any_text Any_number names_agree numbers_agree k h c.formula (λ a b r. tt, λ a b r. tt)).1
+  met_in_part c m k (h, q) = (same_in_part k h c.formula).1
       (m (e k) (p.member k h, ap (λ t. t.category) (p.same k h) ∙ q))
 
   -- ---- a part of a legal instance
@@ -100,9 +97,7 @@ module _ (i j : Instance) (e : ℕ → ℕ) (p : IsPartOf i j e) where
   parents_differ : IsInstance i → (k : ℕ) → AllPairs ◌≢◌ (parents_of j k)
   parents_differ v k = elim (dec_lt k (length j)) [
     | yes h ↦ pairs_differ e (parents_of j k) (subst (λ ps. AllPairs ◌≢◌ ps) (parents_are k h) (v.parents_differ (e k)))
-    | no n ↦ subst (λ ps. AllPairs ◌≢◌ ps)
-        (sym (ap (λ m. m.parents) (get_or_past j k nobody (omega (arith, n)))))
-        (λ a b d r u. absurd (omega arith))
+    | no n ↦ rw (ap (λ m. m.parents) (get_or_past j k nobody (omega (arith, n)))) (λ a b d r u. absurd (omega arith))
   ]
 
   -- a part of a legal instance is legal
@@ -114,8 +109,7 @@ module _ (i j : Instance) (e : ℕ → ℕ) (p : IsPartOf i j e) where
       record {
         is_instance = part_instance i j e as_part a.0 v.is_instance a.1 q (ids_differ v.is_instance)
             (parents_differ v.is_instance) (sym (ap (λ m. m.id) (p.same a.0 h))) (sym (name_is a.0 h));
-        numerals = λ k hk b. subst (λ t. IsSome (number_of t)) (name_is k hk)
-            (v.numerals (e k) (p.member k hk)
+        numerals = λ k hk b. rw (name_is k hk) at (v.numerals (e k) (p.member k hk)
             (subst (λ c. IsTrue (is_number s.graph c)) (sym (ap (λ m. m.category) (p.same k hk))) b));
         lawful = part_lawful i j e as_part s.graph v.lawful;
         meets = λ c d. met_in_part c (v.meets c d);
@@ -137,95 +131,106 @@ module _ (i j : Instance) (e : ℕ → ℕ) (p : IsPartOf i j e) where
 
 -- ---- an instance whose parts are legal
 
+-- a member of the instance stands at a place of a legal part
+record Seat (s : Schema) (i : Instance) (x : ℕ) : Type 0 where
+  j : Instance
+  legal : IsLegal s j
+  stands : StandsIn i x j
+  part : IsPart i j stands.place
+  category : category_of j stands.at ≡ category_of i x
+
 module _ (s : Schema) (i : Instance) (v : IsInstance i) (legal : (x : ℕ) → IsMember i x →
     (j : Instance) × IsLegal s j × StandsIn i x j) where
+  -- so does each that is a member
+  seat : (x : ℕ) → IsMember i x → Seat s i x
+  seat x m = let t = legal x m in let z = t.2 in let p = as_part i t.0 z.place z.part in record {
+    j = t.0;
+    legal = t.1;
+    stands = z;
+    part = p;
+    category = p.category z.at z.member ∙ ap (category_of i) z.same;
+  }
+
+  -- one with a parent is a member
+  starts : {x y : ℕ} → Climb (IsBelow i) x y → IsMember i x
+  starts {x} (climb {z = z} b r) = below_is_member i x z b
+
+  -- what is reached from a member is reached from its place
+  reached : (x y : ℕ) (t : Seat s i x) → Climb (IsBelow i) x y
+      → (l : ℕ) × (l < length t.j) × Climb (IsBelow t.j) t.stands.at l × (t.stands.place l ≡ y)
+  reached x y t c = lifted i t.j t.stands.place t.stands.part t.stands.at t.stands.member
+      (subst (λ w. Climb (IsBelow i) w y) (sym t.stands.same) c)
+
+  -- and its parents are those of its place
+  parent : (x y : ℕ) (t : Seat s i x) → IsBelow i x y
+      → (l : ℕ) × IsBelow t.j t.stands.at l × (t.stands.place l ≡ y)
+  parent x y t b = t.part.above t.stands.at y t.stands.member (subst (λ w. IsBelow i w y) (sym t.stands.same) b)
+
   -- a member's parent has the category that it has in the member's part
   connected : (x y : ℕ) → IsBelow i x y → HasEdge s.graph (category_of i x) (category_of i y)
-  connected x y b = let t = legal x (below_is_member i x y b) in seen t.0 t.1 t.2
-    where
-      seen : (j : Instance) → IsLegal s j → StandsIn i x j → HasEdge s.graph (category_of i x) (category_of i y)
-      seen j h z = let p = as_part i j z.place z.part in
-          let u = p.above z.at y z.member (subst (λ w. IsBelow i w y) (sym z.same) b) in
-          subst (λ c. HasEdge s.graph c (category_of i y)) (p.category z.at z.member ∙ ap (category_of i) z.same)
-          (subst (λ c. HasEdge s.graph (category_of j z.at) c)
-          (p.category u.0 (p.inside z.at u.0 u.1) ∙ ap (category_of i) u.2)
-          (h.lawful.connectivity z.at u.0 u.1))
+  connected x y b =
+      let t = seat x (below_is_member i x y b) in
+      let u = parent x y t b in
+      rw t.category at (rw (t.part.category u.0 (t.part.inside t.stands.at u.0 u.1) ∙ ap (category_of i) u.2) at
+      (t.legal.lawful.connectivity t.stands.at u.0 u.1))
 
   -- a member that isn't `all` has a parent
   connected_up : (x : ℕ) → IsMember i x → category_of i x ≢ 0 → (y : ℕ) × IsBelow i x y
-  connected_up x m n = let t = legal x m in seen t.0 t.1 t.2
-    where
-      seen : (j : Instance) → IsLegal s j → StandsIn i x j → (y : ℕ) × IsBelow i x y
-      seen j h z = let p = as_part i j z.place z.part in
-          let u = h.lawful.up_connectivity z.at z.member
-          (λ q. n (sym (p.category z.at z.member ∙ ap (category_of i) z.same) ∙ q)) in
-          (z.place u.0, subst (λ w. IsBelow i w (z.place u.0)) z.same (p.below z.at u.0 u.1))
+  connected_up x m n =
+      let t = seat x m in
+      let z = t.stands in
+      let u = t.legal.lawful.up_connectivity z.at z.member (λ q. n (sym t.category ∙ q)) in
+      (z.place u.0, subst (λ w. IsBelow i w (z.place u.0)) z.same (t.part.below z.at u.0 u.1))
 
   -- whoever reaches a member of the own category, does so in the own part
   stratified : (x y : ℕ) → IsFarBelow i x y → category_of i x ≢ category_of i y
-  stratified x y f = let c = Climb-from_leads f in let t = legal x (starts c) in seen t.0 t.1 t.2 c
-    where
-      starts : Climb (IsBelow i) x y → IsMember i x
-      starts (climb {z = z} b r) = below_is_member i x z b
-
-      seen : (j : Instance) → IsLegal s j → StandsIn i x j → Climb (IsBelow i) x y
-          → category_of i x ≢ category_of i y
-      seen j h z c q = let p = as_part i j z.place z.part in
-          let u = lifted i j z.place z.part z.at z.member (subst (λ w. Climb (IsBelow i) w y) (sym z.same) c) in
-          h.lawful.stratification z.at u.0 (leads_from_Climb u.2)
-          (p.category z.at z.member ∙ ap (category_of i) z.same ∙ q ∙ sym (ap (category_of i) u.3)
-          ∙ sym (p.category u.0 u.1))
+  stratified x y f q =
+      let c = Climb-from_leads f in
+      let t = seat x (starts c) in
+      let u = reached x y t c in
+      t.legal.lawful.stratification t.stands.at u.0 (leads_from_Climb u.2)
+      (t.category ∙ q ∙ sym (ap (category_of i) u.3) ∙ sym (t.part.category u.0 u.1))
 
   -- two of one category that a member reaches stand both in its part
   partitioned : (x y z : ℕ) → IsFarBelow i x y → IsFarBelow i x z → category_of i y ≡ category_of i z → y ≡ z
-  partitioned x y z f g q = let c = Climb-from_leads f in let t = legal x (starts c) in
-      seen t.0 t.1 t.2 c (Climb-from_leads g)
-    where
-      starts : Climb (IsBelow i) x y → IsMember i x
-      starts (climb {z = w} b r) = below_is_member i x w b
-
-      seen : (j : Instance) → IsLegal s j → StandsIn i x j → Climb (IsBelow i) x y → Climb (IsBelow i) x z → y ≡ z
-      seen j h w c d = let p = as_part i j w.place w.part in
-          let a = lifted i j w.place w.part w.at w.member (subst (λ k. Climb (IsBelow i) k y) (sym w.same) c) in
-          let b = lifted i j w.place w.part w.at w.member (subst (λ k. Climb (IsBelow i) k z) (sym w.same) d) in
-          sym a.3
-          ∙ ap w.place (h.lawful.partitioning w.at a.0 b.0 (leads_from_Climb a.2) (leads_from_Climb b.2)
-          (p.category a.0 a.1 ∙ ap (category_of i) a.3 ∙ q ∙ sym (ap (category_of i) b.3) ∙ sym (p.category b.0 b.1)))
-          ∙ b.3
+  partitioned x y z f g q =
+      let c = Climb-from_leads f in
+      let t = seat x (starts c) in
+      let a = reached x y t c in
+      let b = reached x z t (Climb-from_leads g) in
+      sym a.3
+      ∙ ap t.stands.place (t.legal.lawful.partitioning t.stands.at a.0 b.0 (leads_from_Climb a.2) (leads_from_Climb b.2)
+      (t.part.category a.0 a.1 ∙ ap (category_of i) a.3 ∙ q ∙ sym (ap (category_of i) b.3)
+      ∙ sym (t.part.category b.0 b.1)))
+      ∙ b.3
 
   -- so do a shortcut and the way beside it
   unshortened : (x y z : ℕ) → IsBelow i x y → IsBelow i x z → IsFarBelow i z y → ⊥
-  unshortened x y z b d f = let t = legal x (below_is_member i x y b) in seen t.0 t.1 t.2
-    where
-      seen : (j : Instance) → IsLegal s j → StandsIn i x j → ⊥
-      seen j h w = let p = as_part i j w.place w.part in
-          let u = p.above w.at y w.member (subst (λ k. IsBelow i k y) (sym w.same) b) in
-          let o = p.above w.at z w.member (subst (λ k. IsBelow i k z) (sym w.same) d) in
-          let a = lifted i j w.place w.part o.0 (p.inside w.at o.0 o.1)
-          (subst (λ k. Climb (IsBelow i) k y) (sym o.2) (Climb-from_leads f)) in
-          let e = p.injective u.0 a.0 (p.inside w.at u.0 u.1) a.1 (u.2 ∙ sym a.3) in
-          h.lawful.shortcuts w.at u.0 o.0 u.1 o.1
-          (subst (λ k. IsFarBelow j o.0 k) (sym e) (leads_from_Climb a.2))
+  unshortened x y z b d f =
+      let t = seat x (below_is_member i x y b) in
+      let w = t.stands in
+      let u = parent x y t b in
+      let o = parent x z t d in
+      let a = lifted i t.j w.place w.part o.0 (t.part.inside w.at o.0 o.1)
+      (subst (λ k. Climb (IsBelow i) k y) (sym o.2) (Climb-from_leads f)) in
+      let e = t.part.injective u.0 a.0 (t.part.inside w.at u.0 u.1) a.1 (u.2 ∙ sym a.3) in
+      t.legal.lawful.shortcuts w.at u.0 o.0 u.1 o.1 (subst (λ k. IsFarBelow t.j o.0 k) (sym e) (leads_from_Climb a.2))
 
   -- a name is a numeral in the part
   numbered : HasNumerals s.graph i
-  numbered x m b = let t = legal x m in seen t.0 t.1 t.2
-    where
-      seen : (j : Instance) → IsLegal s j → StandsIn i x j → IsSome (number_of (name_of i x))
-      seen j h z = let c = (as_part i j z.place z.part).category z.at z.member ∙ ap (category_of i) z.same in
-          subst (λ t. IsSome (number_of t)) (sym (name_is i j z.place z.part z.at z.member) ∙ ap (name_of i) z.same)
-          (h.numerals z.at z.member (subst (λ c. IsTrue (is_number s.graph c)) (sym c) b))
+  numbered x m b =
+      let t = seat x m in
+      let z = t.stands in
+      subst (λ n. IsSome (number_of n)) (sym (name_is i t.j z.place z.part z.at z.member) ∙ ap (name_of i) z.same)
+      (t.legal.numerals z.at z.member (subst (λ c. IsTrue (is_number s.graph c)) (sym t.category) b))
 
   -- a constraint is met at a member if it is in the part
   met : (c : Constraint) → Contains s.constraints c → Meets i c
-  met c d x (m, q) = let t = legal x m in seen t.0 t.1 t.2
-    where
-      seen : (j : Instance) → IsLegal s j → StandsIn i x j → Holds i x c.formula
-      seen j h z = let p = as_part i j z.place z.part in
-          subst (λ k. Holds i k c.formula) z.same
-          ((same i j z.place p Any_text Any_number (names_agree i j z.place z.part) (numbers_agree i j z.place z.part)
-          z.at z.member c.formula (λ a b r. tt, λ a b r. tt)).0
-          (h.meets c d z.at (z.member, p.category z.at z.member ∙ ap (category_of i) z.same ∙ q)))
+  met c d x (m, q) =
+      let t = seat x m in
+      let z = t.stands in
+      subst (λ k. Holds i k c.formula) z.same ((same_in_part i t.j z.place z.part z.at z.member c.formula).0
+      (t.legal.meets c d z.at (z.member, t.category ∙ q)))
 
   -- where each member stands in a legal part, all are legal
   pub whole_is_legal : IsLegal s i

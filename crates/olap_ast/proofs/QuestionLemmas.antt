@@ -1,14 +1,10 @@
 -- What the questions about all legal instances are, by frozen dimensions.
-use Rattle.std.proofs.Common.{◌≡◌, ℕ, [], ◌∷◌, sym, subst, ◌∙◌, ap}
-use Rattle.std.specs.Prelude.{slice_get, Some}
-use Rattle.olap_base.specs.Instance.{Instance, IsBelow, IsMemberOf, category_of}
-use Rattle.olap_base.specs.Deciding.{below_is_member}
+use Rattle.std.{proofs.Common.{◌≡◌, ℕ, [], ◌∷◌, sym, subst, ◌∙◌, ap}, specs.Prelude.{slice_get, Some}}
+use Rattle.olap_base.specs.{Deciding.below_is_member, Instance.{Instance, IsBelow, IsMemberOf, category_of}}
+use Rattle.olap_ast.{proofs.Decided.decide_holds, proofs.SmallModel.frozen_exactly, specs.Findings.without}
 use Rattle.olap_ast.specs.Formula.{Formula.Truth, Formula.Not, Formula.Path, Holds, HasPath}
-use Rattle.olap_ast.specs.Schema.{Constraint, IsLegal, Meets}
-use Rattle.olap_ast.proofs.Decided.{decide_holds}
-use Rattle.olap_ast.specs.Findings.{without}
 use Rattle.olap_ast.specs.Questions.{NoneFrozen, UnsatisfiableExactlyIfNoneFrozen, ImpliedExactlyIfNoneFrozen, RedundantExactlyIfNoneFrozen, UnusedExactlyIfNoneFrozen}
-use Rattle.olap_ast.proofs.SmallModel.{frozen_exactly}
+use Rattle.olap_ast.specs.Schema.{Constraint, IsLegal, Meets}
 
 -- a category is unsatisfiable exactly if it has no frozen dimension
 pub unsatisfiable_exactly : UnsatisfiableExactlyIfNoneFrozen

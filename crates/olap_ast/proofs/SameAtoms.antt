@@ -1,41 +1,31 @@
 -- Questions with the same atoms on names and numbers have the same names, and so share frozen dimensions where both are
 -- true.
-use Rattle.std.proofs.Common.{◌≡◌, ℕ, ℤ, suc, List, ◌++◌, Bool, true, false, sym, subst, inl, inr}
-use Rattle.std.specs.Prelude.{Contains, flat_map}
+use Rattle.std.proofs.Common.{◌≡◌, ℕ, ℤ, suc, List, Bool, true, false, sym, subst, inl, inr}
 use Rattle.olap_base.specs.Graph.{is_number}
 use Rattle.olap_numerals.specs.Representatives.{AreNumberNames, IsNumberName}
-use Rattle.olap_ast.specs.Atoms.{Comparison, Equality, comparisons, equalities, numbers_on}
+use Rattle.olap_ast.proofs.ComparedLemmas.{atom_of_number, atom_of_text, number_of_atom, numbers_are, text_of_atom}
+use Rattle.olap_ast.specs.Atoms.{comparisons, equalities}
 use Rattle.olap_ast.specs.Constants.{HasKinds, IsConstant, IsFreshName, IsNameOf, fresh_candidate, numbers}
 use Rattle.olap_ast.specs.Formula.{Constant.ANumber, Constant.AText, Formula, Holds}
-use Rattle.olap_ast.specs.Frozen.{AreCandidates, AreNamesOf, Candidates, Frozen, IsFrozen, thawed}
-use Rattle.olap_ast.specs.Schema.{Constraint, Schema}
-use Rattle.olap_ast.proofs.ComparedLemmas.{atom_of_number, atom_of_text, number_of_atom, numbers_are, text_of_atom}
+use Rattle.olap_ast.specs.{Frozen.{AreCandidates, AreNamesOf, Candidates, Frozen, IsFrozen, thawed}, Schema.Schema}
 
 module _ (s : Schema) (p q : Formula) (same : equalities p ≡ equalities q)
     (same_numbers : comparisons p ≡ comparisons q) where
   -- a text of one question is one of the other
   text_too : (d : ℕ) (text : List ℕ) → IsConstant s p d (AText text) → IsConstant s q d (AText text)
-  text_too d text c = text_of_atom s q d text (subst (λ (l : List Equality). Contains
-      (flat_map (λ (c : Constraint). equalities c.formula) s.constraints ++ l) (record { category = d; text = text }))
-      same (atom_of_text s p d text c))
+  text_too d text c = text_of_atom s q d text (rw same at (atom_of_text s p d text c))
 
   -- and back
   text_back : (d : ℕ) (text : List ℕ) → IsConstant s q d (AText text) → IsConstant s p d (AText text)
-  text_back d text c = text_of_atom s p d text (subst (λ (l : List Equality). Contains
-      (flat_map (λ (c : Constraint). equalities c.formula) s.constraints ++ l) (record { category = d; text = text }))
-      (sym same) (atom_of_text s q d text c))
+  text_back d text c = text_of_atom s p d text (rw same (atom_of_text s q d text c))
 
   -- a number of the other is one of this one
   number_back : (d : ℕ) (n : ℤ) → IsConstant s q d (ANumber n) → IsConstant s p d (ANumber n)
-  number_back d n c = number_of_atom s p d n (subst (λ (l : List Comparison). Contains
-      (flat_map (λ (c : Constraint). comparisons c.formula) s.constraints ++ l) (record { category = d; number = n }))
-      (sym same_numbers) (atom_of_number s q d n c))
+  number_back d n c = number_of_atom s p d n (rw same_numbers (atom_of_number s q d n c))
 
   -- what holds of the numbers of a category for one question holds for the other
   on_numbers : (P : List ℤ → Type 0) (d : ℕ) → P (numbers s p d) → P (numbers s q d)
-  on_numbers P d h = subst P (sym (numbers_are s q d)) (subst (λ (l : List Comparison). P
-      (numbers_on d (flat_map (λ (c : Constraint). comparisons c.formula) s.constraints ++ l))) same_numbers
-      (subst P (numbers_are s p d) h))
+  on_numbers P d h = subst P (sym (numbers_are s q d)) (rw same_numbers at (subst P (numbers_are s p d) h))
 
   -- a fresh name for one is fresh for the other
   fresh_too : (name : List ℕ) → IsFreshName s p name → IsFreshName s q name

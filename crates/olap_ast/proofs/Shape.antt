@@ -1,18 +1,16 @@
 -- The edges that the members above one member use, and what is needed of steps, lists and names to say which instance
 -- stands for them.
 use Rattle.std.proofs.Common.{◌≡◌, ℕ, zero, suc, ◌<◌, List, [], ◌∷◌, ◌++◌, length, get_or, Bool, true, false, cond, ◌&&◌, ◌||◌, refl, ap, sym, subst, ◌∙◌, ◌⊎◌, inl, inr, arith, lit<}
-use Rattle.std.specs.Prelude.{Contains, ◌==◌, filter, codes}
-use Rattle.std.specs.List.{range_with_len, list_any}
+use Rattle.std.proofs.lemmas.Bool.{and_from, eqb-true, eq-eqb}
 use Rattle.std.proofs.lemmas.List.Elements.{Contains-get_or, Contains-append_cases, filter-append}
-use Rattle.olap_base.specs.Steps.{Steps, Steps.here, Steps.step}
+use Rattle.std.specs.{List.{range_with_len, list_any}, Prelude.{Contains, ◌==◌, filter, codes}}
+use Rattle.olap_base.proofs.AboveLemmas.{reached_once, members_above_is, is_above}
+use Rattle.olap_base.proofs.ListLemmas.{contains_head, Contains-nil, Contains-from_filter, Contains-from_range_at, Distinct, Distinct-places, Distinct-from_AllPairs, first_true, second_true, list_any_is}
+use Rattle.olap_base.specs.{Above.{members_above, place_in}, Deciding.{below_is_member, contains_cons, contains_cases}}
 use Rattle.olap_base.specs.Graph.{Graph, Edge, IsHierarchy, IsCategoryName}
 use Rattle.olap_base.specs.Instance.{Instance, IsLawful, IsBelow, category_of, parents_of}
-use Rattle.olap_base.specs.Deciding.{below_is_member, contains_cons, contains_cases}
-use Rattle.olap_base.specs.Above.{members_above, place_in}
-use Rattle.olap_base.proofs.ListLemmas.{contains_head, Contains-nil, Contains-from_filter, Contains-from_range_at, Distinct, Distinct-places, Distinct-from_AllPairs, first_true, second_true, list_any_is}
-use Rattle.olap_base.proofs.AboveLemmas.{reached_once, members_above_is, is_above}
+use Rattle.olap_base.specs.Steps.{Steps, Steps.here, Steps.step}
 use Rattle.olap_ast.specs.Frozen.{categories_in_order, id_of}
-use Rattle.std.proofs.lemmas.Bool.{and_from, eqb-true, eq-eqb}
 
 -- ---- tests over a list of any type
 
@@ -196,8 +194,7 @@ place_at_end (x ∷ xs) y n = go (x == y) (λ e. n
 -- the last place, where the list is filtered
 pub last_in : (p : ℕ → Bool) (xs : List ℕ) (y : ℕ) → (Contains xs y → ⊥) → p y ≡ true →
     suc (place_in (filter p (xs ++ y ∷ [])) y) ≡ length (filter p (xs ++ y ∷ []))
-last_in p xs y n e = subst (λ l. suc (place_in l y) ≡ length l)
-    (sym (filter-append p xs (y ∷ []) ∙ ap (λ l. filter p xs ++ l) (one (p y) e)))
+last_in p xs y n e = rw (filter-append p xs (y ∷ []) ∙ ap (λ l. filter p xs ++ l) (one (p y) e))
     (place_at_end (filter p xs) y (λ c. n (Contains-from_filter p xs y c).0))
   where
     one : (b : Bool) → b ≡ true → cond b (y ∷ []) [] ≡ y ∷ []

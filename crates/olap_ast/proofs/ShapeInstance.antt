@@ -1,22 +1,19 @@
 -- The instance that stands for the edges that the members above one member use: a part of the instance, with one
 -- member for each category.
 use Rattle.std.proofs.Common.{◌≡◌, ℕ, suc, ◌<◌, ◌≤◌, List, [], ◌∷◌, length, map, get_or, true, ◌||◌, refl, ap, sym, subst, ◌∙◌, ◌⊎◌, inl, inr, arith}
-use Rattle.std.specs.Prelude.{Contains, ◌==◌, AllPairs, ◌≢◌, filter, codes}
-use Rattle.std.specs.List.{range_with_len, list_any}
-use Rattle.std.proofs.lemmas.List.{get_or-map, length-map}
+use Rattle.std.proofs.lemmas.{Bool.{or_cases, eqb-true, eq-eqb}, List.{get_or-map, length-map}}
 use Rattle.std.proofs.lemmas.List.Elements.{Contains-get_or, Contains-append_left, Contains-append_right}
-use native.Mathlib.Decide.{ℕ_discrete}
-use Rattle.olap_base.specs.Steps.{Steps, Steps.here, Steps.step, Steps-append, reaches_from_Steps}
-use Rattle.olap_base.specs.Graph.{Graph, Edge, IsHierarchy}
-use Rattle.olap_base.specs.Instance.{Instance, nobody, IsInstance, IsLawful, IsBelow, Reaches, member_at, category_of, name_of, parents_of}
-use Rattle.olap_base.specs.Deciding.{below_is_member}
-use Rattle.olap_base.specs.Above.{place_in, HasOneMemberEach}
+use Rattle.std.specs.{List.{range_with_len, list_any}, Prelude.{Contains, ◌==◌, AllPairs, ◌≢◌, filter, codes}}
+use Rattle.olap_base.proofs.AboveLemmas.{reaches_all, place_in_injective}
 use Rattle.olap_base.proofs.ListLemmas.{contains_head, Contains-map, Contains-from_map, Contains-filter, Contains-from_filter, Contains-from_range_at, Contains-range_at, place_in_is, Distinct, Distinct-range, Distinct-filter, Distinct-map, Distinct-places, AllPairs-from_Distinct, Distinct-from_AllPairs, list_any_is}
 use Rattle.olap_base.proofs.Part.{IsPart, part_lawful, part_instance, part_lift, part_inside}
-use Rattle.olap_base.proofs.AboveLemmas.{reaches_all, place_in_injective}
-use Rattle.olap_ast.specs.Frozen.{is_present, categories_in_order, present_categories, id_of, member_of, instance_of}
+use Rattle.olap_base.specs.{Above.{place_in, HasOneMemberEach}, Deciding.below_is_member}
+use Rattle.olap_base.specs.Graph.{Graph, Edge, IsHierarchy}
+use Rattle.olap_base.specs.Instance.{Instance, nobody, IsInstance, IsLawful, IsBelow, Reaches, member_at, category_of, name_of, parents_of}
+use Rattle.olap_base.specs.Steps.{Steps, Steps.here, Steps.step, Steps-append, reaches_from_Steps}
 use Rattle.olap_ast.proofs.Shape.{left_true, right_true, seen, Seen, seen_from, is_seen, seen_edges, member_above, member_above_is, last_step, Distinct-push, same_edge, same_id, last_in}
-use Rattle.std.proofs.lemmas.Bool.{or_cases, eqb-true, eq-eqb}
+use Rattle.olap_ast.specs.Frozen.{is_present, categories_in_order, present_categories, id_of, member_of, instance_of}
+use native.Mathlib.Decide.{ℕ_discrete}
 
 module _ (g : Graph) (i : Instance) (hier : IsHierarchy g) (v : IsInstance i) (w : IsLawful g i) (x : ℕ)
     (hx : x < length i) where
@@ -164,17 +161,15 @@ module _ (g : Graph) (i : Instance) (hier : IsHierarchy g) (v : IsInstance i) (w
 
     -- an edge that is used leads to a category of the shape
     parent_present : (e : Edge) → Seen i x e → Contains shape_categories e.parent
-    parent_present e s = subst (λ c. Contains shape_categories c) s.parent_is
-        (present_of s.parent (v.parents_are_members s.child s.parent s.below)
+    parent_present e s = rw s.parent_is at (present_of s.parent (v.parents_are_members s.child s.parent s.below)
         (Steps-append s.reached (step s.below here)))
 
     -- a parent in the shape comes from a parent in the instance
     shape_below : (k l : ℕ) → IsBelow shape k l → (l < length shape) × IsBelow i (whole k) (whole l)
     shape_below k l b =
-        let h = below_is_member shape k l b in
         let c = get_or shape_categories k 0 in
         let t = Contains-from_map (λ (e : Edge). place_in shape_categories e.parent) (edges_of c) l
-        (subst (λ ps. Contains ps l) (parents_shape k h) b) in
+        (subst (λ ps. Contains ps l) (parents_shape k (below_is_member shape k l b)) b) in
         let u = edge_of c t.0 t.1 in
         let s = u.1 in
         let p = place_in_is shape_categories t.0.parent (parent_present t.0 s) in
@@ -186,8 +181,7 @@ module _ (g : Graph) (i : Instance) (hier : IsHierarchy g) (v : IsInstance i) (w
         (Steps-append s.reached (step s.below here)))
         ∙ ap (member_above i x) (s.parent_is ∙ sym p.1 ∙ ap (λ z. get_or shape_categories z 0) t.2) in (
           rw (length_shape, ← t.2) p.0,
-          subst (λ y. IsBelow i y (whole l)) child
-              (subst (λ z. IsBelow i s.child z) parent s.below),
+          rw child at (subst (λ z. IsBelow i s.child z) parent s.below),
         )
 
     -- a parent in the instance has a place in the shape
@@ -203,8 +197,7 @@ module _ (g : Graph) (i : Instance) (hier : IsHierarchy g) (v : IsInstance i) (w
         let in' = v.parents_are_members (whole k) y b in
         let p = place_in_is shape_categories (category_of i y) (present_of y in' s) in (
           place_in shape_categories (category_of i y),
-          subst (λ ps. Contains ps (place_in shape_categories (category_of i y))) (sym (parents_shape k h))
-              (Contains-map (λ (e : Edge). place_in shape_categories e.parent) (edges_of c)
+          rw (parents_shape k h) (Contains-map (λ (e : Edge). place_in shape_categories e.parent) (edges_of c)
               (record { child = category_of i (whole k); parent = category_of i y }) a),
           ap (member_above i x) p.1 ∙ member_above_is g i w x y in' s,
         )
@@ -239,8 +232,7 @@ module _ (g : Graph) (i : Instance) (hier : IsHierarchy g) (v : IsInstance i) (w
     -- no parent stands twice
     parents_differ_shape : (k : ℕ) → AllPairs ◌≢◌ (parents_of shape k)
     parents_differ_shape k a b d l h =
-        let in' = has_parent k b h in
-        subst (λ ps. AllPairs ◌≢◌ ps) (sym (parents_shape k in'))
+        subst (λ ps. AllPairs ◌≢◌ ps) (sym (parents_shape k (has_parent k b h)))
         (AllPairs-from_Distinct (map (λ (e : Edge). place_in shape_categories e.parent)
         (edges_of (get_or shape_categories k 0))) (apart k)) a b d l h
       where

@@ -1,29 +1,24 @@
 -- What one member of a legal instance reaches gives a frozen dimension.
 use Rattle.std.proofs.Common.{◌≡◌, ℕ, zero, suc, ◌<◌, ◌≤◌, List, [], ◌∷◌, length, map, get_or, Bool, true, false, cond, refl, ap, sym, subst, ◌∙◌, ◌↔◌, inl, inr, arith}
-use Rattle.std.specs.Prelude.{Contains, IsSome, IsTrue, filter, slice_index}
-use Rattle.std.specs.List.{range_with_len}
 use Rattle.std.proofs.lemmas.List.{length-map, get_or_default}
 use Rattle.std.proofs.lemmas.List.FromFn.{length-map-range_with_len, get_or-map-range_with_len}
-use native.Mathlib.Decide.{ℕ_discrete}
-use mathlib.Core.List.{List-discrete}
-use Rattle.olap_base.specs.Graph.{Edge, IsHierarchy, is_number}
+use Rattle.std.specs.{List.range_with_len, Prelude.{Contains, IsSome, IsTrue, filter, slice_index}}
+use Rattle.olap_base.proofs.{ListLemmas.{Contains-from_filter, Contains-nil, contains_head}, Part.IsPart}
+use Rattle.olap_base.specs.{Deciding.{decide_contains, contains_cons}, Graph.{Edge, IsHierarchy, is_number}}
 use Rattle.olap_base.specs.Instance.{Instance, IsMemberOf, category_of, name_of}
-use Rattle.olap_base.specs.Deciding.{decide_contains, contains_cons}
-use Rattle.olap_base.proofs.ListLemmas.{Contains-from_filter, Contains-nil, contains_head}
-use Rattle.olap_ast.specs.Atoms.{comparisons, equalities}
-use Rattle.olap_ast.specs.Formula.{Constant.ANumber, Constant.AText, Formula, Holds, IsNumbered}
-use Rattle.olap_base.proofs.Part.{IsPart}
-use Rattle.olap_numerals.specs.Numerals.{number_of}
-use Rattle.olap_numerals.proofs.NameLemmas.{has_name}
-use Rattle.olap_ast.specs.Schema.{Schema, IsLegal}
-use Rattle.olap_ast.specs.Constants.{IsConstant, IsFreshName, IsNameOf, new_name, numbers}
-use Rattle.olap_ast.specs.Frozen.{Frozen, Candidates, AreCandidates, AreNamesOf, is_present, categories_in_order, instance_of, chosen, text_of_index, name_in, thawed, IsFrozen, IsFrozenInstance, FrozenExactlyIfSomeInstance}
-use Rattle.olap_ast.proofs.Truth.{AsksOnly, same, NamesAgree, NumbersAgree}
-use Rattle.olap_ast.proofs.ConstantLemmas.{constant_in_constraint, constant_in_question, number_in_constraint, number_in_question}
 use Rattle.olap_ast.proofs.CandidatesExist.{fresh_is_one, fresh_names_exist}
+use Rattle.olap_ast.proofs.ConstantLemmas.{constant_in_constraint, constant_in_question, number_in_constraint, number_in_question}
 use Rattle.olap_ast.proofs.NewNames.{new_all, new_known, new_numbered, new_spells, new_text}
 use Rattle.olap_ast.proofs.Shape.{seen, seen_edges, member_above, declared}
 use Rattle.olap_ast.proofs.ShapeInstance.{shape_categories, shape, whole, shape_is_part, shape_instance, shape_lawful, shape_one_each, shape_root, shape_root_is, shape_reached, name_shape, listed, category_shape}
+use Rattle.olap_ast.{proofs.Truth.{AsksOnly, same, NamesAgree, NumbersAgree}, specs.Atoms.{comparisons, equalities}}
+use Rattle.olap_ast.specs.Constants.{IsConstant, IsFreshName, IsNameOf, new_name, numbers}
+use Rattle.olap_ast.specs.Formula.{Constant.ANumber, Constant.AText, Formula, Holds, IsNumbered}
+use Rattle.olap_ast.specs.Frozen.{Frozen, Candidates, AreCandidates, AreNamesOf, is_present, categories_in_order, instance_of, chosen, text_of_index, name_in, thawed, IsFrozen, IsFrozenInstance, FrozenExactlyIfSomeInstance}
+use Rattle.olap_ast.specs.Schema.{Schema, IsLegal}
+use Rattle.olap_numerals.{proofs.NameLemmas.has_name, specs.Numerals.number_of}
+use native.Mathlib.Decide.{ℕ_discrete}
+use mathlib.Core.List.{List-discrete}
 
 -- ---- edges and names as bits and indexes
 
@@ -64,10 +59,8 @@ index_of_is first texts name = go (decide_contains (List-discrete ℕ_discrete) 
 pub among : (s : Schema) (q : Formula) (d : ℕ) (first : List ℕ) (others : List (List ℕ)) (name : List ℕ) (m : Bool) →
     AreNamesOf m s q d first others → IsNameOf m s q d name → Contains (first ∷ others) name
 among s q d first others name false k (inl c) = contains_cons name others first (k.1.complete name c)
-among s q d first others name false k (inr f) = subst (λ t. Contains (first ∷ others) t)
-    (fresh_is_one s q first name k.0 f) (contains_head first others)
-among s q d first others name true k t = subst (λ w. Contains (first ∷ others) w) (sym t.2)
-    (has_name (numbers s q d) first others k t.0 t.1)
+among s q d first others name false k (inr f) = rw (← fresh_is_one s q first name k.0 f) (contains_head first others)
+among s q d first others name true k t = rw t.2 (has_name (numbers s q d) first others k t.0 t.1)
 
 module _ (s : Schema) (q : Formula) (k : Candidates) (hier : IsHierarchy s.graph) (ok : AreCandidates s q k)
     (fresh : List ℕ) (is_fresh : IsFreshName s q fresh) (i : Instance) (legal : IsLegal s i) (x : ℕ)
@@ -225,8 +218,7 @@ module _ (s : Schema) (q : Formula) (k : Candidates) (hier : IsHierarchy s.graph
     edge_count = length-map s.graph.edges (seen i x);
     name_count = length-map-range_with_len index 0 (length s.graph.names);
     in_range = λ c h. let l : c < length s.graph.names = rw length-map-range_with_len at h in
-        subst (λ n. n ≤ length (k.texts (suc c))) (sym (names_at c l))
-        (bound c (is_present (category_of i x) (seen_edges s.graph i x) (suc c))
+        rw (names_at c l) (bound c (is_present (category_of i x) (seen_edges s.graph i x) (suc c))
         (index_of_is (k.first (suc c)) (k.texts (suc c)) (wanted c (name_of i (member_above i x (suc c))))));
     absent = λ c h e. let l : c < length s.graph.names = rw length-map-range_with_len at h in
         names_at c l ∙ no_index (is_present (category_of i x) (seen_edges s.graph i x) (suc c))
@@ -268,9 +260,7 @@ module _ (s : Schema) (q : Formula) (k : Candidates) (hier : IsHierarchy s.graph
   truths_thawed : (h : Formula) → equalities h ≡ [] → comparisons h ≡ [] → (m : ℕ) →
       IsMemberOf (thawed s k (category_of i x) frozen) (category_of i x) m →
       Holds (thawed s k (category_of i x) frozen) m h ↔ Holds i x h
-  truths_thawed h none no_numbers =
-      subst (λ j. (m : ℕ) → IsMemberOf j (category_of i x) m → Holds j m h ↔ Holds i x h) (sym thawed_is)
-      (truths h none no_numbers)
+  truths_thawed h none no_numbers = rw thawed_is (truths h none no_numbers)
 
 -- there is one with the member's category as its root, at which the formulas without names are as true as at the member
 pub frozen_alike : (s : Schema) (q : Formula) (k : Candidates) → IsHierarchy s.graph → AreCandidates s q k

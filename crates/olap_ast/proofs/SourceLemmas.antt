@@ -1,23 +1,14 @@
 -- Sources, one by one.
 use Rattle.std.proofs.Common.{◌≡◌, ◌⊎◌, ◌∙◌, ℕ, suc, ◌+◌, ◌<◌, ◌≤◌, List, [], ◌∷◌, ◌++◌, append-nil, length, get_or, drop, drop-cons, inl, inr, refl, ap, sym, subst, arith}
-use Rattle.std.specs.Prelude.{All, flat_map, slice_index}
-use Rattle.std.proofs.lemmas.List.{get_or-map, length-map}
-use Rattle.olap_base.specs.declared.ids.CatId.{CatId}
-use Rattle.olap_base.specs.Graph.{Graph, IsCategory}
-use Rattle.olap_base.specs.Limits.{most_constants}
-use Rattle.olap_ast.specs.Atoms.{all_comparisons, all_equalities, comparisons, comparisons_of_terms, equalities, equalities_of_terms}
-use Rattle.olap_ast.specs.Pairs.{pair_count}
-use Rattle.olap_ast.specs.Constants.{HasKinds}
-use Rattle.olap_ast.specs.Schema.{Constraint, Schema}
-use Rattle.olap_ast.specs.Valid.{AreFormulasAt, IsFormulaAt, IsValidSchema}
-use Rattle.olap_ast.specs.Formula.{Formula, Formula.Truth, Formula.Via, Terms.More}
-use Rattle.olap_ast.specs.Questions.{ValidSchemasHaveCandidates, SourcesHaveCandidates}
-use Rattle.olap_ast.specs.Summarizable.{not_by_one, vias}
-use Rattle.olap_ast.specs.Trees.{numbers_of}
-use Rattle.olap_ast.proofs.AtomLemmas.{has_kinds}
-use Rattle.olap_ast.proofs.CandidatesExist.{candidates_exist}
-use Rattle.olap_ast.proofs.ComparedLemmas.{constraints_counted}
+use Rattle.std.{proofs.lemmas.List.{get_or-map, length-map}, specs.Prelude.{All, flat_map, slice_index}}
+use Rattle.olap_base.specs.{Graph.{Graph, IsCategory}, Limits.most_constants, declared.ids.CatId.CatId}
+use Rattle.olap_ast.proofs.{AtomLemmas.has_kinds, CandidatesExist.candidates_exist, ComparedLemmas.constraints_counted}
 use Rattle.olap_ast.proofs.SameAtoms.{kinds_too}
+use Rattle.olap_ast.specs.Atoms.{all_comparisons, all_equalities, comparisons, comparisons_of_terms, equalities, equalities_of_terms}
+use Rattle.olap_ast.specs.{Constants.HasKinds, Formula.{Formula, Formula.Truth, Formula.Via, Terms.More}}
+use Rattle.olap_ast.specs.{Pairs.pair_count, Questions.{ValidSchemasHaveCandidates, SourcesHaveCandidates}}
+use Rattle.olap_ast.specs.{Schema.{Constraint, Schema}, Summarizable.{not_by_one, vias}, Trees.numbers_of}
+use Rattle.olap_ast.specs.Valid.{AreFormulasAt, IsFormulaAt, IsValidSchema}
 
 -- one source more
 pub vias_more : (c : ℕ) (sources : List CatId) (k n : ℕ) (d : CatId) → k + 1 ≡ n → k < length sources
@@ -82,9 +73,7 @@ no_more_constants s q v e f =
     let ns : all_comparisons s q ≡ flat_map (λ (c : Constraint). comparisons c.formula) s.constraints =
     ap (λ xs. flat_map (λ (c : Constraint). comparisons c.formula) s.constraints ++ xs) f
     ∙ append-nil (flat_map (λ (c : Constraint). comparisons c.formula) s.constraints) in
-    subst (λ xs. pair_count xs (all_comparisons s q) ≤ most_constants) (sym texts)
-    (subst (λ ys. pair_count (flat_map (λ (c : Constraint). equalities c.formula) s.constraints) ys ≤ most_constants)
-    (sym ns) (subst (λ n. n ≤ most_constants) (constraints_counted s.constraints) v.constants_fit))
+    rw texts (rw ns (subst (λ n. n ≤ most_constants) (constraints_counted s.constraints) v.constants_fit))
 
 -- so the question of summarizability keeps it
 pub question_few : (s : Schema) (q : Formula) (c : ℕ) (sources : List ℕ) → q ≡ not_by_one c sources → IsValidSchema s

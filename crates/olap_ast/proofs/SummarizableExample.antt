@@ -1,19 +1,13 @@
 -- What summarizable and counterexamples are of one store below `All`.
-use Rattle.std.proofs.Common.{◌≡◌, ℕ, ◌<◌, ◌≤◌, List, [], ◌∷◌, length, Bool, true, false, refl, ap, sym, subst, ◌⊎◌, inl, inr, arith}
+use Rattle.std.proofs.Common.{◌≡◌, ℕ, ◌<◌, ◌≤◌, List, [], ◌∷◌, length, Bool, true, false, refl, ap, subst, ◌⊎◌, inl, inr, arith}
 use Rattle.std.specs.Prelude.{◌≢◌, Contains, slice_index}
-use Rattle.olap_base.specs.Graph.{Edge, IsBottom}
-use Rattle.olap_base.specs.Instance.{ReachesCategory, ReachesVia, category_of}
-use Rattle.olap_base.proofs.ListLemmas.{contains_head, Contains-nil, Contains-only}
-use Rattle.olap_base.proofs.ViewLemmas.{agree_exactly}
-use Rattle.olap_ast.specs.Constants.{IsConstant}
-use Rattle.olap_ast.specs.Formula.{Constant.AText, Formula}
-use Rattle.olap_ast.specs.Schema.{IsLegal}
-use Rattle.olap_base.specs.Ranks.{IsNotAfter}
-use Rattle.olap_ast.specs.Frozen.{AreCandidates, Candidates, Frozen, IsFrozen, code, thawed}
-use Rattle.olap_ast.specs.Summarizable.{IsSummarizable, not_by_one}
+use Rattle.olap_base.proofs.{ListLemmas.{contains_head, Contains-nil, Contains-only}, ViewLemmas.agree_exactly}
+use Rattle.olap_base.specs.{Graph.{Edge, IsBottom}, Instance.{ReachesCategory, ReachesVia, category_of}}
+use Rattle.olap_ast.{proofs.Examples.one_store_is_legal, proofs.SmallModel.frozen_exactly, specs.Constants.IsConstant}
 use Rattle.olap_ast.specs.Example.{OneStoreIsCounterexample, StoresAreSummarizable, stores, one_store, store_below_all}
-use Rattle.olap_ast.proofs.SmallModel.{frozen_exactly}
-use Rattle.olap_ast.proofs.Examples.{one_store_is_legal}
+use Rattle.olap_ast.specs.Formula.{Constant.AText, Formula}
+use Rattle.olap_ast.specs.{Frozen.{AreCandidates, Candidates, Frozen, IsFrozen, thawed}, Schema.IsLegal}
+use Rattle.olap_ast.specs.Summarizable.{IsSummarizable, not_by_one}
 
 -- the stores' category is a bottom one
 bottom : IsBottom stores.graph 1
@@ -97,14 +91,10 @@ only k ok f z = go f.edges f.names z.edge_count z.name_count z.stands_for.legal 
         → (0 < length ns → slice_index ns 0 ≤ length (k.texts 1))
         → record { edges = es; names = ns } ≡ store_below_all
     go (b ∷ []) (n ∷ []) p q l r =
-        let e = edge_present k b n l in
         let m : n ≤ length (k.texts 1) = r (omega arith) in
         let u : n ≡ 0 = let t = no_texts k ok in omega arith in
-        λ i. record { edges = e i ∷ []; names = u i ∷ [] }
-    go [] ns p q l r = absurd (omega arith)
-    go (b ∷ c ∷ es) ns p q l r = absurd (omega arith)
-    go (b ∷ []) [] p q l r = absurd (omega arith)
-    go (b ∷ []) (n ∷ m ∷ ns) p q l r = absurd (omega arith)
+        λ i. record { edges = (edge_present k b n l) i ∷ []; names = u i ∷ [] }
+    go es ns p q l r = absurd (omega arith)
 
 -- the store below `all` is the least counterexample
 pub one_store_is_counterexample : OneStoreIsCounterexample
@@ -113,8 +103,7 @@ one_store_is_counterexample k ok = record {
   least = record {
     candidates = ok;
     is_one = subst (λ f. IsFrozen stores asked 1 k f) (only k ok some.0 some.1) some.1;
-    least = λ h z. subst (λ f. IsNotAfter (code store_below_all) (code f)) (sym (only k ok h z))
-        (inr (refl, inr (refl, tt)));
+    least = λ h z. rw (only k ok h z) (inr (refl, inr (refl, tt)));
   };
   first = λ d l b h z. absurd (b.0.0 (omega arith));
 }

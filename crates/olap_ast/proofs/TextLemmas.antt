@@ -1,20 +1,10 @@
 -- The texts and the numbers of the atoms of two formulas.
-use Rattle.std.proofs.Common.{◌≡◌, List, ◌++◌, ℕ, Bool, map, refl, ap, ◌∙◌}
-use Rattle.std.specs.Prelude.{◌==◌, filter}
-use Rattle.std.proofs.lemmas.List.{map-append}
-use Rattle.std.proofs.lemmas.List.Elements.{filter-append}
-use Rattle.olap_ast.specs.Atoms.{Comparison, Equality, numbers_on, texts_on}
-use Rattle.olap_ast.specs.Constants.{IsBefore}
-use Rattle.std.specs.Prelude.{AllPairs, nat_eq, true}
-use Rattle.std.specs.List.{All, AllByRecursion}
-use Rattle.std.proofs.lemmas.List.Elements.{All-cons}
-use Rattle.std.proofs.lemmas.Bool.{eqb-true}
+use Rattle.std.proofs.{Common.{◌≡◌, List, ◌++◌, ℕ, Bool, map, refl, ap, ◌∙◌, [], ◌∷◌, arith}, lemmas.Bool.eqb-true}
+use Rattle.std.proofs.lemmas.List.{map-append, Elements.{filter-append, All-cons}, Kept.AllPairs-cons}
+use Rattle.std.specs.{Cmp.Lexicographic.{pointwise, slice_cmp}, List.{All, AllByRecursion}}
+use Rattle.std.specs.{List.Sorted.IsStrictlySortedBy, Ordering.nat_cmp, Prelude.{◌==◌, filter, AllPairs, nat_eq, true}}
+use Rattle.olap_ast.specs.{Atoms.{Comparison, Equality, numbers_on, texts_on}, Constants.IsBefore}
 use Rattle.olap_base.proofs.ListLemmas.{first_true, second_true}
-use Rattle.std.specs.List.Sorted.{IsStrictlySortedBy}
-use Rattle.std.specs.Ordering.{nat_cmp}
-use Rattle.std.specs.Cmp.Lexicographic.{pointwise, slice_cmp}
-use Rattle.std.proofs.lemmas.List.Kept.{AllPairs-cons}
-use Rattle.std.proofs.Common.{[], ◌∷◌, arith}
 
 -- the texts on a category, of two lists of atoms
 pub texts_on-append : (d : ℕ) (xs ys : List Equality) → texts_on d (xs ++ ys) ≡ texts_on d xs ++ texts_on d ys
@@ -34,12 +24,11 @@ numbers_on-append d xs ys =
 -- the tests of two equal texts
 pub same_text : (x y : List ℕ) → pointwise nat_eq x y ≡ true → x ≡ y
 same_text [] [] h = refl
-same_text [] (y ∷ ys) h = absurd cc
-same_text (x ∷ xs) [] h = absurd cc
 same_text (x ∷ xs) (y ∷ ys) h =
     let first : x ≡ y = eqb-true x y (first_true (nat_eq x y) (pointwise nat_eq xs ys) h) in
     let rest : xs ≡ ys = same_text xs ys (second_true (nat_eq x y) (pointwise nat_eq xs ys) h) in
     cc
+same_text x y h = absurd cc
 
 -- what holds of the first and of the rest holds of all
 all_from : (P : List ℕ → Type 0) (xs : List (List ℕ)) → AllByRecursion P xs → All P xs

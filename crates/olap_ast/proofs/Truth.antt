@@ -1,20 +1,16 @@
 -- A formula has one truth in an instance and in a part of it that is closed under parents.
-use Rattle.std.proofs.Common.{◌≡◌, ℕ, ℤ, ◌<◌, ◌↔◌, List, [], ◌∷◌, ◌++◌, length, get_or, map, refl, sym, ap, subst, ◌∙◌, inl, inr}
-use Rattle.olap_base.specs.Chains.{IsChain}
-use Rattle.olap_base.specs.Steps.{Steps-from_reaches, reaches_from_Steps}
-use Rattle.olap_base.specs.Instance.{Instance, IsInstance, IsBelow, Reaches, ReachesCategory, ReachesVia, category_of, name_of}
-use Rattle.olap_base.specs.Above.{above, self_above, members_above}
-use Rattle.olap_base.proofs.Part.{IsPart, part_steps, part_lift, part_inside}
+use Rattle.std.proofs.Common.{◌≡◌, ℕ, ℤ, ◌<◌, ◌↔◌, List, [], ◌∷◌, ◌++◌, length, get_or, map, refl, sym, ap, subst, ◌∙◌, ◌⊎◌}
+use Rattle.std.proofs.{Math.Logic.⊎_map, lemmas.List.Elements.{Contains-append_left, Contains-append_right}}
+use Rattle.std.specs.Prelude.{Contains, IsTrue}
 use Rattle.olap_base.proofs.AboveLemmas.{above_is_part, above_instance, above_lawful, one_member_each, self_is, name_above}
-use Rattle.olap_base.proofs.ListLemmas.{contains_head}
-use Rattle.std.specs.Prelude.{Contains, IsSome, IsTrue}
-use Rattle.olap_base.specs.Graph.{is_number}
-use Rattle.std.proofs.lemmas.List.Elements.{Contains-append_left, Contains-append_right}
+use Rattle.olap_base.proofs.{ListLemmas.contains_head, Part.{IsPart, part_steps, part_lift, part_inside}}
+use Rattle.olap_base.specs.{Above.{above, self_above, members_above}, Chains.IsChain, Graph.is_number}
+use Rattle.olap_base.specs.Instance.{Instance, IsInstance, IsBelow, Reaches, ReachesCategory, ReachesVia, category_of, name_of}
+use Rattle.olap_base.specs.Steps.{Steps-from_reaches, reaches_from_Steps}
 use Rattle.olap_ast.specs.Atoms.{Comparison, Equality, comparisons, comparisons_of_terms, equalities, equalities_of_terms}
-use Rattle.olap_ast.specs.Formula.{Formula, Terms, Formula.Truth, Formula.Falsity, Formula.Path, Formula.Reach, Formula.Via, Formula.Equals, Formula.Compare, Formula.Not, Formula.And, Formula.Or, Formula.Implies, Formula.Iff, Formula.Xor, Formula.One, Terms.End, Terms.More, Holds, ExactlyOneHolds, NoneHolds, HasPath, IsNumbered, ReachesNamed, ReachesNumbered}
-use Rattle.olap_numerals.specs.Comparing.{Op}
-use Rattle.olap_numerals.specs.Numerals.{number_of}
+use Rattle.olap_ast.specs.Formula.{Formula, Terms, Formula.Path, Formula.Reach, Formula.Via, Formula.Equals, Formula.Compare, Formula.Not, Formula.And, Formula.Or, Formula.Implies, Formula.Iff, Formula.Xor, Formula.One, Terms.End, Terms.More, Holds, ExactlyOneHolds, NoneHolds, HasPath, IsNumbered, ReachesNamed, ReachesNumbered}
 use Rattle.olap_ast.specs.Schema.{AboveIsLegal}
+use Rattle.olap_numerals.specs.Comparing.{Op}
 
 -- the texts of Q are the only ones that names are compared with: the names agree as far as these tell
 abbrev pub NamesAgree : Instance → Instance → (ℕ → ℕ) → (ℕ → List ℕ → Type 0) → Type 0
@@ -31,6 +27,26 @@ abbrev pub AsksOnly : (ℕ → List ℕ → Type 0) → (ℕ → ℤ → Type 0)
 AsksOnly Q N texts numbers =
     ((d : ℕ) (text : List ℕ) → Contains texts (record { category = d; text = text }) → Q d text)
     × ((d : ℕ) (n : ℤ) → Contains numbers (record { category = d; number = n }) → N d n)
+
+-- ---- connectives of what is equivalent
+
+-- neither holds where the other doesn't
+not_same : {A B : Type 0} → A ↔ B → (A → ⊥) ↔ (B → ⊥)
+not_same s = (λ n b. n (s.1 b), λ n a. n (s.0 a))
+
+-- both
+both_same : {A B C D : Type 0} → A ↔ B → C ↔ D → (A × C) ↔ (B × D)
+both_same s t = (λ a. (s.0 a.0, t.0 a.1), λ a. (s.1 a.0, t.1 a.1))
+
+-- one of the two
+either_same : {A B C D : Type 0} → A ↔ B → C ↔ D → (A ⊎ C) ↔ (B ⊎ D)
+either_same s t = (⊎_map s.0 t.0, ⊎_map s.1 t.1)
+
+-- the second, if the first
+implies_same : {A B C D : Type 0} → A ↔ B → C ↔ D → (A → C) ↔ (B → D)
+implies_same s t = (λ a b. t.0 (a (s.1 b)), λ a b. t.1 (a (s.0 b)))
+
+-- ---- an instance and a part of it
 
 module _ (i j : Instance) (e : ℕ → ℕ) (p : IsPart i j e) (Q : ℕ → List ℕ → Type 0) (N : ℕ → ℤ → Type 0)
     (names : NamesAgree i j e Q) (numbers : NumbersAgree i j e N) where
@@ -141,26 +157,22 @@ module _ (i j : Instance) (e : ℕ → ℕ) (p : IsPart i j e) (Q : ℕ → List
   abbrev Within : List Equality → List Comparison → Type 0
   Within texts numbers = AsksOnly Q N texts numbers
 
-  -- those of the first of two parts
-  left : (xs ys : List Equality) (ns ms : List Comparison) → Within (xs ++ ys) (ns ++ ms) → Within xs ns
-  left xs ys ns ms w = (
-    λ d text c. w.0 d text (Contains-append_left xs ys (record { category = d; text = text }) c),
-    λ d n c. w.1 d n (Contains-append_left ns ms (record { category = d; number = n }) c),
+  -- those of both of two parts
+  parts : (xs ys : List Equality) (ns ms : List Comparison) → Within (xs ++ ys) (ns ++ ms) → Within xs ns × Within ys ms
+  parts xs ys ns ms w = (
+    (λ d k c. w.0 d k (Contains-append_left xs ys _ c), λ d n c. w.1 d n (Contains-append_left ns ms _ c)),
+    (λ d k c. w.0 d k (Contains-append_right xs ys _ c), λ d n c. w.1 d n (Contains-append_right ns ms _ c)),
   )
 
-  -- and of the second
-  right : (xs ys : List Equality) (ns ms : List Comparison) → Within (xs ++ ys) (ns ++ ms) → Within ys ms
-  right xs ys ns ms w = (
-    λ d text c. w.0 d text (Contains-append_right xs ys (record { category = d; text = text }) c),
-    λ d n c. w.1 d n (Contains-append_right ns ms (record { category = d; number = n }) c),
-  )
+  -- those of two formulas
+  halves : (f g : Formula) → Within (equalities f ++ equalities g) (comparisons f ++ comparisons g)
+      → Within (equalities f) (comparisons f) × Within (equalities g) (comparisons g)
+  halves f g = parts (equalities f) (equalities g) (comparisons f) (comparisons g)
 
   mutual
     -- a formula has one truth in both
     pub same : (k : ℕ) → k < length j → (f : Formula) → Within (equalities f) (comparisons f)
         → Holds j k f ↔ Holds i (e k) f
-    same k h Truth w = (λ t. t, λ t. t)
-    same k h Falsity w = (λ t. t, λ t. t)
     same k h (Path cs) w = (path_down k cs, path_up k cs h)
     same k h (Reach d) w = (reach_down k d h, reach_up k d h)
     same k h (Via d c) w = (via_down k d c h, via_up k d c h)
@@ -168,59 +180,34 @@ module _ (i j : Instance) (e : ℕ → ℕ) (p : IsPart i j e) (Q : ℕ → List
         (named_down k d text h u, named_up k d text h u)
     same k h (Compare d op n) w = let u = w.1 d n (contains_head (record { category = d; number = n }) []) in
         (numbered_down k d op n h u, numbered_up k d op n h u)
-    same k h (Not f) w = let s = same k h f w in (λ n a. n (s.1 a), λ n a. n (s.0 a))
-    same k h (And f g) w =
-        let s = same k h f (left (equalities f) (equalities g) (comparisons f) (comparisons g) w) in
-        let t = same k h g (right (equalities f) (equalities g) (comparisons f) (comparisons g) w) in
-        (λ a. (s.0 a.0, t.0 a.1), λ a. (s.1 a.0, t.1 a.1))
-    same k h (Or f g) w =
-        let s = same k h f (left (equalities f) (equalities g) (comparisons f) (comparisons g) w) in
-        let t = same k h g (right (equalities f) (equalities g) (comparisons f) (comparisons g) w) in (
-          λ a. elim a [ inl b ↦ inl (s.0 b) | inr b ↦ inr (t.0 b) ],
-          λ a. elim a [ inl b ↦ inl (s.1 b) | inr b ↦ inr (t.1 b) ],
-        )
-    same k h (Implies f g) w =
-        let s = same k h f (left (equalities f) (equalities g) (comparisons f) (comparisons g) w) in
-        let t = same k h g (right (equalities f) (equalities g) (comparisons f) (comparisons g) w) in
-        (λ a b. t.0 (a (s.1 b)), λ a b. t.1 (a (s.0 b)))
-    same k h (Iff f g) w =
-        let s = same k h f (left (equalities f) (equalities g) (comparisons f) (comparisons g) w) in
-        let t = same k h g (right (equalities f) (equalities g) (comparisons f) (comparisons g) w) in (
-          λ a. (λ b. t.0 (a.0 (s.1 b)), λ b. s.0 (a.1 (t.1 b))),
-          λ a.
-              (λ b. t.1 (a.0 (s.0 b)), λ b. s.1 (a.1 (t.0 b))),
-        )
-    same k h (Xor f g) w =
-        let s = same k h f (left (equalities f) (equalities g) (comparisons f) (comparisons g) w) in
-        let t = same k h g (right (equalities f) (equalities g) (comparisons f) (comparisons g) w) in (
-          λ a. elim a [ inl b ↦ inl (s.0 b.0, λ c. b.1 (t.1 c)) | inr b ↦ inr (λ c. b.0 (s.1 c), t.0 b.1) ],
-          λ a. elim a [ inl b ↦ inl (s.1 b.0, λ c. b.1 (t.0 c)) | inr b ↦ inr (λ c. b.0 (s.0 c), t.1 b.1) ],
-        )
+    same k h (Not f) w = not_same (same k h f w)
+    same k h (And f g) w = let p = halves f g w in both_same (same k h f p.0) (same k h g p.1)
+    same k h (Or f g) w = let p = halves f g w in either_same (same k h f p.0) (same k h g p.1)
+    same k h (Implies f g) w = let p = halves f g w in implies_same (same k h f p.0) (same k h g p.1)
+    same k h (Iff f g) w = let p = halves f g w in
+        both_same (implies_same (same k h f p.0) (same k h g p.1)) (implies_same (same k h g p.1) (same k h f p.0))
+    same k h (Xor f g) w = let p = halves f g w in either_same
+        (both_same (same k h f p.0) (not_same (same k h g p.1)))
+        (both_same (not_same (same k h f p.0)) (same k h g p.1))
     same k h (One ts) w = same_one k h ts w
+    same k h f w = (λ t. t, λ t. t)
 
     -- exactly one of the terms holds in both
     same_one : (k : ℕ) → k < length j → (ts : Terms) → Within (equalities_of_terms ts) (comparisons_of_terms ts) →
         ExactlyOneHolds j k ts ↔ ExactlyOneHolds i (e k) ts
     same_one k h End w = (λ t. t, λ t. t)
     same_one k h (More f ts) w =
-        let s = same k h f (left (equalities f) (equalities_of_terms ts) (comparisons f) (comparisons_of_terms ts) w) in
-        let n = same_none k h ts
-        (right (equalities f) (equalities_of_terms ts) (comparisons f) (comparisons_of_terms ts) w) in
-        let t = same_one k h ts
-        (right (equalities f) (equalities_of_terms ts) (comparisons f) (comparisons_of_terms ts) w) in (
-          λ a. elim a [ inl b ↦ inl (s.0 b.0, n.0 b.1) | inr b ↦ inr (λ c. b.0 (s.1 c), t.0 b.1) ],
-          λ a. elim a [ inl b ↦ inl (s.1 b.0, n.1 b.1) | inr b ↦ inr (λ c. b.0 (s.0 c), t.1 b.1) ],
-        )
+        let p = parts (equalities f) (equalities_of_terms ts) (comparisons f) (comparisons_of_terms ts) w in
+        let s = same k h f p.0 in
+        either_same (both_same s (same_none k h ts p.1)) (both_same (not_same s) (same_one k h ts p.1))
 
     -- none of the terms holds in both
     same_none : (k : ℕ) → k < length j → (ts : Terms) → Within (equalities_of_terms ts) (comparisons_of_terms ts) →
         NoneHolds j k ts ↔ NoneHolds i (e k) ts
     same_none k h End w = (λ t. t, λ t. t)
     same_none k h (More f ts) w =
-        let s = same k h f (left (equalities f) (equalities_of_terms ts) (comparisons f) (comparisons_of_terms ts) w) in
-        let n = same_none k h ts
-        (right (equalities f) (equalities_of_terms ts) (comparisons f) (comparisons_of_terms ts) w) in
-        (λ a. (λ c. a.0 (s.1 c), n.0 a.1), λ a. (λ c. a.0 (s.0 c), n.1 a.1))
+        let p = parts (equalities f) (equalities_of_terms ts) (comparisons f) (comparisons_of_terms ts) w in
+        both_same (not_same (same k h f p.0)) (same_none k h ts p.1)
 
 -- ---- above one member
 
@@ -255,8 +242,7 @@ above_is_legal_lem s i x v h =
       legal = record {
         is_instance = above_instance i x v.is_instance s.graph v.lawful h;
         numerals = λ m k a. let b = subst (λ c. IsTrue (is_number s.graph c)) (p.category m k) a in
-            subst (λ t. IsSome (number_of t)) (sym (name_above i x v.is_instance m k))
-            (v.numerals (e m) (p.member m k) b);
+            rw (name_above i x v.is_instance m k) (v.numerals (e m) (p.member m k) b);
         lawful = above_lawful i x v.is_instance s.graph v.lawful;
         meets = λ c d k m. (same i (above i x) e p Any_text Any_number (names_above i x v.is_instance)
             (numbers_above i x v.is_instance) k m.0 c.formula (λ a b r. tt, λ a b r. tt)).1

@@ -1,12 +1,9 @@
 -- For given candidates there is one least frozen dimension at most, and one counterexample.
 use Rattle.std.proofs.Common.{◌≡◌, ℕ, ◌<◌, List, [], ◌∷◌, ◌++◌, length, map, Bool, true, false, cond, refl, sym, subst, ◌∙◌, ◌⊎◌, inl, inr, arith}
-use Rattle.olap_base.specs.Ranks.{IsNotAfter}
-use Rattle.olap_ast.specs.Formula.{Formula}
-use Rattle.olap_ast.specs.Schema.{Schema}
-use Rattle.olap_ast.specs.Frozen.{Candidates, Frozen, IsLeastFrozen, code}
-use Rattle.olap_ast.specs.Summarizable.{IsCounterexample, not_by_one}
-use Rattle.olap_base.proofs.RankLemmas.{not_after_both}
 use Rattle.std.proofs.lemmas.Bool.{cases_order}
+use Rattle.olap_base.{proofs.RankLemmas.not_after_both, specs.Ranks.IsNotAfter}
+use Rattle.olap_ast.specs.{Formula.Formula, Frozen.{Candidates, Frozen, IsLeastFrozen, code}, Schema.Schema}
+use Rattle.olap_ast.specs.Summarizable.{IsCounterexample, not_by_one}
 
 -- ---- the least is one
 
@@ -17,18 +14,16 @@ bits bs = map (λ b. cond b 1 0) bs
 -- a bit is told by its number
 pub same_bit : (a b : Bool) → ◌≡◌ {A = ℕ} (cond a 1 0) (cond b 1 0) → a ≡ b
 same_bit true true e = refl
-same_bit true false e = absurd (omega arith)
-same_bit false true e = absurd (omega arith)
 same_bit false false e = refl
+same_bit a b e = absurd (omega arith)
 
 -- equal codes have equal bits and equal indexes
 parts : (a b : List Bool) (m n : List ℕ) → length a ≡ length b → bits a ++ m ≡ bits b ++ n → (a ≡ b) × (m ≡ n)
 parts [] [] m n h e = (refl, e)
-parts [] (y ∷ b) m n h e = absurd (omega arith)
-parts (x ∷ a) [] m n h e = absurd (omega arith)
 parts (x ∷ a) (y ∷ b) m n h e = let p : ◌≡◌ {A = ℕ} (cond x 1 0) (cond y 1 0) =
     cc e in let q : bits a ++ m ≡ bits b ++ n = cc e in
     let r = parts a b m n (omega arith) q in let z = same_bit x y p in let w = r.0 in (cc, r.1)
+parts a b m n h e = absurd (omega arith)
 
 -- a value is its bits and its indexes
 same_frozen : (f h : Frozen) → f.edges ≡ h.edges → f.names ≡ h.names → f ≡ h

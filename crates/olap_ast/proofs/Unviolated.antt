@@ -1,16 +1,12 @@
 -- An instance is legal exactly if nothing is violated.
 use Rattle.std.proofs.Common.{◌≡◌, ℕ, zero, suc, ◌<◌, List, [], ◌∷◌, length, refl, ap, sym, subst, ◌∙◌, Some, arith}
-use Rattle.std.specs.Prelude.{Contains, slice_get, slice_index, slice_index_or}
-use Rattle.std.proofs.lemmas.List.{get_or_default}
-use native.Mathlib.Decide.{ℕ_discrete}
-use Rattle.olap_base.specs.Graph.{Edge, HasEdge}
+use Rattle.std.{proofs.lemmas.List.get_or_default, specs.Prelude.{Contains, slice_get, slice_index, slice_index_or}}
+use Rattle.olap_base.proofs.{DecisionLemmas.stable, ListLemmas.{contains_head, Contains-nil}}
+use Rattle.olap_base.specs.{Deciding.decide_contains, Graph.Edge}
 use Rattle.olap_base.specs.Instance.{IsBelow, IsFarBelow, category_of, parents_of}
-use Rattle.olap_base.specs.Deciding.{decide_contains}
-use Rattle.olap_base.proofs.ListLemmas.{contains_head, Contains-nil}
-use Rattle.olap_ast.specs.Schema.{Constraint, IsLegal}
+use Rattle.olap_ast.{proofs.Decided.decide_holds, specs.Schema.{Constraint, IsLegal}}
 use Rattle.olap_ast.specs.Violation.{Violation, Violation.NoEdge, Violation.NoParent, Violation.SameCategory, Violation.TwoAncestors, Violation.Shortcut, Violation.Unmet, IsViolation, LegalExactlyIfNoViolation}
-use Rattle.olap_ast.proofs.Decided.{decide_holds}
-use Rattle.olap_base.proofs.DecisionLemmas.{stable}
+use native.Mathlib.Decide.{ℕ_discrete}
 
 -- whether two edges are the same
 pub edge_discrete : Discrete Edge
@@ -66,8 +62,7 @@ legal_exactly s i v numerals = (to, from)
             (record { child = category_of i x; parent = category_of i y }))
             (λ f. n (NoEdge x b.0) (
               b.1,
-              λ e. f (subst (λ z. HasEdge s.graph (category_of i x) (category_of i z))
-                  (get_or_default (parents_of i x) b.0 0 y b.1 ∙ b.2) e),
+              λ e. f (rw (get_or_default (parents_of i x) b.0 0 y b.1 ∙ b.2) at e),
             ));
         up_connectivity = λ x h m. some_parent (parents_of i x) (λ e. n (NoParent x) (h, m, e));
         stratification = λ x y f e. n (SameCategory x) (y, f, e);

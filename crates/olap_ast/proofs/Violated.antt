@@ -1,18 +1,15 @@
 -- Whether a violation is one can be decided, and the numbers of its rank are bounded.
 use Rattle.std.proofs.Common.{◌≡◌, ℕ, zero, suc, ◌+◌, ◌<◌, List, [], ◌∷◌, length, refl, sym, subst, inl, inr, arith}
 use Rattle.std.specs.Prelude.{◌⊎◌, Option, Some, None, Contains, slice_get, slice_index}
-use native.Mathlib.Decide.{ℕ_discrete, dec_lt}
-use mathlib.Core.List.{List-discrete}
+use Rattle.olap_base.proofs.DecisionLemmas.{dec_not}
+use Rattle.olap_base.specs.Deciding.{dec_and, dec_iff, decide_reaches, decide_contains, below_is_member, contains_cases}
 use Rattle.olap_base.specs.Instance.{Instance, IsMember, IsMemberOf, IsBelow, IsFarBelow, Reaches, category_of, parents_of}
 use Rattle.olap_base.specs.Steps.{Steps, Steps.here, Steps.step, Climb, Climb.climb, Climb-from_leads, leads_from_Climb, Steps-from_reaches, reaches_from_Steps}
-use Rattle.olap_base.specs.Deciding.{dec_and, dec_iff, decide_reaches, decide_contains, below_is_member, contains_cases}
-use Rattle.olap_ast.specs.Formula.{Holds}
-use Rattle.olap_ast.specs.Schema.{Schema, Constraint}
+use Rattle.olap_ast.proofs.{Decided.{dec_some, decide_holds}, Least.{dec_number, Fits}, Unviolated.edge_discrete}
+use Rattle.olap_ast.specs.{Formula.Holds, Schema.{Schema, Constraint}}
 use Rattle.olap_ast.specs.Violation.{Violation, Violation.NoEdge, Violation.NoParent, Violation.SameCategory, Violation.TwoAncestors, Violation.Shortcut, Violation.Unmet, IsViolation, rank}
-use Rattle.olap_ast.proofs.Decided.{dec_some, decide_holds}
-use Rattle.olap_ast.proofs.Unviolated.{edge_discrete}
-use Rattle.olap_ast.proofs.Least.{dec_number, Fits}
-use Rattle.olap_base.proofs.DecisionLemmas.{dec_not}
+use native.Mathlib.Decide.{ℕ_discrete, dec_lt}
+use mathlib.Core.List.{List-discrete}
 
 -- ---- a bound on what an instance speaks of
 

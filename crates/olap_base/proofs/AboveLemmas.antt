@@ -1,22 +1,17 @@
 -- The members that one member of a lawful instance reaches are a lawful instance with at most one member per category.
 use Rattle.std.proofs.Common.{◌≡◌, ℕ, zero, suc, ◌+◌, ◌<◌, ◌≤◌, List, [], ◌∷◌, length, map, get_or, Bool, true, false, cond, refl, sym, ap, subst, ◌∙◌, inl, inr, arith}
-use Rattle.std.specs.Prelude.{AllPairs, ◌≢◌, Contains}
-use Rattle.std.specs.List.{range_with_len}
-use Rattle.std.specs.List.Sorted.{IsStrictlyIncreasing}
-use Rattle.std.proofs.lemmas.List.{get_or-map, length-map}
-use Rattle.std.proofs.lemmas.List.FromFn.{length-range_with_len, get_or-range_with_len}
+use Rattle.std.proofs.lemmas.{Bool.{false_from_ne_true, cases_order}, List.{get_or-map, length-map}}
+use Rattle.std.proofs.lemmas.List.{Elements.Contains-get_or, FromFn.{length-range_with_len, get_or-range_with_len}}
 use Rattle.std.proofs.lemmas.List.Kept.{IsStrictlyIncreasing-filter, AllPairs-from_increasing}
-use Rattle.std.proofs.lemmas.List.Elements.{Contains-get_or}
-use native.Mathlib.Decide.{ℕ_discrete}
-use Rattle.olap_base.specs.Steps.{Steps, Steps.here, Steps.step, Climb, Climb.climb, Steps-append, Steps-cases, leads_from_Climb, Steps-from_reaches, reaches_from_Steps}
-use Rattle.olap_base.specs.Graph.{Graph}
-use Rattle.olap_base.specs.Instance.{Instance, nobody, IsInstance, IsLawful, IsBelow, Reaches, category_of, name_of, member_at, parents_of}
-use Rattle.olap_base.specs.Deciding.{below_is_member, contains_cases}
-use Rattle.olap_base.specs.Reaching.{reaches, reaches_is}
-use Rattle.olap_base.specs.Above.{members_above, place_in, above, self_above, HasOneMemberEach}
+use Rattle.std.specs.{List.range_with_len, List.Sorted.IsStrictlyIncreasing, Prelude.{AllPairs, ◌≢◌, Contains}}
 use Rattle.olap_base.proofs.ListLemmas.{Contains-map, Contains-from_map, Contains-filter, Contains-from_filter, Contains-range, Contains-from_range, place_in_is}
 use Rattle.olap_base.proofs.Part.{IsPart, increasing_injective, part_lawful, part_instance, part_lift}
-use Rattle.std.proofs.lemmas.Bool.{false_from_ne_true, cases_order}
+use Rattle.olap_base.specs.Above.{members_above, place_in, above, self_above, HasOneMemberEach}
+use Rattle.olap_base.specs.{Deciding.{below_is_member, contains_cases}, Graph.Graph}
+use Rattle.olap_base.specs.Instance.{Instance, nobody, IsInstance, IsLawful, IsBelow, Reaches, category_of, name_of, member_at, parents_of}
+use Rattle.olap_base.specs.Reaching.{reaches, reaches_is}
+use Rattle.olap_base.specs.Steps.{Steps, Steps.here, Steps.step, Climb, Climb.climb, Steps-append, Steps-cases, leads_from_Climb, Steps-from_reaches, reaches_from_Steps}
+use native.Mathlib.Decide.{ℕ_discrete}
 
 -- ---- what a member of a lawful instance reaches
 

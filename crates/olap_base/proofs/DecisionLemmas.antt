@@ -1,8 +1,7 @@
 -- What can be decided, beyond the specs: connectives, and what holds below a number.
 use Rattle.std.proofs.Common.{◌≡◌, ℕ, zero, suc, ◌<◌, Bool, true, false, refl, sym, subst, inl, inr, arith}
 use Rattle.std.specs.Prelude.{◌⊎◌, ◌↔◌}
-use Rattle.olap_base.specs.Deciding.{dec_and, dec_iff, dec_or}
-use Rattle.olap_base.proofs.GeneralLemmas.{same_or_below_suc}
+use Rattle.olap_base.{proofs.GeneralLemmas.same_or_below_suc, specs.Deciding.{dec_and, dec_iff, dec_or}}
 
 -- whether A fails
 pub dec_not : {A : Type 0} → Dec A → Dec (A → ⊥)

@@ -1,10 +1,8 @@
 -- Lemmas on numbers, tests and options that std lacks.
 use Rattle.std.proofs.Common.{◌≡◌, ◌||◌, Bool, true, false, refl, ◌≢◌, ◌==◌, ℕ, arith, ℤ, to_z, of_z, w64, ◌<◌, ◌⊎◌, ◌≤◌, suc, ◌+◌, ◌&&◌, cond, Option, None, Some, sym, ◌∙◌, ◌↔◌, List, [], ◌∷◌, subst, inl, inr, Result, Ok, Err}
+use Rattle.std.{proofs.lemmas.Int.to_z-of_z, specs.Prelude.{not, IsTrue, is_some, IfOk}}
+use Rattle.olap_base.specs.{OneFact.HoldsTimes, Views.{ExactlyOne, NoneOf}}
 use mir.Val.{SFits}
-use Rattle.std.proofs.lemmas.Int.{to_z-of_z}
-use Rattle.std.specs.Prelude.{not, IsTrue, is_some, IfOk}
-use Rattle.olap_base.specs.OneFact.{HoldsTimes}
-use Rattle.olap_base.specs.Views.{ExactlyOne, NoneOf}
 
 -- or with false changes nothing
 pub or_false : (b : Bool) → (b || false) ≡ b

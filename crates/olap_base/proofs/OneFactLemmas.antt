@@ -1,11 +1,7 @@
 -- The views of one fact of value 1.
-use Rattle.olap_base.specs.Instance.{ReachesVia}
-use Rattle.olap_base.specs.Reaching.{reaches_is}
-use Rattle.olap_base.specs.OneFact.{OneFactsViews}
-use Rattle.olap_base.specs.Views.{members}
-use Rattle.olap_base.proofs.RollingTotals.{By}
-use Rattle.olap_base.proofs.RollingLemmas.{direct_of_one, merged_of_one, times_same}
-use Rattle.olap_base.proofs.ViewLemmas.{is_member_of, members_roll, via_is_by}
+use Rattle.olap_base.proofs.{RollingLemmas.{direct_of_one, merged_of_one, times_same}, RollingTotals.By}
+use Rattle.olap_base.{proofs.ViewLemmas.{is_member_of, members_roll, via_is_by}, specs.Instance.ReachesVia}
+use Rattle.olap_base.specs.{OneFact.OneFactsViews, Reaching.reaches_is, Views.members}
 
 -- the direct view has 1 at the member, the view from the sources has the number of sources
 pub one_facts_views : OneFactsViews

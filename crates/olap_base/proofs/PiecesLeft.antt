@@ -1,8 +1,7 @@
 -- A text that is cut at its marks, piece by piece.
 use Rattle.std.proofs.Common.{◌≡◌, ◌+◌, ◌<◌, ◌∷◌, ◌∙◌, Bool, true, false, Bor, ℕ, List, [], cond, length, take, drop, nat_lt, Option, Some, None, IfSome, refl, ap, arith}
+use Rattle.std.proofs.lemmas.{Bool.{le-ltb, ltb-false, ltb-true}, List.Splits.slice_split_first}
 use Rattle.std.specs.List.{after_first, before_first, onto_first, position, position_or_len, slice_split}
-use Rattle.std.proofs.lemmas.Bool.{le-ltb, ltb-false, ltb-true}
-use Rattle.std.proofs.lemmas.List.Splits.{slice_split_first}
 
 -- nothing left counts 0, a text counts its length and one more
 abbrev pub size_left : Option (Bor (List ℕ)) → ℕ

@@ -1,8 +1,6 @@
 -- A refusal out of memory is allowed whatever reasons are.
-use Rattle.std.proofs.Common.{Result, Ok, Err}
-use Rattle.std.specs.Prelude.{IfErr, IsErrAnd}
-use Rattle.olap_base.specs.Refusing.{IsFor, IsForMemory}
-use Rattle.olap_base.specs.declared.refusals.Refusal.{Refusal}
+use Rattle.std.{proofs.Common.{Result, Ok, Err}, specs.Prelude.{IfErr, IsErrAnd}}
+use Rattle.olap_base.specs.{Refusing.{IsFor, IsForMemory}, declared.refusals.Refusal.Refusal}
 use Rattle.olap_base.specs.declared.refusals.Refusal.TheVariants as refusal
 
 -- it is

@@ -1,16 +1,14 @@
 -- Rolling up over any points: the two views agree for every list of facts exactly if each fact's point is reached by
 -- one source.
 use Rattle.std.proofs.Common.{◌≡◌, ℕ, zero, suc, ◌+◌, ◌⊎◌, ◌↔◌, List, [], ◌∷◌, ℤ, pos, Bool, true, false, cond, refl, sym, ap, subst, ◌∙◌, inl, inr, Option, Some, None, arith}
+use Rattle.std.{proofs.lemmas.Bool.false_from_ne_true, specs.List.cons_option}
 use Rattle.std.specs.Prelude.{Contains, filter_map, IsTrue}
-use Rattle.std.specs.List.{cons_option}
-use Rattle.olap_base.specs.Deciding.{contains_cons, contains_cases, is_yes, is_yes_is}
+use Rattle.olap_base.proofs.ListLemmas.{contains_head, Contains-nil, Distinct, filter_map_same}
+use Rattle.olap_base.proofs.RollingTotals.{IsRolling, By, ReachedOnce, single, value_if, facts_totals, value_by, rows_totals, nothing_if, by_source, by_source_is, one_by_source, by_sources, At}
+use Rattle.olap_base.proofs.TotalLemmas.{⊕_none, total_by, total_same, total_nothing}
+use Rattle.olap_base.specs.{Deciding.{contains_cons, contains_cases, is_yes, is_yes_is}, OneFact.{HoldsTimes, ones}}
 use Rattle.olap_base.specs.Summaries.{Summary, ◌⊕◌}
 use Rattle.olap_base.specs.Views.{Fact, Row, Points, NoneOf, ExactlyOne, ViewsAgree, direct_rows, direct_views, one_fact, row_at, rows_from_views, total_of_facts, total_of_views}
-use Rattle.olap_base.specs.OneFact.{HoldsTimes, ones}
-use Rattle.olap_base.proofs.ListLemmas.{contains_head, Contains-nil, Distinct, filter_map_same}
-use Rattle.olap_base.proofs.TotalLemmas.{⊕_none, total_by, total_same, total_nothing}
-use Rattle.olap_base.proofs.RollingTotals.{IsRolling, By, ReachedOnce, single, value_if, facts_totals, value_by, rows_totals, nothing_if, by_source, by_source_is, one_by_source, by_sources, At}
-use Rattle.std.proofs.lemmas.Bool.{false_from_ne_true}
 
 -- ---- the two views agree where each fact's point is reached by one source
 

@@ -1,14 +1,11 @@
 -- Rolling up over any points: the two views of their facts, and what a fact adds to each.
-use Rattle.std.proofs.Common.{◌≡◌, ◌↔◌, List, [], ◌∷◌, ℤ, pos, Bool, true, false, cond, ◌&&◌, ◌||◌, map, refl, sym, ap, subst, ◌∙◌, inl, inr, Option, Some, None}
-use Rattle.std.specs.Prelude.{Contains, filter, filter_map, flat_map, IsTrue}
-use Rattle.std.specs.List.{list_any}
-use Rattle.std.proofs.lemmas.List.Folds.{flat_map-map}
-use Rattle.olap_base.specs.Deciding.{contains_cons}
-use Rattle.olap_base.specs.Summaries.{Summary, of_value, total, ◌⊕◌}
-use Rattle.olap_base.specs.Views.{NoneOf, ExactlyOne, Fact, Row, View, Points, direct_rows, direct_view, direct_views, row_at, rows_below, total_of_facts, total_of_views, values_at}
+use Rattle.std.proofs.Common.{◌≡◌, ◌↔◌, List, [], ◌∷◌, ℤ, Bool, true, false, cond, ◌&&◌, ◌||◌, refl, sym, ap, subst, ◌∙◌, inl, inr, Option, Some, None}
+use Rattle.std.proofs.lemmas.{Bool.{false_from_ne_true, and_from}, List.Folds.flat_map-map}
+use Rattle.std.specs.{List.list_any, Prelude.{Contains, filter, flat_map, IsTrue}}
 use Rattle.olap_base.proofs.ListLemmas.{contains_head, Distinct, list_any_is, first_true, second_true}
 use Rattle.olap_base.proofs.TotalLemmas.{⊕_none, total_by, total_is, total_same, total_nothing, total-map, total-flat_map, total-filter, total-filter_map, total_swap, total_when, of_some}
-use Rattle.std.proofs.lemmas.Bool.{false_from_ne_true, and_from}
+use Rattle.olap_base.specs.{Deciding.contains_cons, Summaries.{Summary, of_value, ◌⊕◌}}
+use Rattle.olap_base.specs.Views.{NoneOf, ExactlyOne, Fact, Row, View, Points, direct_rows, direct_view, direct_views, row_at, rows_below, total_of_facts, total_of_views, values_at}
 
 -- ---- points that roll up
 

@@ -1,16 +1,10 @@
 -- Counts, sums, leasts and greatests, which joined in any order.
-use Rattle.std.proofs.Common.{◌≡◌, ◌+◌, add_assoc, List, [], ◌∷◌, ◌++◌, map, ℤ, ◌+ℤ◌, Bool, true, false, cond, refl, sym, ap, ◌∙◌, Option, Some, None, arith}
-use Rattle.std.proofs.Math.IntN.{+ℤ_assoc, +ℤ_comm}
-use Rattle.std.specs.Int.{int_min, int_max}
+use Rattle.std.proofs.Common.{◌≡◌, ◌+◌, add_assoc, List, [], ◌∷◌, ◌++◌, map, ℤ, ◌+ℤ◌, Bool, true, false, cond, refl, sym, ap, ◌∙◌, Option, Some, None, arith, one-add}
+use Rattle.std.proofs.{Math.IntN.{+ℤ_assoc, +ℤ_comm}, Math.Nat.add_comm, lemmas.Int.ints, lemmas.List.Sums.sum_by-cons}
+use Rattle.std.specs.{Int.{int_min, int_max}, List.cons_option}
 use Rattle.std.specs.Prelude.{Contains, filter, filter_map, flat_map, fold, length, sum_by}
-use Rattle.std.proofs.lemmas.List.Sums.{sum_by-cons}
-use Rattle.std.proofs.Common.{one-add}
-use Rattle.std.specs.List.{cons_option}
-use Rattle.olap_base.specs.Deciding.{contains_cons}
+use Rattle.olap_base.{proofs.ListLemmas.contains_head, specs.Deciding.contains_cons}
 use Rattle.olap_base.specs.Summaries.{Summary, TotalsOfSummaries, TotalsOfValues, joined, of_value, total, ◌⊕◌}
-use Rattle.olap_base.proofs.ListLemmas.{contains_head}
-use Rattle.std.proofs.lemmas.Int.{ints}
-use Rattle.std.proofs.Math.Nat.{add_comm}
 
 -- the lesser of two, in either order
 pub int_min_comm : (x y : ℤ) → int_min x y ≡ int_min y x

@@ -1,19 +1,14 @@
 -- Members of an instance as points: the two views of a category agree for every fact table exactly if each fact's
 -- member is reached by one source.
-use Rattle.std.proofs.Common.{◌≡◌, ℕ, ◌↔◌, length, true, refl, sym, subst, ◌∙◌}
-use Rattle.std.specs.Prelude.{Contains, ◌==◌}
-use Rattle.std.specs.List.{range_with_len}
-use Rattle.std.proofs.Math.Decide.{ℕ_discrete}
-use Rattle.olap_base.specs.Steps.{Steps-append}
+use Rattle.std.proofs.{Common.{◌≡◌, ℕ, ◌↔◌, length, true, sym, subst, ◌∙◌}, Math.Decide.ℕ_discrete}
+use Rattle.std.{proofs.lemmas.Bool.{eqb-true, eq-eqb}, specs.List.range_with_len, specs.Prelude.{Contains, ◌==◌}}
+use Rattle.olap_base.proofs.AboveLemmas.{reached_once, steps_of, reaches_of}
+use Rattle.olap_base.proofs.ListLemmas.{Contains-filter, Contains-from_filter, Contains-range, Contains-from_range, Distinct, Distinct-range, Distinct-filter}
+use Rattle.olap_base.proofs.{RollingLemmas.rolling_agree, RollingTotals.{IsRolling, By}}
 use Rattle.olap_base.specs.Graph.{Graph, IsBottom}
 use Rattle.olap_base.specs.Instance.{Instance, IsLawful, IsMember, IsMemberOf, ReachesVia, category_of}
-use Rattle.olap_base.specs.Reaching.{reaches, reaches_is}
+use Rattle.olap_base.specs.{Reaching.{reaches, reaches_is}, Steps.Steps-append}
 use Rattle.olap_base.specs.Views.{members, members_of, AgreeExactlyIfReachedByOne}
-use Rattle.olap_base.proofs.ListLemmas.{Contains-filter, Contains-from_filter, Contains-range, Contains-from_range, Distinct, Distinct-range, Distinct-filter}
-use Rattle.olap_base.proofs.AboveLemmas.{reached_once, steps_of, reaches_of}
-use Rattle.olap_base.proofs.RollingTotals.{IsRolling, By}
-use Rattle.olap_base.proofs.RollingLemmas.{rolling_agree}
-use Rattle.std.proofs.lemmas.Bool.{eqb-true, eq-eqb}
 
 -- what is listed for a category is a member of it
 pub members_of_is : (i : Instance) (c y : ℕ) → Contains (members_of i c) y → IsMemberOf i c y

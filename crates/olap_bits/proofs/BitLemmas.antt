@@ -1,11 +1,9 @@
 -- One bit of a word: of two words joined bit by bit, and of a word that isn't 0.
 use Rattle.std.proofs.Common.{◌≡◌, ℕ, zero, suc, ◌+◌, ◌-◌, ◌/◌, ◌%◌, ◌^◌, ◌<◌, max, min, Bool, false, not, ◌&&◌, ◌||◌, eqb, refl, ap, ◌∙◌, arith}
-use Rattle.std.specs.Int.{bit_at, bit_not, w64}
-use Rattle.std.specs.Prelude.{bit_and, bit_or, count_ones}
-use lib.Count.{ones, ones_in}
-use Rattle.std.proofs.Math.Nat.{mod-lt}
-use Rattle.std.proofs.lemmas.Nat.{ones_cat, mod-pow-add, pow_pos}
+use Rattle.std.proofs.{Math.Nat.mod-lt, lemmas.Nat.{ones_cat, mod-pow-add, pow_pos}}
 use Rattle.std.proofs.lemmas.Nat.Bits.{bit_at_and, bit_at_or, bit_at_not, bit_at-lt, bit_at-zero}
+use Rattle.std.specs.{Int.{bit_at, bit_not, w64}, Prelude.{bit_and, bit_or, count_ones}}
+use lib.Count.{ones, ones_in}
 
 -- the bit at this place is 1
 abbrev pub is_one : ℕ → ℕ → Bool

@@ -1,14 +1,11 @@
 -- A number is in a set exactly if its bit is 1.
 use Rattle.std.proofs.Common.{◌≡◌, ◌≢◌, ℕ, zero, suc, ◌+◌, ◌*◌, ◌/◌, ◌%◌, ◌^◌, ◌<◌, ◌≤◌, false, not, ◌&&◌, ◌||◌, inl, inr, eqb, List, length, get_or, replicate, refl, ap, sym, ◌∙◌, subst, arith}
+use Rattle.std.proofs.lemmas.Bool.{cases_eq, cases_lt, cond_both, eq-eqb, ne_eqb, or_from, or_left}
+use Rattle.std.proofs.lemmas.{List.{get_or_past, length-replicate, get_or-replicate}, Nat.Bits.shr_and_one}
 use Rattle.std.specs.Cmp.{nat_cmp_total, unsigned_tied}
 use Rattle.std.specs.FinSet.{FinSet, empty, contains, insert, remove, contains-empty, contains-insert, contains-remove, same_set, nat_cmp-IsAntisymmetric}
-use Rattle.std.specs.Ordering.{nat_cmp}
-use Rattle.std.specs.Prelude.{bit_and}
-use Rattle.std.proofs.lemmas.Bool.{cases_eq, cases_lt, cond_both, eq-eqb, ne_eqb, or_from, or_left}
-use Rattle.std.proofs.lemmas.List.{get_or_past, length-replicate, get_or-replicate}
-use Rattle.std.proofs.lemmas.Nat.Bits.{shr_and_one}
-use Rattle.olap_bits.specs.CatSet.{is_bit_one, numbers_below, numbers_of}
-use Rattle.olap_bits.proofs.BitLemmas.{is_one, is_one-zero}
+use Rattle.std.specs.{Ordering.nat_cmp, Prelude.bit_and}
+use Rattle.olap_bits.{proofs.BitLemmas.{is_one, is_one-zero}, specs.CatSet.{is_bit_one, numbers_below, numbers_of}}
 
 -- what is in a set after a number is put in
 pub in_insert : (s : FinSet nat_cmp) (k q : ℕ) → contains (insert s k) q ≡ (eqb q k || contains s q)

@@ -1,14 +1,11 @@
 -- One bit put in or taken out.
 use Rattle.std.proofs.Common.{◌≡◌, ◌≢◌, ℕ, ◌*◌, ◌/◌, ◌%◌, ◌^◌, ◌<◌, Bool, true, false, cond, not, ◌&&◌, ◌||◌, inl, inr, eqb, List, length, get_or, set, refl, ap, sym, ◌∙◌, subst, arith}
-use Rattle.std.specs.FinSet.{insert, remove}
-use Rattle.std.specs.Int.{bit_not, w64}
-use Rattle.std.specs.Prelude.{bit_and, bit_or}
 use Rattle.std.proofs.lemmas.Bool.{cases_eq, cond-true, cond-false, eq-eqb, ne_eqb}
 use Rattle.std.proofs.lemmas.List.{get_or-set_same, get_or-set_other}
 use Rattle.std.proofs.lemmas.Nat.Bits.{bit_at_set_same, bit_at_set_other, bit_at_clear_same, bit_at_clear_other}
+use Rattle.std.specs.{FinSet.{insert, remove}, Int.{bit_not, w64}, Prelude.{bit_and, bit_or}}
+use Rattle.olap_bits.proofs.{BitLemmas.is_one, CatSetLemmas.{in_insert, in_remove, contains-numbers_of, same_numbers}}
 use Rattle.olap_bits.specs.CatSet.{is_bit_one, numbers_of}
-use Rattle.olap_bits.proofs.BitLemmas.{is_one}
-use Rattle.olap_bits.proofs.CatSetLemmas.{in_insert, in_remove, contains-numbers_of, same_numbers}
 
 module _ (words : List ℕ) (n v : ℕ) (within : n / 64 < length words) where
   -- the bits of the word that is written

@@ -1,15 +1,10 @@
 -- How many numbers a set has.
 use Rattle.std.proofs.Common.{◌≡◌, ℕ, zero, suc, ◌+◌, ◌*◌, ◌/◌, ◌%◌, ◌^◌, ◌<◌, ◌≤◌, List, get_or, ap, sym, ◌∙◌, arith}
-use Rattle.std.specs.Cmp.{nat_cmp_total}
-use Rattle.std.specs.FinSet.{FinSet, len, len-empty, len-insert}
-use Rattle.std.specs.Ordering.{nat_cmp}
-use Rattle.std.specs.Int.{bit_at}
+use Rattle.std.proofs.lemmas.{Bool.{cond_both, cond-false, eqb-true, eqb-false}, Nat.Bits.bit_at-lt}
+use Rattle.std.specs.{Cmp.nat_cmp_total, FinSet.{FinSet, len, len-empty, len-insert}, Int.bit_at, Ordering.nat_cmp}
 use Rattle.std.specs.Prelude.{count_ones}
-use Rattle.std.proofs.lemmas.Bool.{cond_both, cond-false, eqb-true, eqb-false}
-use Rattle.std.proofs.lemmas.Nat.Bits.{bit_at-lt}
+use Rattle.olap_bits.proofs.{BitLemmas.{count_ones-zero, count_ones-more}, CatSetLemmas.{not_yet, at_place}}
 use Rattle.olap_bits.specs.CatSet.{is_bit_one, numbers_below}
-use Rattle.olap_bits.proofs.BitLemmas.{count_ones-zero, count_ones-more}
-use Rattle.olap_bits.proofs.CatSetLemmas.{not_yet, at_place}
 
 module _ (words : List ℕ) where
   -- one more bit

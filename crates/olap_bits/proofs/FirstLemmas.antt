@@ -1,13 +1,10 @@
 -- The least number of a set.
 use Rattle.std.proofs.Common.{◌≡◌, ◌≢◌, ℕ, ◌+◌, ◌*◌, ◌/◌, ◌%◌, ◌^◌, ◌<◌, true, inl, inr, eqb, List, get_or, ap, sym, ◌∙◌, arith}
-use Rattle.std.specs.FinSet.{FinSet, empty, contains, contains-empty}
+use Rattle.std.proofs.lemmas.{Bool.{cases_lt, eq-eqb, both_ways}, Nat.Bits.bit_at-trailing_zeros}
+use Rattle.std.specs.{FinSet.{FinSet, empty, contains, contains-empty}, Int.{bit_at, trailing_zeros, w64}}
 use Rattle.std.specs.Ordering.{nat_cmp}
-use Rattle.std.specs.Int.{bit_at, trailing_zeros, w64}
-use Rattle.std.proofs.lemmas.Bool.{cases_lt, eq-eqb, both_ways}
-use Rattle.std.proofs.lemmas.Nat.Bits.{bit_at-trailing_zeros}
+use Rattle.olap_bits.proofs.{BitLemmas.{is_one, is_one-zero}, CatSetLemmas.contains-numbers_of}
 use Rattle.olap_bits.specs.CatSet.{is_bit_one, numbers_of, IsLeast}
-use Rattle.olap_bits.proofs.BitLemmas.{is_one, is_one-zero}
-use Rattle.olap_bits.proofs.CatSetLemmas.{contains-numbers_of}
 
 module _ (words : List ℕ) (k : ℕ) (zeros : (j : ℕ) → j < k → get_or words j 0 ≡ 0) where
   -- words that are 0 have no number

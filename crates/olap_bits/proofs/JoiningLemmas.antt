@@ -1,14 +1,10 @@
 -- Two sets joined word by word: union, intersection, difference.
 use Rattle.std.proofs.Common.{◌≡◌, ℕ, ◌/◌, ◌%◌, ◌^◌, ◌<◌, ◌≤◌, not, ◌&&◌, ◌||◌, inl, inr, List, length, get_or, refl, ap, sym, ◌∙◌, arith}
-use Rattle.std.specs.Cmp.{nat_cmp_total}
+use Rattle.std.{proofs.lemmas.Bool.cases_lt, proofs.lemmas.List.get_or_past, specs.Cmp.nat_cmp_total}
 use Rattle.std.specs.FinSet.{union, intersection, difference, contains-union, contains-intersection, contains-difference}
-use Rattle.std.specs.Int.{bit_not, w64}
-use Rattle.std.specs.Prelude.{bit_and, bit_or}
-use Rattle.std.proofs.lemmas.Bool.{cases_lt}
-use Rattle.std.proofs.lemmas.List.{get_or_past}
-use Rattle.olap_bits.specs.CatSet.{numbers_of}
+use Rattle.std.specs.{Int.{bit_not, w64}, Prelude.{bit_and, bit_or}}
 use Rattle.olap_bits.proofs.BitLemmas.{is_one, is_one-or, is_one-and, is_one-without}
-use Rattle.olap_bits.proofs.CatSetLemmas.{contains-numbers_of, same_numbers}
+use Rattle.olap_bits.{proofs.CatSetLemmas.{contains-numbers_of, same_numbers}, specs.CatSet.numbers_of}
 
 -- the first k words are those of a and b joined, and the others are a's
 pub record IsJoined (f : ℕ → ℕ → ℕ) (a b words : List ℕ) (k : ℕ) : Type 0 where

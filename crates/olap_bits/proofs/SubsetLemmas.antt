@@ -1,16 +1,11 @@
 -- Subsets word by word.
 use Rattle.std.proofs.Common.{◌≡◌, ◌≢◌, ℕ, ◌+◌, ◌*◌, ◌/◌, ◌%◌, ◌^◌, ◌<◌, ◌≤◌, Bool, true, false, not, ◌&&◌, inl, inr, List, length, get_or, refl, ap, sym, ◌∙◌, subst, arith}
-use Rattle.std.specs.Cmp.{nat_cmp_total}
-use Rattle.std.specs.FinSet.{is_subset, contains-is_subset, is_subset-contains}
-use Rattle.std.specs.Int.{bit_at, bit_not, trailing_zeros, w64}
-use Rattle.std.specs.Prelude.{bit_and}
 use Rattle.std.proofs.lemmas.Bool.{cases_lt, eq-eqb, and_parts, not-true, both_ways, false_from_ne_true}
-use Rattle.std.proofs.lemmas.List.{get_or_past}
-use Rattle.std.proofs.lemmas.Nat.Bits.{bit_at-trailing_zeros}
-use Rattle.std.proofs.lemmas.Nat.{and_le_l}
-use Rattle.olap_bits.specs.CatSet.{is_bit_one, numbers_of}
+use Rattle.std.proofs.lemmas.{List.get_or_past, Nat.and_le_l, Nat.Bits.bit_at-trailing_zeros}
+use Rattle.std.specs.{Cmp.nat_cmp_total, FinSet.{is_subset, contains-is_subset, is_subset-contains}}
+use Rattle.std.specs.{Int.{bit_at, bit_not, trailing_zeros, w64}, Prelude.bit_and}
 use Rattle.olap_bits.proofs.BitLemmas.{is_one, is_one-without, is_one-zero}
-use Rattle.olap_bits.proofs.CatSetLemmas.{contains-numbers_of, at_place}
+use Rattle.olap_bits.{proofs.CatSetLemmas.{contains-numbers_of, at_place}, specs.CatSet.{is_bit_one, numbers_of}}
 
 -- what is left of a word of a without the word of b
 abbrev pub left_over : List ℕ → List ℕ → ℕ → ℕ

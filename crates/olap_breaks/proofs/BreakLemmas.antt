@@ -1,24 +1,20 @@
 -- The members at which totals differ are those that are listed.
 use Rattle.std.proofs.Common.{◌≡◌, ◌∙◌, ℕ, zero, suc, ◌<◌, List, [], ◌∷◌, length, Bool, true, false, cond, Option, Some, None, refl, ap, sym, subst, arith}
-use Rattle.std.specs.Prelude.{◌≢◌, ◌==◌, ◌&&◌, Contains, IsTrue, ◌↔◌, is_some}
-use Rattle.std.specs.List.{cons_option, range_with_len}
-use Rattle.std.proofs.lemmas.Bool.Decides.{nat_tests}
-use native.Mathlib.Decide.{ℕ_discrete}
-use Rattle.olap_base.specs.Graph.{Graph, IsBottom}
-use Rattle.olap_base.specs.Instance.{Instance, IsLawful, IsMember, ReachesCategory, ReachesVia, category_of}
-use Rattle.olap_base.specs.OneFact.{HoldsTimes, ones}
-use Rattle.olap_base.specs.Reaching.{reaches, reaches_is}
-use Rattle.olap_base.specs.Views.{ExactlyOne, Row, ViewsAgree, members_of, row_at, IsFactTable, members}
+use Rattle.std.proofs.lemmas.Bool.{and_from, Decides.nat_tests}
+use Rattle.std.specs.{List.{cons_option, range_with_len}, Prelude.{◌≢◌, ◌==◌, ◌&&◌, Contains, IsTrue, ◌↔◌, is_some}}
+use Rattle.olap_base.proofs.GeneralLemmas.{one_time}
 use Rattle.olap_base.proofs.ListLemmas.{Contains-from_range, Contains-nil, Contains-range, contains_head, first_true, list_any_is, second_true}
 use Rattle.olap_base.proofs.OneFactLemmas.{one_facts_views}
 use Rattle.olap_base.proofs.ViewLemmas.{agree_exactly, is_member_of, members_of_is, members_once}
+use Rattle.olap_base.specs.Graph.{Graph, IsBottom}
+use Rattle.olap_base.specs.Instance.{Instance, IsLawful, IsMember, ReachesCategory, ReachesVia, category_of}
+use Rattle.olap_base.specs.{OneFact.{HoldsTimes, ones}, Reaching.{reaches, reaches_is}}
+use Rattle.olap_base.specs.Views.{ExactlyOne, Row, ViewsAgree, members_of, row_at, IsFactTable, members}
+use Rattle.olap_breaks.proofs.FindLemmas.{any_find, find_found, find_is, kept_from, kept_in, one_is_once, times_of, times_one}
 use Rattle.olap_breaks.specs.Breaks.{Break, break_of, break_to, breaks, is_via, reached_in, unless_one, ways}
 use Rattle.olap_breaks.specs.Laws.{BreaksAreAll, BreaksDiffer, IsBreak, NoBreakExactlyIfAgree}
-use Rattle.olap_facts.specs.FactText.{is_bottom}
-use Rattle.olap_facts.proofs.BottomLemmas.{bottom-is}
-use Rattle.olap_breaks.proofs.FindLemmas.{any_find, find_found, find_is, kept_from, kept_in, one_is_once, times_of, times_one}
-use Rattle.std.proofs.lemmas.Bool.{and_from}
-use Rattle.olap_base.proofs.GeneralLemmas.{one_time}
+use Rattle.olap_facts.{proofs.BottomLemmas.bottom-is, specs.FactText.is_bottom}
+use native.Mathlib.Decide.{ℕ_discrete}
 
 -- ---- ways
 

@@ -1,28 +1,17 @@
 -- What the code finds is what is told.
 use Rattle.std.proofs.Common.{◌≡◌, ◌∙◌, ℕ, suc, ◌<◌, ◌+◌, List, [], ◌∷◌, ◌++◌, Bool, true, false, cond, Option, Some, None, IfSome, IsNone, append_assoc, get_or, map, take, refl, ap, sym, subst, inl, inr, arith}
-use Rattle.std.specs.Prelude.{◌↔◌, ◌==◌, IsTrue, filter_map, is_some, length}
-use Rattle.std.specs.List.{cons_option, range_with_len}
-use Rattle.std.proofs.lemmas.Bool.Decides.{nat_tests}
-use Rattle.std.proofs.lemmas.List.{map-append, take_more}
-use Rattle.std.proofs.lemmas.List.Elements.{filter_map-append}
-use Rattle.olap_base.specs.Graph.{Graph, IsBottom}
-use Rattle.olap_base.specs.Instance.{Instance, ReachesCategory, ReachesVia, category_of}
-use Rattle.olap_base.specs.OneFact.{HoldsTimes}
-use Rattle.olap_base.specs.Reaching.{reaches, reaches_is}
-use Rattle.olap_base.specs.Views.{members_of}
+use Rattle.std.proofs.lemmas.{Bool.Decides.nat_tests, List.{map-append, take_more}, List.Elements.filter_map-append}
+use Rattle.std.specs.{List.{cons_option, range_with_len}, Prelude.{◌↔◌, ◌==◌, IsTrue, filter_map, is_some, length}}
+use Rattle.olap_base.proofs.{ListLemmas.range_more, ViewLemmas.{is_member_of, members_of_is}}
+use Rattle.olap_base.specs.{Graph.{Graph, IsBottom}, Instance.{Instance, ReachesCategory, ReachesVia, category_of}}
+use Rattle.olap_base.specs.{OneFact.HoldsTimes, Reaching.{reaches, reaches_is}, Views.members_of}
 use Rattle.olap_base.specs.declared.ids.MemberId.{MemberId}
-use Rattle.olap_base.proofs.ViewLemmas.{is_member_of, members_of_is}
 use Rattle.olap_legal.specs.Ancestors.{IsAncestor}
-use Rattle.olap_breaks.specs.Breaks.{break_fields, break_of, break_to, reached_in, unless_one, ways}
-use Rattle.olap_records.specs.Texts.{text_of_row, text_of_rows}
-use Rattle.olap_records.proofs.ReadingBack.{texts-push}
-use Rattle.olap_breaks.specs.Seen.{break_seen}
+use Rattle.olap_breaks.proofs.{BreakLemmas.{reached_is, ways_are}, FindLemmas.{find_found, times_one}}
+use Rattle.olap_breaks.specs.{Breaks.{break_fields, break_of, break_to, reached_in, unless_one, ways}, Seen.break_seen}
+use Rattle.olap_records.{proofs.ReadingBack.texts-push, specs.Texts.{text_of_row, text_of_rows}}
+use Rattle.olap_facts.{proofs.BottomLemmas.bottom-is, specs.FactText.is_bottom}
 use Rattle.olap_breaks.specs.declared.finding.Break as code
-use Rattle.olap_facts.specs.FactText.{is_bottom}
-use Rattle.olap_facts.proofs.BottomLemmas.{bottom-is}
-use Rattle.olap_breaks.proofs.BreakLemmas.{reached_is, ways_are}
-use Rattle.olap_breaks.proofs.FindLemmas.{find_found, times_one}
-use Rattle.olap_base.proofs.ListLemmas.{range_more}
 
 -- ---- ways
 

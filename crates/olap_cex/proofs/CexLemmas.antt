@@ -1,22 +1,17 @@
 -- The two sums of a counterexample, and its text.
 use Rattle.std.proofs.Common.{◌≡◌, ◌≢◌, ℕ, zero, suc, List, [], ◌++◌, ℤ, pos, Option, Some, None, refl, sym, ◌∙◌, ap}
-use Rattle.std.specs.List.{cons_option}
-use Rattle.std.specs.Option.{option_map}
+use Rattle.std.specs.{List.cons_option, Option.option_map}
 use Rattle.olap_ast.specs.Schema.{Constraint}
-use Rattle.olap_base.specs.Graph.{Graph, IsHierarchy}
-use Rattle.olap_base.specs.Instance.{Instance, ReachesCategory, ReachesVia, category_of}
-use Rattle.olap_base.specs.OneFact.{HoldsTimes, ones}
+use Rattle.olap_base.{proofs.OneFactLemmas.one_facts_views, specs.Graph.{Graph, IsHierarchy}}
+use Rattle.olap_base.specs.{Instance.{Instance, ReachesCategory, ReachesVia, category_of}, OneFact.{HoldsTimes, ones}}
 use Rattle.olap_base.specs.Views.{only_sum, row_at}
-use Rattle.olap_base.proofs.OneFactLemmas.{one_facts_views}
-use Rattle.olap_frozen.specs.LeastFound.{frozen_of}
-use Rattle.olap_frozen.specs.declared.founding.Found.{Found}
-use Rattle.olap_frozen.proofs.ChosenInstance as made
+use Rattle.olap_frozen.specs.{LeastFound.frozen_of, declared.founding.Found.Found}
 use Rattle.olap_instance.specs.Printing.{text_of_instance}
 use Rattle.olap_names.specs.Names.{candidates_of, with_graph}
-use Rattle.olap_cex.specs.CexFor.{IsCexFor, cex_text}
-use Rattle.olap_cex.specs.CexText.{counterexample_text, direct_sum, sums_text, views_sum}
+use Rattle.olap_cex.specs.{CexFor.{IsCexFor, cex_text}, CexText.{counterexample_text, direct_sum, sums_text, views_sum}}
 use Rattle.olap_cex.specs.FoundFor.{IsFoundFor, found_edges, found_instance, found_name, found_place}
 use Rattle.olap_cex.specs.declared.counterexamples.Cex.{Cex}
+use Rattle.olap_frozen.proofs.ChosenInstance as made
 use Rattle.olap_cex.proofs.DraftLemmas as draft
 
 -- ---- sums of ones

@@ -1,23 +1,15 @@
 -- By how many sources the root's member reaches a category.
 use Rattle.std.proofs.Common.{◌≡◌, ℕ, ◌+◌, List, [], ◌∷◌, ◌++◌, ◌↔◌, ◌∙◌, ap, map, true, sym, subst, inl, inr, arith}
 use Rattle.std.specs.Prelude.{All, Contains}
-use Rattle.olap_base.specs.Deciding.{contains_cons}
-use Rattle.olap_base.specs.Graph.{Edge, Graph, IsCategory, IsHierarchy}
-use Rattle.olap_base.specs.Instance.{Instance, Reaches, ReachesVia}
-use Rattle.olap_base.specs.OneFact.{HoldsTimes}
-use Rattle.olap_base.specs.Steps.{Steps, Steps.here, Steps.step}
-use Rattle.olap_base.specs.declared.ids.CatId.{CatId}
-use Rattle.olap_base.proofs.ListLemmas.{Contains-from_map, contains_head}
+use Rattle.olap_base.{proofs.ListLemmas.{Contains-from_map, contains_head}, specs.Deciding.contains_cons}
+use Rattle.olap_base.specs.{Graph.{Edge, Graph, IsCategory, IsHierarchy}, Instance.{Instance, Reaches, ReachesVia}}
+use Rattle.olap_base.specs.{OneFact.HoldsTimes, Steps.{Steps, Steps.here, Steps.step}, declared.ids.CatId.CatId}
 use Rattle.olap_ast.specs.Frozen.{is_present}
 use Rattle.olap_bits.specs.declared.sets.CatSet.{CatSet}
-use Rattle.olap_frozen.specs.Chosen.{IsChoice, Joins}
-use Rattle.olap_frozen.specs.Rows.{AreRows}
-use Rattle.olap_frozen.specs.declared.founding.Found.{Found}
+use Rattle.olap_frozen.{proofs.ChosenLemmas.choice_of, proofs.RowLemmas.has_steps, specs.Chosen.{IsChoice, Joins}}
+use Rattle.olap_frozen.specs.{Rows.AreRows, declared.founding.Found.Found}
+use Rattle.olap_cex.specs.{CexFor.IsWay, FoundFor.{found_edges, found_instance, found_name, found_place}}
 use Rattle.olap_frozen.proofs.ChosenInstance as made
-use Rattle.olap_frozen.proofs.ChosenLemmas.{choice_of}
-use Rattle.olap_frozen.proofs.RowLemmas.{has_steps}
-use Rattle.olap_cex.specs.CexFor.{IsWay}
-use Rattle.olap_cex.specs.FoundFor.{found_edges, found_instance, found_name, found_place}
 
 -- ---- counting from the front
 

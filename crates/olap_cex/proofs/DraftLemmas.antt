@@ -1,52 +1,37 @@
 -- The draft of a frozen dimension's instance: why no member and no parent is refused, and what it becomes.
 use Rattle.std.proofs.Common.{◌≡◌, ◌≢◌, ℕ, ℤ, pos, negsuc, zero, suc, ◌+◌, ◌-◌, ◌<◌, ◌≤◌, ◌==◌, ◌||◌, List, [], ◌∷◌, ◌++◌, length, get_or, map, take, codes, Bool, true, false, cond, Option, Some, None, refl, sym, ◌∙◌, ap, subst, inl, inr, arith}
+use Rattle.std.proofs.lemmas.{Bool.{eqb-true, eq-eqb}, Bool.Decides.{eqb_tells, nat_tests}, Fmt.IsAscii-signed}
 use Rattle.std.proofs.lemmas.Int.{ints}
-use Rattle.std.specs.Int.Signed.{mag}
-use Rattle.std.specs.Prelude.{◌^◌, All, Contains, IsSome, IsTrue, filter, is_some, nat_le, replicate, unwrap_or}
-use Rattle.std.specs.List.{range_with_len}
-use Rattle.std.specs.Str.{bytes_eq, is_utf8}
-use Rattle.std.proofs.lemmas.Bool.Decides.{eqb_tells, nat_tests}
 use Rattle.std.proofs.lemmas.List.{append-nil, get_or-map, get_or-take, length-map, length-take-le, map-append}
-use Rattle.std.proofs.lemmas.List.Elements.{Contains-get_or, filter-append}
-use Rattle.std.proofs.lemmas.List.Folds.{list_any_none}
-use Rattle.std.proofs.lemmas.List.FromFn.{length-range_with_len}
-use Rattle.std.proofs.lemmas.Slice.Eq.{bytes_eq-Decides}
-use Rattle.std.proofs.lemmas.Str.{IsUtf8-from_ascii, is_utf8-from_IsUtf8}
-use Rattle.std.proofs.lemmas.Str.Ascii.{IsAscii-from_all}
-use Rattle.olap_base.specs.Above.{place_in}
-use Rattle.olap_base.specs.Graph.{Edge, Graph, IsCategory, IsCategoryName, IsHierarchy, IsLetterOrDigit, is_number, reserved}
-use Rattle.olap_base.specs.Instance.{Member, category_of, name_of, nobody}
-use Rattle.olap_base.specs.Limits.{most_members}
-use Rattle.olap_base.specs.Naming.{place_of}
-use Rattle.olap_base.specs.Deciding.{contains_cons}
-use Rattle.olap_base.proofs.ListLemmas.{Contains-filter, Contains-from_filter, Contains-from_map, Contains-from_range_at, Contains-range_at, Distinct, Distinct-filter, Distinct-from_AllPairs, Distinct-places, Distinct-range, contains_head, place_in_is, length-filter}
+use Rattle.std.proofs.lemmas.List.{Elements.{Contains-get_or, filter-append, Contains-append_left}, Folds.list_any_none}
+use Rattle.std.proofs.lemmas.{List.FromFn.length-range_with_len, Slice.Eq.bytes_eq-Decides}
+use Rattle.std.proofs.lemmas.Str.{IsUtf8-from_ascii, is_utf8-from_IsUtf8, Ascii.IsAscii-from_all}
+use Rattle.std.specs.{Int.Signed.mag, List.range_with_len}
+use Rattle.std.specs.Prelude.{◌^◌, All, Contains, IsSome, IsTrue, filter, is_some, nat_le, replicate, unwrap_or}
+use Rattle.std.specs.Str.{bytes_eq, is_utf8}
 use Rattle.olap_base.proofs.AboveLemmas.{place_in_injective}
-use Rattle.olap_ast.specs.Constants.{IsConstant, IsNameOf, fresh_candidate}
+use Rattle.olap_base.proofs.ListLemmas.{Contains-filter, Contains-from_filter, Contains-from_map, Contains-from_range_at, Contains-range_at, Distinct, Distinct-filter, Distinct-from_AllPairs, Distinct-places, Distinct-range, contains_head, place_in_is, length-filter}
+use Rattle.olap_base.specs.{Above.place_in, Deciding.contains_cons}
+use Rattle.olap_base.specs.Graph.{Edge, Graph, IsCategory, IsCategoryName, IsHierarchy, IsLetterOrDigit, is_number, reserved}
+use Rattle.olap_base.specs.{Instance.{Member, category_of, name_of, nobody}, Limits.most_members, Naming.place_of}
+use Rattle.olap_ast.{proofs.Shape.same_id, specs.Constants.{IsConstant, IsNameOf, fresh_candidate}}
 use Rattle.olap_ast.specs.Formula.{Formula, Constant.AText}
-use Rattle.std.proofs.lemmas.Fmt.{IsAscii-signed}
-use Rattle.olap_numerals.specs.Numerals.{IsSmall, canonical, most_number, number_of}
 use Rattle.olap_ast.specs.Frozen.{IsFrozenInstance, categories_in_order, chosen, id_of, instance_of, is_present, member_of, present_categories}
 use Rattle.olap_ast.specs.Schema.{Schema}
-use Rattle.olap_ast.proofs.Shape.{same_id}
-use Rattle.std.proofs.lemmas.List.Elements.{Contains-append_left}
-use Rattle.olap_graph.specs.Building.{IsWithinLimits}
-use Rattle.olap_graph.specs.Lookups.{edge_at, name_of_category}
-use Rattle.olap_frozen.specs.Chosen.{IsChoice, IsSound, Joins}
-use Rattle.olap_frozen.specs.declared.founding.Found.{Found}
-use Rattle.olap_frozen.proofs.ChosenInstance as made
+use Rattle.olap_numerals.specs.Numerals.{IsSmall, canonical, most_number, number_of}
+use Rattle.olap_graph.specs.{Building.IsWithinLimits, Lookups.{edge_at, name_of_category}}
 use Rattle.olap_frozen.proofs.ChosenLemmas.{choice_of, chosen_place, place_chosen}
+use Rattle.olap_frozen.specs.{Chosen.{IsChoice, IsSound, Joins}, declared.founding.Found.Found}
 use Rattle.olap_names.specs.Names.{with_graph}
+use Rattle.olap_instance.proofs.{BuilderSteps.not-found, CategoryNames.category-utf8, Checks.{kind-at, number-good}}
 use Rattle.olap_instance.specs.Drafts.{HasParent, has_numbers, instance_built, named_refusal, numbers_in, places_of, with_member, with_parent}
 use Rattle.olap_instance.specs.InstanceText.{is_bad_id, is_bad_number, is_too_long}
 use Rattle.olap_instance.specs.Members.{all_member, childless, with_parents}
-use Rattle.olap_instance.proofs.BuilderSteps.{not-found}
-use Rattle.olap_instance.proofs.Checks.{kind-at, number-good}
-use Rattle.olap_instance.proofs.CategoryNames.{category-utf8}
-use Rattle.olap_cex.specs.FoundFor.{IsFoundFor, found_draft, found_edges, found_instance, found_name, found_place}
-use Rattle.olap_cex.specs.Present.{first_present, place_or_all}
 use Rattle.olap_cex.proofs.ListLemmas.{chosen_more, filter_none, map_twice, place_behind, place_in_front, set_at_place}
 use Rattle.olap_cex.proofs.PresentLemmas.{nowhere, place_counts, present_more}
-use Rattle.std.proofs.lemmas.Bool.{eqb-true, eq-eqb}
+use Rattle.olap_cex.specs.FoundFor.{IsFoundFor, found_draft, found_edges, found_instance, found_name, found_place}
+use Rattle.olap_cex.specs.Present.{first_present, place_or_all}
+use Rattle.olap_frozen.proofs.ChosenInstance as made
 
 -- ---- names
 
@@ -172,20 +157,18 @@ module _ (g : Graph) (found : Found) (ok : IsFoundFor g found) (hier : IsHierarc
   within c p = made.present_category g r es choice c p
 
   listed : (c : ℕ) → is_present r es c ≡ true → c ≢ 0 → Contains all_listed c
-  listed c p n =
-      let k = within c p in
-      let z : 1 ≤ c = omega arith in
-      Contains-filter (is_present r es) (range_with_len 1 (length g.names)) c p
-      (Contains-range_at 1 (length g.names) c z (omega arith))
+  listed c p n = Contains-filter (is_present r es) (range_with_len 1 (length g.names)) c p
+      (Contains-range_at 1 (length g.names) c (omega arith) (omega (arith, within c p)))
 
   distinct : Distinct all_listed
   distinct = Distinct-filter (is_present r es) (range_with_len 1 (length g.names)) (Distinct-range 1 (length g.names))
 
   zero_unlisted : Contains all_listed 0 → ⊥
-  zero_unlisted c =
-      let h = Contains-from_range_at 1 (length g.names) 0
-      (Contains-from_filter (is_present r es) (range_with_len 1 (length g.names)) 0 c).0 in
-      omega (arith, h.0)
+  zero_unlisted c = omega (
+    arith,
+    (Contains-from_range_at 1 (length g.names) 0
+        (Contains-from_filter (is_present r es) (range_with_len 1 (length g.names)) 0 c).0).0,
+  )
 
   -- the place of a present declared category's member
   place_is : (c : ℕ) → is_present r es c ≡ true → c ≢ 0 → place_or_all r es c ≡ Some (place_in all_listed c)
@@ -202,26 +185,20 @@ module _ (g : Graph) (found : Found) (ok : IsFoundFor g found) (hier : IsHierarc
       → unwrap_or (place_or_all r es c) (length all_listed) ≡ place_in (all_listed ++ 0 ∷ []) c
   place_there zero p = sym (place_behind all_listed 0 zero_unlisted)
   place_there (suc c) p =
-      let n : suc c ≢ 0 = omega arith in
-      ap (λ o. unwrap_or o (length all_listed)) (place_is (suc c) p n)
-      ∙ sym (place_in_front all_listed (0 ∷ []) (suc c) (listed (suc c) p n))
+      ap (λ o. unwrap_or o (length all_listed)) (place_is (suc c) p (omega arith))
+      ∙ sym (place_in_front all_listed (0 ∷ []) (suc c) (listed (suc c) p (omega arith)))
 
   same_parent : (c d : ℕ) → is_present r es c ≡ true → is_present r es d ≡ true
       → place_or_all r es c ≡ place_or_all r es d → c ≡ d
   same_parent zero zero p q e = refl
   same_parent zero (suc d) p q e =
-      let n : suc d ≢ 0 = omega arith in
-      let t : None ≡ Some (place_in all_listed (suc d)) = e ∙ place_is (suc d) q n in cc
+      let t : None ≡ Some (place_in all_listed (suc d)) = e ∙ place_is (suc d) q (omega arith) in cc
   same_parent (suc c) zero p q e =
-      let n : suc c ≢ 0 = omega arith in
-      let t : None ≡ Some (place_in all_listed (suc c)) = sym e ∙ place_is (suc c) p n in cc
+      let t : None ≡ Some (place_in all_listed (suc c)) = sym e ∙ place_is (suc c) p (omega arith) in cc
   same_parent (suc c) (suc d) p q e =
-      let n : suc c ≢ 0 = omega arith in
-      let m : suc d ≢ 0 = omega arith in
       let t : Some (place_in all_listed (suc c)) ≡ Some (place_in all_listed (suc d)) =
-      sym (place_is (suc c) p n) ∙ e ∙ place_is (suc d) q m in
-      let u : place_in all_listed (suc c) ≡ place_in all_listed (suc d) = cc in
-      place_in_injective all_listed (suc c) (suc d) (listed (suc c) p n) (listed (suc d) q m) u
+      sym (place_is (suc c) p (omega arith)) ∙ e ∙ place_is (suc d) q (omega arith) in
+      place_in_injective all_listed (suc c) (suc d) (listed (suc c) p (omega arith)) (listed (suc d) q (omega arith)) cc
 
   abbrev to_place : Edge → Option ℕ
   to_place e = place_or_all r es e.parent
@@ -265,10 +242,8 @@ module _ (g : Graph) (found : Found) (ok : IsFoundFor g found) (hier : IsHierarc
     before = first_present r es (c - 1)
 
     known : (d : ℕ) → Contains before d → (1 ≤ d) × (d < c)
-    known d k =
-        let h = Contains-from_range_at 1 (c - 1) d
-        (Contains-from_filter (is_present r es) (range_with_len 1 (c - 1)) d k).0 in
-        (h.0, omega (arith, h.1))
+    known d k = let h = Contains-from_range_at 1 (c - 1) d
+        (Contains-from_filter (is_present r es) (range_with_len 1 (c - 1)) d k).0 in (h.0, omega (arith, h.1))
 
     in_order : (d : ℕ) → 1 ≤ d → d ≤ c → Contains (categories_in_order g) d
     in_order d l h = Contains-append_left (range_with_len 1 (length g.names)) (0 ∷ []) d
@@ -285,8 +260,7 @@ module _ (g : Graph) (found : Found) (ok : IsFoundFor g found) (hier : IsHierarc
         get_or-map (λ m. m.id) (map head before) k nobody [] (omega arith)
         ∙ ap (λ (m : Member). m.id) (get_or-map head before k 0 nobody h) in
         let t = known d (Contains-get_or before k 0 h) in
-        let one : 1 ≤ c = omega arith in
-        let same = same_id g hier d c (in_order d t.0 (omega (arith, t.1))) (in_order c one (omega arith))
+        let same = same_id g hier d c (in_order d t.0 (omega (arith, t.1))) (in_order c (omega arith) (omega arith))
         (sym at ∙ e ∙ id_is_name g c declared) in
         omega (arith, t.1)
 
@@ -329,8 +303,7 @@ module _ (g : Graph) (found : Found) (ok : IsFoundFor g found) (hier : IsHierarc
     pub member_added : with_member (found_draft g found (c - 1) []) (name_of_category g c) c (found_name found c)
         ≡ found_draft g found c []
     member_added =
-        let one : 1 ≤ c = omega arith in
-        let e = present_more r es c one p in
+        let e = present_more r es c (omega arith) p in
         let ms : map head (first_present r es c)
         ≡ map head before ++ childless (name_of_category g c) c (name c) ∷ [] =
         ap (map head) e ∙ map-append head before (c ∷ [])
@@ -395,12 +368,10 @@ module _ (g : Graph) (found : Found) (ok : IsFoundFor g found) (hier : IsHierarc
         by : (d : ℕ) → is_present r es d ≡ true → place_or_all r es d ≡ Some m → m < length (map head all_listed)
         by zero p e = absurd (cc)
         by (suc d) p e =
-            let n : suc d ≢ 0 = omega arith in
-            let t : Some m ≡ Some (place_in all_listed (suc d)) = sym e ∙ place_is (suc d) p n in
+            let t : Some m ≡ Some (place_in all_listed (suc d)) = sym e ∙ place_is (suc d) p (omega arith) in
             let u : m ≡ place_in all_listed (suc d) = cc in
-            let l = (place_in_is all_listed (suc d) (listed (suc d) p n)).0 in
-            let n = length-map all_listed head in
-            omega arith
+            let l = (place_in_is all_listed (suc d) (listed (suc d) p (omega arith))).0 in
+            omega (arith, u, l, length-map all_listed head)
 
     -- an edge before this one is another
     pub parent_new : HasParent (found_draft g found (length g.names) linked) (place_in all_listed c)

@@ -1,17 +1,13 @@
 -- The set of the ends of chosen edges, edge by edge.
 use Rattle.std.proofs.Common.{◌≡◌, ℕ, ◌+◌, ◌<◌, List, length, get_or, Bool, true, false, refl, ap, sym, subst, ◌∙◌, ◌↔◌, inl, inr, arith}
-use Rattle.std.specs.Prelude.{◌==◌, ◌||◌}
-use Rattle.std.specs.List.{list_any}
-use Rattle.std.specs.FinSet.{FinSet, contains, empty, insert, contains-empty}
-use Rattle.std.specs.Ordering.{nat_cmp}
 use Rattle.std.proofs.lemmas.Bool.{or_left, or_right, or_cases, eqb-true, eq-eqb}
+use Rattle.std.specs.{FinSet.{FinSet, contains, empty, insert, contains-empty}, List.list_any, Ordering.nat_cmp}
+use Rattle.std.specs.Prelude.{◌==◌, ◌||◌}
 use Rattle.olap_ast.specs.Frozen.{chosen}
-use Rattle.olap_base.specs.Graph.{Edge}
+use Rattle.olap_base.{proofs.ListLemmas.{same_truth, list_any_is}, specs.Graph.Edge}
 use Rattle.olap_frozen.proofs.ChosenLemmas.{chosen_place, place_chosen}
 use Rattle.olap_graph.proofs.RowLemmas.{has_insert, newest}
-use Rattle.olap_cex.specs.Present.{has_end}
-use Rattle.olap_cex.proofs.PresentLemmas.{nowhere}
-use Rattle.olap_base.proofs.ListLemmas.{same_truth, list_any_is}
+use Rattle.olap_cex.{proofs.PresentLemmas.nowhere, specs.Present.has_end}
 
 -- the category is an end of a chosen one of the first k edges
 abbrev pub IsEndBefore : List Edge → List Bool → ℕ → ℕ → Type 0

@@ -1,24 +1,18 @@
 -- What holds of every frozen dimension and of every counterexample.
 use Rattle.std.proofs.Common.{◌≡◌, ◌≢◌, ℕ, suc, List, [], ◌∷◌, pos, Some, None, refl, sym, ◌∙◌, ap, subst, inl, inr}
 use Rattle.std.specs.List.{cons_option}
-use native.Mathlib.Decide.{ℕ_discrete}
-use Rattle.olap_base.specs.Deciding.{contains_cases}
-use Rattle.olap_base.specs.Graph.{IsBottom, IsHierarchy}
+use Rattle.olap_base.proofs.{ListLemmas.Contains-nil, OneFactLemmas.one_facts_views}
+use Rattle.olap_base.specs.{Deciding.contains_cases, Graph.{IsBottom, IsHierarchy}}
 use Rattle.olap_base.specs.Instance.{Instance, IsMember, IsMemberOf, ReachesVia, category_of}
-use Rattle.olap_base.specs.OneFact.{HoldsTimes, ones}
-use Rattle.olap_base.specs.Views.{Fact, IsFactTable, one_fact, only_sum, row_at}
-use Rattle.olap_base.proofs.ListLemmas.{Contains-nil}
-use Rattle.olap_base.proofs.OneFactLemmas.{one_facts_views}
-use Rattle.olap_ast.specs.Formula.{Formula.Via, Holds, ExactlyOneHolds, NoneHolds}
-use Rattle.olap_ast.specs.Frozen.{Candidates, Frozen, chosen, name_in, root_place, thawed}
-use Rattle.olap_ast.specs.Schema.{Schema}
+use Rattle.olap_base.specs.{OneFact.{HoldsTimes, ones}, Views.{Fact, IsFactTable, one_fact, only_sum, row_at}}
+use Rattle.olap_ast.{proofs.Decided.decide_holds, specs.Formula.{Formula.Via, Holds, ExactlyOneHolds, NoneHolds}}
+use Rattle.olap_ast.specs.{Frozen.{Candidates, Frozen, chosen, name_in, root_place, thawed}, Schema.Schema}
 use Rattle.olap_ast.specs.Summarizable.{IsCounterexample, not_by_one, vias}
-use Rattle.olap_ast.proofs.Decided.{decide_holds}
-use Rattle.olap_frozen.proofs.ChosenInstance as made
 use Rattle.olap_frozen.proofs.ChosenLemmas.{choice_of}
-use Rattle.olap_cex.specs.CexText.{views_sum}
+use Rattle.olap_cex.{proofs.CexLemmas.{no_ones, some_ones}, specs.CexText.views_sum}
 use Rattle.olap_cex.specs.Laws.{CounterexampleSums, FrozenIsLegal, HasTwoSums, QuestionIsTrue, RootIsMember}
-use Rattle.olap_cex.proofs.CexLemmas.{no_ones, some_ones}
+use native.Mathlib.Decide.{ℕ_discrete}
+use Rattle.olap_frozen.proofs.ChosenInstance as made
 
 -- the instance of a frozen dimension is legal
 pub frozen_is_legal : FrozenIsLegal

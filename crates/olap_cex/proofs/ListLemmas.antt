@@ -1,11 +1,8 @@
 -- Lemmas on lists that lower crates lack.
 use Rattle.std.proofs.Common.{◌≡◌, ℕ, zero, suc, ◌<◌, List, [], ◌∷◌, ◌++◌, length, get_or, map, set, take, Bool, true, false, cond, refl, sym, ◌∙◌, ap, subst, inl, inr, arith}
-use Rattle.std.specs.Prelude.{◌≢◌, Contains, filter}
-use Rattle.std.proofs.lemmas.Bool.Decides.{eqb_tells}
-use Rattle.olap_base.specs.Above.{place_in}
-use Rattle.olap_base.specs.Deciding.{contains_cons, contains_cases}
-use Rattle.olap_base.specs.Graph.{Edge}
-use Rattle.olap_base.proofs.ListLemmas.{Contains-nil, contains_head, Distinct, map_same}
+use Rattle.std.{proofs.lemmas.Bool.Decides.eqb_tells, specs.Prelude.{◌≢◌, Contains, filter}}
+use Rattle.olap_base.{proofs.ListLemmas.{Contains-nil, contains_head, Distinct, map_same}, specs.Above.place_in}
+use Rattle.olap_base.specs.{Deciding.{contains_cons, contains_cases}, Graph.Edge}
 use Rattle.olap_ast.specs.Frozen.{chosen}
 
 -- nothing is left of a list where each item fails the test
@@ -63,16 +60,17 @@ set_at_place {A} old new (x ∷ xs) c v d h same at = elim (eqb_tells x c) [
 
 -- ---- edges chosen one after another
 
+-- of no edges none is chosen
+chosen_none : (es : List Edge) (bits : List Bool) → chosen (take 0 es) bits ≡ []
+chosen_none [] bits = refl
+chosen_none (x ∷ es) bits = refl
+
 -- one edge more that is chosen
 pub chosen_more : (es : List Edge) (bits : List Bool) (k : ℕ) (z : Edge) → k < length es → get_or bits k false ≡ true
     → chosen (take (suc k) es) bits ≡ chosen (take k es) bits ++ get_or es k z ∷ []
 chosen_more [] bits k z h b = absurd (omega arith)
 chosen_more (e ∷ es) [] k z h b = absurd (cc)
-chosen_more (e ∷ es) (a ∷ bits) zero z h b = rw b (ap (λ t. e ∷ t) (none es bits))
-  where
-    none : (es : List Edge) (bits : List Bool) → chosen (take 0 es) bits ≡ []
-    none [] bits = refl
-    none (x ∷ es) bits = refl
+chosen_more (e ∷ es) (a ∷ bits) zero z h b = rw b (ap (λ t. e ∷ t) (chosen_none es bits))
 chosen_more (e ∷ es) (a ∷ bits) (suc k) z h b = go a (chosen_more es bits k z (omega arith) b)
   where
     go : (t : Bool) → chosen (take (suc k) es) bits ≡ chosen (take k es) bits ++ get_or es k z ∷ []
@@ -87,10 +85,6 @@ pub chosen_same : (es : List Edge) (bits : List Bool) (k : ℕ) → k < length e
 chosen_same [] bits k h b = absurd (omega arith)
 chosen_same (e ∷ es) [] zero h b = refl
 chosen_same (e ∷ es) [] (suc k) h b = refl
-chosen_same (e ∷ es) (a ∷ bits) zero h b = rw b (none es bits)
-  where
-    none : (es : List Edge) (bits : List Bool) → chosen (take 0 es) bits ≡ []
-    none [] bits = refl
-    none (x ∷ es) bits = refl
+chosen_same (e ∷ es) (a ∷ bits) zero h b = rw b (chosen_none es bits)
 chosen_same (e ∷ es) (a ∷ bits) (suc k) h b =
     ap (λ t. cond a (e ∷ t) t) (chosen_same es bits k (omega arith) b)

@@ -1,10 +1,8 @@
 -- Frozen dimensions that can't be told apart have one line.
-use Rattle.std.proofs.Common.{◌≡◌, ℕ, [], ◌∷◌, ◌++◌, length}
-use Rattle.std.specs.Prelude.{codes, flat_map}
+use Rattle.std.{proofs.Common.{◌≡◌, ℕ, [], ◌∷◌, ◌++◌, length}, specs.Prelude.{codes, flat_map}}
 use Rattle.olap_base.specs.Graph.{Graph}
 use Rattle.olap_ast.specs.Frozen.{Candidates, Frozen, chosen, name_in}
-use Rattle.olap_cex.specs.FrozenText.{edge_bits, frozen_text}
-use Rattle.olap_cex.specs.Present.{first_present}
+use Rattle.olap_cex.specs.{FrozenText.{edge_bits, frozen_text}, Present.first_present}
 use Rattle.olap_grammar.specs.Quoting.{quoted}
 use Rattle.olap_graph.specs.Lookups.{name_of_category}
 

@@ -2,17 +2,14 @@
 use Rattle.std.proofs.Common.{◌≡◌, ℕ, suc, ◌+◌, ◌<◌, List, length, get_or, take, true, false, Option, Some, None, refl, sym, ◌∙◌, ap, subst, arith}
 use Rattle.std.specs.Prelude.{IfSome}
 use Rattle.olap_ast.specs.Frozen.{chosen}
-use Rattle.olap_base.specs.Above.{place_in}
-use Rattle.olap_base.specs.Graph.{Graph, IsCategory, IsHierarchy, category_count}
+use Rattle.olap_base.specs.{Above.place_in, Graph.{Graph, IsCategory, IsHierarchy, category_count}}
 use Rattle.olap_base.specs.declared.ids.MemberId.{MemberId}
 use Rattle.olap_frozen.specs.declared.founding.Found.{Found}
 use Rattle.olap_graph.specs.Lookups.{edge_at}
-use Rattle.olap_instance.specs.DraftInside.{number_of}
-use Rattle.olap_instance.specs.Drafts.{Draft, HasParent, with_parent}
-use Rattle.olap_cex.specs.FoundFor.{IsFoundFor, found_draft, found_edges}
+use Rattle.olap_instance.specs.{DraftInside.number_of, Drafts.{Draft, HasParent, with_parent}}
+use Rattle.olap_cex.{proofs.ListLemmas.chosen_same, specs.FoundFor.{IsFoundFor, found_draft, found_edges}}
 use Rattle.olap_cex.specs.Present.{first_present, place_or_all}
 use Rattle.olap_cex.proofs.DraftLemmas as draft
-use Rattle.olap_cex.proofs.ListLemmas.{chosen_same}
 
 -- what has a number is there
 no_number : (o : Option MemberId) (n : ℕ) → number_of o ≡ Some n → ((m : MemberId) → o ≡ Some m → ⊥) → ⊥
@@ -24,13 +21,13 @@ if_number : (o : Option MemberId) (n : ℕ) → ((m : ℕ) → number_of o ≡ S
 if_number None n h = tt
 if_number (Some m) n h = h m.0 refl
 
-module _ (g : Graph) (found : Found) (ok : IsFoundFor g found) (hier : IsHierarchy g)
+module _ {g : Graph} {found : Found} (ok : IsFoundFor g found) (hier : IsHierarchy g)
     (places : List (Option MemberId))
     (told : (c : ℕ) → c < category_count g
     → number_of (get_or places c None) ≡ place_or_all found.frozen.root.0 (found_edges g found) c)
     (k : ℕ) (inside : k < length g.edges) (bit : get_or found.frozen.edges k false ≡ true)
-    (c d : ℕ) (at : edge_at g k ≡ record { child = c; parent = d }) (category : IsCategory g c) (above : IsCategory g d)
-    (i j : ℕ) (ic : i ≡ c) (jd : j ≡ d) (builder : Draft)
+    {c d : ℕ} (at : edge_at g k ≡ record { child = c; parent = d }) (category : IsCategory g c) (above : IsCategory g d)
+    {i j : ℕ} (ic : i ≡ c) (jd : j ≡ d) {builder : Draft}
     (before : builder ≡ found_draft g found (length g.names) (chosen (take k g.edges) found.frozen.edges)) where
   abbrev place : ℕ
   place = place_in (first_present found.frozen.root.0 (found_edges g found) (length g.names)) c
@@ -63,9 +60,9 @@ module _ (g : Graph) (found : Found) (ok : IsFoundFor g found) (hier : IsHierarc
         (subst (λ x. HasParent builder x (place_or_all found.frozen.root.0 (found_edges g found) d)) member_is
         (subst (λ p. HasParent builder m.0 p) parent_told h)))
 
-    pub parent_added : (new : Draft) → new ≡ with_parent builder m.0 (number_of (get_or places j None))
+    pub parent_added : {new : Draft} → new ≡ with_parent builder m.0 (number_of (get_or places j None))
         → new ≡ found_draft g found (length g.names) (chosen (take (k + 1) g.edges) found.frozen.edges)
-    parent_added new e =
+    parent_added e =
         let next : suc k ≡ k + 1 = omega arith in
         e ∙ ap (λ b. with_parent b m.0 (number_of (get_or places j None))) before
         ∙ ap (λ x. with_parent (found_draft g found (length g.names) (chosen (take k g.edges) found.frozen.edges)) x
@@ -83,10 +80,10 @@ module _ (g : Graph) (found : Found) (ok : IsFoundFor g found) (hier : IsHierarc
 
 -- an edge that isn't chosen changes nothing
 pub edge_skipped : (g : Graph) (found : Found) (k : ℕ) → k < length g.edges
-    → get_or found.frozen.edges k false ≡ false → (old new : Draft)
+    → get_or found.frozen.edges k false ≡ false → {old new : Draft}
     → old ≡ found_draft g found (length g.names) (chosen (take k g.edges) found.frozen.edges) → new ≡ old
     → new ≡ found_draft g found (length g.names) (chosen (take (k + 1) g.edges) found.frozen.edges)
-edge_skipped g found k inside bit old new before e =
+edge_skipped g found k inside bit before e =
     let next : suc k ≡ k + 1 = omega arith in
     e ∙ before
     ∙ ap (λ l. found_draft g found (length g.names) l) (sym (chosen_same g.edges found.frozen.edges k inside bit))

@@ -1,17 +1,12 @@
 -- The places of the members so far.
 use Rattle.std.proofs.Common.{◌≡◌, ℕ, zero, suc, ◌+◌, ◌-◌, ◌<◌, ◌≤◌, List, [], ◌∷◌, ◌++◌, ◌==◌, ◌≢◌, ◌⊎◌, length, get_or, map, true, false, cond, Option, Some, None, sym, ◌∙◌, ap, inl, inr, arith}
-use Rattle.std.proofs.Math.Seq.{get_or-append_seam}
-use Rattle.std.proofs.lemmas.Bool.Decides.{eqb_tells}
-use Rattle.std.proofs.lemmas.List.{get_or_append_left}
+use Rattle.std.proofs.{Math.Seq.get_or-append_seam, lemmas.Bool.Decides.eqb_tells, lemmas.List.get_or_append_left}
 use Rattle.olap_ast.specs.Frozen.{id_of, is_present}
-use Rattle.olap_base.specs.Graph.{Edge, Graph}
-use Rattle.olap_base.specs.declared.ids.MemberId.{MemberId}
+use Rattle.olap_base.specs.{Graph.{Edge, Graph}, declared.ids.MemberId.MemberId}
 use Rattle.olap_frozen.specs.declared.founding.Found.{Found}
-use Rattle.olap_instance.specs.DraftInside.{number_of}
-use Rattle.olap_instance.specs.Members.{childless}
-use Rattle.olap_cex.specs.FoundFor.{found_draft, found_edges, found_name}
+use Rattle.olap_instance.specs.{DraftInside.number_of, Members.childless}
+use Rattle.olap_cex.{proofs.PresentLemmas.absent_more, specs.FoundFor.{found_draft, found_edges, found_name}}
 use Rattle.olap_cex.specs.Present.{first_present, place_or_all}
-use Rattle.olap_cex.proofs.PresentLemmas.{absent_more}
 
 -- one more place
 pub places_more : (old new : List (Option MemberId)) (o : Option MemberId) (n : ℕ) (place : ℕ → Option ℕ)
@@ -31,7 +26,7 @@ places_more old new o n place e count before here c l =
         ap number_of (get_or_append_left old (o ∷ []) None c (omega arith)) ∙ before c h
 
 -- an absent category has none
-pub absent_place : (r : ℕ) (es : List Edge) (c : ℕ) → 1 ≤ c → is_present r es c ≡ false → None ≡ place_or_all r es c
+absent_place : (r : ℕ) (es : List Edge) (c : ℕ) → 1 ≤ c → is_present r es c ≡ false → None ≡ place_or_all r es c
 absent_place r es zero l p = absurd (omega arith)
 absent_place r es (suc c) l p =
     sym (ap (λ b. cond b (Some (length (first_present r es c))) None) p)
@@ -41,7 +36,7 @@ abbrev none_told : ℕ → List (Option ℕ)
 none_told d = []
 
 -- and the draft stays
-pub absent_draft : (g : Graph) (found : Found) (c : ℕ) → 1 ≤ c
+absent_draft : (g : Graph) (found : Found) (c : ℕ) → 1 ≤ c
     → is_present found.frozen.root.0 (found_edges g found) c ≡ false
     → found_draft g found (c - 1) [] ≡ found_draft g found (c + 1 - 1) []
 absent_draft g found c l p =
@@ -60,3 +55,10 @@ absent_draft g found c l p =
       members = ap (map (λ d. childless (id_of g d) d (found_name found d))) q z;
       parents = ap (map none_told) q z;
     }
+
+-- both of an absent category
+pub absent : (g : Graph) (found : Found) (c : ℕ) → 1 ≤ c
+    → is_present found.frozen.root.0 (found_edges g found) c ≡ false
+    → (found_draft g found (c - 1) [] ≡ found_draft g found (c + 1 - 1) [])
+    × (None ≡ place_or_all found.frozen.root.0 (found_edges g found) c)
+absent g found c l p = (absent_draft g found c l p, absent_place found.frozen.root.0 (found_edges g found) c l p)

@@ -1,18 +1,13 @@
 -- The present categories, one after another.
 use Rattle.std.proofs.Common.{◌≡◌, ℕ, zero, suc, ◌+◌, ◌-◌, ◌<◌, ◌≤◌, List, [], ◌∷◌, ◌++◌, length, get_or, Bool, true, false, cond, ◌||◌, refl, sym, ◌∙◌, ap, subst, inl, inr, arith}
-use Rattle.std.specs.Prelude.{◌==◌, ◌≢◌, filter}
-use Rattle.std.specs.List.{range_with_len, list_any}
-use Rattle.std.proofs.lemmas.List.{append-nil, length-append, map-id}
-use Rattle.std.proofs.lemmas.List.Elements.{filter-append}
+use Rattle.std.proofs.lemmas.Bool.{or_left, or_right, or_cases, eqb-true, eq-eqb, Decides.eqb_tells}
+use Rattle.std.proofs.lemmas.List.{append-nil, length-append, map-id, Elements.filter-append}
 use Rattle.std.proofs.lemmas.List.FromFn.{length-range_with_len, map-range_with_len_more}
-use Rattle.std.proofs.lemmas.Bool.Decides.{eqb_tells}
-use Rattle.std.proofs.lemmas.Bool.{or_left, or_right, or_cases, eqb-true, eq-eqb}
+use Rattle.std.specs.{List.{range_with_len, list_any}, Prelude.{◌==◌, ◌≢◌, filter}}
 use Rattle.olap_ast.specs.Frozen.{chosen, is_present}
-use Rattle.olap_base.specs.Above.{place_in}
-use Rattle.olap_base.specs.Graph.{Edge}
+use Rattle.olap_base.{proofs.ListLemmas.{list_any_is, length-filter}, specs.Above.place_in, specs.Graph.Edge}
 use Rattle.olap_frozen.proofs.ChosenLemmas.{chosen_place, place_chosen}
 use Rattle.olap_cex.specs.Present.{first_present, has_end}
-use Rattle.olap_base.proofs.ListLemmas.{list_any_is, length-filter}
 
 -- the edge past the end
 abbrev pub nowhere : Edge
@@ -112,9 +107,9 @@ none_more es bits c i d p n m e t = elim (or_cases (d == c) (p == c) (sym (ap (h
 -- ---- how many there are
 
 -- one category more that is present
-pub count_more : (r : ℕ) (es : List Edge) (c old new : ℕ) → 1 ≤ c → is_present r es c ≡ true
+pub count_more : (r : ℕ) (es : List Edge) (c : ℕ) {old new : ℕ} → 1 ≤ c → is_present r es c ≡ true
     → old ≡ length (first_present r es (c - 1)) → new ≡ old + 1 → new ≡ length (first_present r es (c + 1 - 1))
-count_more r es c old new l p e n =
+count_more r es c {old} {new} l p e n =
     let step : c + 1 - 1 ≡ c = omega arith in
     let more = ap (λ (xs : List ℕ). length xs) (present_more r es c l p)
     ∙ length-append (first_present r es (c - 1)) (c ∷ []) in
@@ -122,9 +117,9 @@ count_more r es c old new l p e n =
     omega arith
 
 -- one more that isn't
-pub count_same : (r : ℕ) (es : List Edge) (c old new : ℕ) → 1 ≤ c → is_present r es c ≡ false
+pub count_same : (r : ℕ) (es : List Edge) (c : ℕ) {old new : ℕ} → 1 ≤ c → is_present r es c ≡ false
     → old ≡ length (first_present r es (c - 1)) → new ≡ old → new ≡ length (first_present r es (c + 1 - 1))
-count_same r es c old new l p e n =
+count_same r es c l p e n =
     let step : c + 1 - 1 ≡ c = omega arith in
     n ∙ e ∙ ap (λ (xs : List ℕ). length xs) (sym (absent_more r es c l p))
     ∙ ap (λ k. length (first_present r es k)) (sym step)

@@ -1,29 +1,21 @@
 -- Printed instances are read back, and so are those of frozen dimensions.
 use Rattle.std.proofs.Common.{◌≡◌, ◌≢◌, ℕ, zero, suc, ◌≤◌, ◌==◌, List, [], ◌∷◌, length, get_or, codes, false, refl, sym, ap, subst, inl, inr, arith}
-use Rattle.std.specs.Prelude.{Contains, IsTrue}
-use Rattle.std.specs.List.{list_any, range_with_len}
-use Rattle.std.specs.Str.{IsAscii, is_utf8}
-use Rattle.std.proofs.lemmas.Bool.{or_parts}
-use Rattle.std.proofs.lemmas.List.{get_or-map, length-append, length-map}
-use Rattle.std.proofs.lemmas.List.Elements.{Contains-append_cases, Contains-get_or}
-use Rattle.std.proofs.lemmas.List.FromFn.{length-range_with_len}
-use Rattle.std.proofs.lemmas.Str.{IsUtf8-from_ascii, is_utf8-from_IsUtf8}
-use native.Mathlib.Decide.{ℕ_discrete}
-use Rattle.olap_base.specs.Deciding.{contains_cases}
-use Rattle.olap_base.specs.Graph.{Edge, Graph, HasEdge, IsCategory, IsHierarchy, is_number}
+use Rattle.std.proofs.lemmas.{Bool.or_parts, List.{get_or-map, length-append, length-map}}
+use Rattle.std.proofs.lemmas.List.{Elements.{Contains-append_cases, Contains-get_or}, FromFn.length-range_with_len}
+use Rattle.std.{proofs.lemmas.Str.{IsUtf8-from_ascii, is_utf8-from_IsUtf8}, specs.List.{list_any, range_with_len}}
+use Rattle.std.specs.{Prelude.{Contains, IsTrue}, Str.{IsAscii, is_utf8}}
+use Rattle.olap_base.proofs.ListLemmas.{Contains-from_filter, Contains-from_range_at, Contains-nil, contains_head, length-filter}
+use Rattle.olap_base.specs.{Deciding.contains_cases, Graph.{Edge, Graph, HasEdge, IsCategory, IsHierarchy, is_number}}
 use Rattle.olap_base.specs.Instance.{Instance, IsMember, category_of, member_at, name_of, nobody, parents_of}
 use Rattle.olap_base.specs.Limits.{most_members, most_text_bytes}
-use Rattle.olap_base.proofs.ListLemmas.{Contains-from_filter, Contains-from_range_at, Contains-nil, contains_head, length-filter}
 use Rattle.olap_ast.specs.Formula.{Formula}
 use Rattle.olap_ast.specs.Frozen.{Candidates, Frozen, IsFrozen, categories_in_order, chosen, id_of, is_present, member_of, name_in, present_categories, thawed}
-use Rattle.olap_ast.specs.Schema.{Schema}
-use Rattle.olap_ast.specs.Valid.{IsValidSchema}
+use Rattle.olap_ast.specs.{Schema.Schema, Valid.IsValidSchema}
+use Rattle.olap_instance.{proofs.CategoryNames.category-utf8, proofs.ReadBack.reads-back, specs.Made.IsMadeFor}
 use Rattle.olap_instance.specs.Members.{AllHasNoParents, HasShortNames, HasTexts, IsMemberId}
-use Rattle.olap_instance.specs.Made.{IsMadeFor}
-use Rattle.olap_instance.proofs.CategoryNames.{category-utf8}
-use Rattle.olap_instance.proofs.ReadBack.{reads-back}
-use Rattle.olap_cex.specs.PrintingLaws.{ConstantsAreUtf8, IsReadBack, PrintedFrozenDimensionsAreRead, PrintedInstancesAreRead}
 use Rattle.olap_cex.proofs.DraftLemmas.{name_is_good, name_is_utf8}
+use Rattle.olap_cex.specs.PrintingLaws.{ConstantsAreUtf8, IsReadBack, PrintedFrozenDimensionsAreRead, PrintedInstancesAreRead}
+use native.Mathlib.Decide.{ℕ_discrete}
 
 -- an instance that a text may stand for is read back
 pub printed_instances : PrintedInstancesAreRead

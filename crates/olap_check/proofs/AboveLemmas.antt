@@ -1,29 +1,19 @@
 -- The table's row of a member is a shape, and what the shape answers.
-use Rattle.std.proofs.Common.{◌≡◌, ◌≢◌, ℕ, ℤ, ◌<◌, List, length, Bool, true, false, ◌&&◌, not, refl, ap, sym, subst, ◌∙◌, ◌↔◌, inl, arith}
-use Rattle.std.specs.Prelude.{IsTrue, nat_eq, nat_lt, Option, Some, None, IfSome, IsNone, is_some}
-use Rattle.std.proofs.lemmas.Bool.Decides.{nat_tests}
-use Rattle.std.specs.Prelude.{Contains}
-use Rattle.std.specs.Bool.{Decides}
+use Rattle.std.proofs.Common.{◌≡◌, ◌≢◌, ℕ, ℤ, ◌<◌, List, length, Bool, true, false, ◌&&◌, not, refl, ap, sym, subst, ◌∙◌, ◌↔◌, inl, arith, eqb, eqb-true, eq-eqb}
+use Rattle.std.proofs.lemmas.{Bool.Decides.nat_tests, List.{get_or-map, length-map}}
+use Rattle.std.{proofs.lemmas.List.Elements.{contains_decides, Decides-contains}, specs.Bool.Decides}
 use Rattle.std.specs.List.{IsAnyAnswer}
-use Rattle.std.proofs.Common.{eqb, eqb-true, eq-eqb}
-use Rattle.std.proofs.lemmas.List.{get_or-map, length-map}
-use Rattle.std.proofs.lemmas.List.Elements.{contains_decides, Decides-contains}
+use Rattle.std.specs.Prelude.{IsTrue, nat_eq, nat_lt, Option, Some, None, IfSome, IsNone, is_some, Contains}
 use Rattle.olap_base.proofs.ListLemmas.{Contains-map}
 use Rattle.olap_base.specs.Instance.{Instance, IsBelow, IsMemberOf, Reaches, ReachesCategory, ReachesVia, category_of, name_of, parents_of}
+use Rattle.olap_base.specs.{Reaching.reaches_is, Steps.{Steps-append, Steps-from_reaches, reaches_from_Steps}}
 use Rattle.olap_base.specs.declared.ids.MemberId.{MemberId}
-use Rattle.olap_legal.proofs.ParentLemmas.{places}
-use Rattle.olap_check.specs.Reports.{member}
-use Rattle.olap_base.specs.Steps.{Steps-append, Steps-from_reaches, reaches_from_Steps}
-use Rattle.olap_base.specs.Reaching.{reaches_is}
-use Rattle.olap_legal.specs.Rows.{none, IsBounded}
-use Rattle.olap_legal.specs.Laying.{cell}
-use Rattle.olap_legal.specs.Tables.{IsTable}
-use Rattle.olap_legal.proofs.TableLemmas.{reached_inside, cell_some}
+use Rattle.olap_legal.{proofs.ParentLemmas.places, proofs.TableLemmas.{reached_inside, cell_some}, specs.Laying.cell}
+use Rattle.olap_legal.specs.{Rows.{none, IsBounded}, Tables.IsTable, declared.tables.Table.Table}
+use Rattle.olap_check.specs.{Above.{IsAbove, is_present}, Reports.member}
 use Rattle.olap_ast.specs.Formula.{IsNumbered, ReachesNamed, ReachesNumbered}
 use Rattle.olap_numerals.specs.Comparing.{Op}
 use Rattle.olap_eval.specs.Shapes.{HasEdgeThere, HasNameThere, HasNumberThere, IsShape, ReachesThere}
-use Rattle.olap_check.specs.Above.{IsAbove, is_present}
-use Rattle.olap_legal.specs.declared.tables.Table.{Table}
 
 -- a present category is one of the graph, and its place has a member
 present_parts : (n c k : ℕ) → (nat_lt c n && not (nat_eq k none)) ≡ true → (c < n) × (k ≢ none)

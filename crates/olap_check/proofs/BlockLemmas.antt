@@ -1,21 +1,17 @@
 -- Sets of places: what operations on them select, the places one by one, and the first that isn't selected.
 use Rattle.std.proofs.Common.{◌≡◌, ℕ, ◌+◌, ◌-◌, ◌<◌, ◌≤◌, ◌⊎◌, ◌↔◌, Bool, true, false, not, ◌&&◌, ◌||◌, List, get_or, length, refl, ap, sym, subst, ◌∙◌, inl, inr, arith}
-use Rattle.std.specs.Bool.{Decides}
-use Rattle.std.specs.Cmp.{nat_cmp_total}
-use Rattle.std.specs.FinSet.{FinSet, empty, contains, insert, union, intersection, difference, contains-empty, contains-union, contains-intersection, contains-difference}
-use Rattle.std.specs.Ordering.{nat_cmp}
 use Rattle.std.proofs.lemmas.Bool.{and_parts, both_ways, cases_eq, not-true}
 use Rattle.std.proofs.lemmas.Bool.Decides.{Decides-and, Decides-at, Decides-eqb, Decides-like, Decides-not, Decides-or}
-use Rattle.olap_ast.specs.Formula.{ExactlyOneHolds, Formula, Holds, NoneHolds, Terms}
-use Rattle.olap_ast.specs.Trees.{formula_of}
+use Rattle.std.specs.{Bool.Decides, Cmp.nat_cmp_total}
+use Rattle.std.specs.FinSet.{FinSet, empty, contains, insert, union, intersection, difference, contains-empty, contains-union, contains-intersection, contains-difference}
+use Rattle.std.specs.Ordering.{nat_cmp}
+use Rattle.olap_ast.specs.{Formula.{ExactlyOneHolds, Formula, Holds, NoneHolds, Terms}, Trees.formula_of}
 use Rattle.olap_ast.specs.declared.formulas.Formula.{Formula as Tree}
 use Rattle.olap_base.specs.Instance.{Instance, IsMemberOf}
-use Rattle.olap_bits.specs.CatSet.{IsLeast}
-use Rattle.olap_bits.proofs.CatSetLemmas.{in_insert}
-use Rattle.olap_check.specs.Blocks.{Collects, IsBlock, IsFirstUnmetFrom, IsPart, Selects, width}
-use Rattle.olap_check.specs.Groups.{count_before}
-use Rattle.olap_legal.specs.declared.tables.Table.{Table}
+use Rattle.olap_bits.{proofs.CatSetLemmas.in_insert, specs.CatSet.IsLeast}
 use Rattle.olap_check.proofs.GroupLemmas.{count_below, same_nth}
+use Rattle.olap_check.specs.{Blocks.{Collects, IsBlock, IsFirstUnmetFrom, IsPart, Selects, width}, Groups.count_before}
+use Rattle.olap_legal.specs.declared.tables.Table.{Table}
 
 -- ---- two facts and their tests
 

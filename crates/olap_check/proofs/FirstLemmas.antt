@@ -1,32 +1,22 @@
 -- The first violation, from the first breach of each law.
-use Rattle.std.proofs.Common.{◌≡◌, ◌≢◌, ℕ, ◌<◌, ◌⊎◌, List, [], ◌∷◌, length, Bool, refl, sym, subst, ◌∙◌, inl, inr, arith}
+use Rattle.std.proofs.Common.{◌≡◌, ◌≢◌, ℕ, ◌<◌, ◌⊎◌, List, [], ◌∷◌, length, Bool, refl, sym, subst, ◌∙◌, inl, inr, arith, ap}
+use Rattle.std.proofs.lemmas.{List.get_or_default, Option.{slice_get-get_or, get_or_from_slice_get}}
 use Rattle.std.specs.Prelude.{Contains, slice_index}
-use Rattle.std.proofs.lemmas.List.{get_or_default}
-use native.Mathlib.Decide.{ℕ_discrete}
-use Rattle.olap_base.specs.Graph.{Graph, HasEdge}
-use Rattle.std.proofs.Common.{ap}
-use Rattle.std.proofs.lemmas.Option.{slice_get-get_or, get_or_from_slice_get}
-use Rattle.olap_base.proofs.ListLemmas.{Contains-nil}
-use Rattle.olap_ast.specs.Formula.{Holds}
-use Rattle.olap_check.specs.Meeting.{IsFirstViolated, constraint_at, no_constraint}
+use Rattle.olap_base.{proofs.ListLemmas.Contains-nil, specs.Deciding.below_is_member, specs.Graph.{Graph, HasEdge}}
 use Rattle.olap_base.specs.Instance.{Instance, IsMemberOf, IsLawful, IsBelow, IsFarBelow, category_of, parents_of}
-use Rattle.olap_base.specs.Deciding.{below_is_member}
-use Rattle.olap_ast.specs.Schema.{Schema}
+use Rattle.olap_base.specs.{Ranks.IsNotAfter, declared.ids.MemberId.MemberId}
+use Rattle.olap_ast.{proofs.Violated.far_below_start, specs.Formula.Holds, specs.Schema.Schema}
 use Rattle.olap_ast.specs.Violation.{Violation, Violation.NoEdge, Violation.NoParent, Violation.SameCategory, Violation.TwoAncestors, Violation.Shortcut, Violation.Unmet, IsViolation, rank, IsFirstViolation}
-use Rattle.olap_base.specs.Ranks.{IsNotAfter}
-use Rattle.olap_legal.specs.Rows.{IsBounded, AreLinked}
-use Rattle.olap_check.specs.Strata.{Repeats, IsFirstRepeat}
-use Rattle.olap_legal.specs.Tables.{IsTable, IsFirstSplit}
-use Rattle.olap_check.specs.Splitting.{IsLeastSplit, SplitsAt}
-use Rattle.olap_check.specs.Passing.{IsStratified, IsFirstShortcut, HasNoShortcut}
-use Rattle.olap_check.specs.Linking.{IsLinked, IsTableOf, IsFirstUnlinked, IsLinkedAt, IsFirstOrphan, IsOrphan}
-use Rattle.olap_legal.proofs.TableLemmas.{row_is_whole}
-use Rattle.olap_base.specs.declared.ids.MemberId.{MemberId}
-use Rattle.olap_check.specs.Reports.{IsFirstBreach, category, member}
-use Rattle.olap_check.specs.declared.violations.Violation.TheVariants.{Connectivity, NoParent as Orphan, Partitioning, Shortcut as Bypass, Stratification}
 use Rattle.olap_check.proofs.SplitLemmas.{splits_of}
-use Rattle.olap_legal.specs.declared.tables.Table.{Table}
-use Rattle.olap_ast.proofs.Violated.{far_below_start}
+use Rattle.olap_check.specs.Linking.{IsLinked, IsTableOf, IsFirstUnlinked, IsLinkedAt, IsFirstOrphan, IsOrphan}
+use Rattle.olap_check.specs.Meeting.{IsFirstViolated, constraint_at, no_constraint}
+use Rattle.olap_check.specs.Passing.{IsStratified, IsFirstShortcut, HasNoShortcut}
+use Rattle.olap_check.specs.{Reports.{IsFirstBreach, category, member}, Splitting.{IsLeastSplit, SplitsAt}}
+use Rattle.olap_check.specs.Strata.{Repeats, IsFirstRepeat}
+use Rattle.olap_check.specs.declared.violations.Violation.TheVariants.{Connectivity, NoParent as Orphan, Partitioning, Shortcut as Bypass, Stratification}
+use Rattle.olap_legal.{proofs.TableLemmas.row_is_whole, specs.Rows.{IsBounded, AreLinked}}
+use Rattle.olap_legal.specs.{Tables.{IsTable, IsFirstSplit}, declared.tables.Table.Table}
+use native.Mathlib.Decide.{ℕ_discrete}
 
 -- less or equal, where not greater
 not_less : (a b : ℕ) → (b < a → ⊥) → (a < b) ⊎ (a ≡ b)

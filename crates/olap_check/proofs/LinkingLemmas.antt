@@ -1,13 +1,9 @@
 -- Parents in order, and the table of edges.
 use Rattle.std.proofs.Common.{◌≡◌, ℕ, ◌+◌, ◌*◌, ◌<◌, ◌≤◌, List, [], ◌∷◌, ◌++◌, ◌/◌, ◌%◌, length, length-append, get_or, refl, Bool, true, false, ap, sym, subst, ◌∙◌, ◌↔◌, arith, below_more}
+use Rattle.std.proofs.Math.{ListN.get_or-append, Nat.mul-le-mul_right, Seq.get_or-append_seam}
+use Rattle.std.proofs.lemmas.{List.length-map, Nat.{div-mul-add, mod-mul-add}}
 use Rattle.std.specs.Prelude.{IsTrue, ◌==◌}
-use Rattle.std.proofs.lemmas.List.{length-map}
-use Rattle.olap_base.specs.Graph.{Graph, HasEdge}
-use Rattle.olap_base.specs.Instance.{Instance, category_of, parents_of}
-use Rattle.std.proofs.Math.ListN.{get_or-append}
-use Rattle.std.proofs.Math.Seq.{get_or-append_seam}
-use Rattle.std.proofs.Math.Nat.{mul-le-mul_right}
-use Rattle.std.proofs.lemmas.Nat.{div-mul-add, mod-mul-add}
+use Rattle.olap_base.specs.{Graph.{Graph, HasEdge}, Instance.{Instance, category_of, parents_of}}
 use Rattle.olap_base.specs.declared.ids.MemberId.{MemberId}
 use Rattle.olap_legal.proofs.ParentLemmas.{IsParentAt, places}
 use Rattle.olap_check.specs.Linking.{IsLinked, IsUnlinked, IsFirstUnlinkedOf, IsLinkedAt, IsOrphan, IsTableOf}

@@ -1,16 +1,13 @@
 -- Constraints, one after another.
 use Rattle.std.proofs.Common.{◌≡◌, ℕ, ◌+◌, ◌-◌, ◌*◌, ◌<◌, ◌≤◌, List, length, map, get_or, take, drop, min, ap, sym, subst, ◌∙◌, arith, below_more, inl, inr}
-use Rattle.std.specs.Prelude.{Contains}
-use Rattle.std.proofs.lemmas.List.{get_or-drop, get_or-map, get_or-take, get_or_default, length-drop, length-map, length-take-le}
 use Rattle.std.proofs.lemmas.Bool.{cases_lt}
-use Rattle.olap_ast.specs.Formula.{Formula, Holds}
-use Rattle.olap_ast.specs.Schema.{Constraint, Meets}
-use Rattle.olap_ast.specs.Trees.{constraint_of}
+use Rattle.std.proofs.lemmas.List.{get_or-drop, get_or-map, get_or-take, get_or_default, length-drop, length-map, length-take-le}
+use Rattle.std.specs.Prelude.{Contains}
+use Rattle.olap_ast.specs.{Formula.{Formula, Holds}, Schema.{Constraint, Meets}, Trees.constraint_of}
 use Rattle.olap_ast.specs.declared.formulas.Constraint.{Constraint as Stored}
 use Rattle.olap_base.specs.Instance.{Instance, IsMemberOf}
-use Rattle.olap_check.specs.Blocks.{IsFirstUnmetFrom, IsPart, width}
+use Rattle.olap_check.{proofs.GroupLemmas.count_below, specs.Blocks.{IsFirstUnmetFrom, IsPart, width}}
 use Rattle.olap_check.specs.Groups.{IsGroup, IsNth, count_before}
-use Rattle.olap_check.proofs.GroupLemmas.{count_below}
 use Rattle.olap_check.specs.Meeting.{IsFirstUnmet, IsFirstViolated, constraint_at, no_constraint}
 
 -- ---- one formula, block by block

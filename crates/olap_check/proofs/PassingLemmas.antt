@@ -1,17 +1,13 @@
 -- What the table says of a member that is far below another.
 use Rattle.std.proofs.Common.{◌≡◌, ◌≢◌, ℕ, ◌+◌, ◌<◌, ◌≤◌, length, get_or, false, ap, sym, subst, ◌∙◌, ◌↔◌, inl, inr, arith, eqb-true, eq-eqb, below_more}
+use Rattle.std.proofs.lemmas.List.{get_or_default, Elements.Contains-get_or}
 use Rattle.std.specs.Prelude.{Contains, IsTrue, nat_eq}
-use Rattle.std.proofs.lemmas.List.{get_or_default}
-use native.Mathlib.Decide.{ℕ_discrete}
-use Rattle.olap_base.specs.declared.ids.MemberId.{MemberId}
-use Rattle.std.proofs.lemmas.List.Elements.{Contains-get_or}
-use Rattle.olap_legal.proofs.ParentLemmas.{IsParentAt}
 use Rattle.olap_base.specs.Instance.{Instance, IsFarBelow, IsMemberOf, Reaches, category_of, parents_of}
-use Rattle.olap_legal.specs.Rows.{IsBounded}
-use Rattle.olap_legal.specs.Tables.{IsTable}
+use Rattle.olap_base.specs.declared.ids.MemberId.{MemberId}
+use Rattle.olap_legal.{proofs.ParentLemmas.IsParentAt, proofs.TableLemmas.row_is_whole, specs.Rows.IsBounded}
+use Rattle.olap_legal.specs.{Tables.IsTable, declared.tables.Table.Table}
 use Rattle.olap_check.specs.Passing.{IsStratified, IsPassedBy, IsFirstPassed, HasNoneAt}
-use Rattle.olap_legal.proofs.TableLemmas.{row_is_whole}
-use Rattle.olap_legal.specs.declared.tables.Table.{Table}
+use native.Mathlib.Decide.{ℕ_discrete}
 
 -- a member is not far below itself
 pub far_same : (i : Instance) (z y : ℕ) → IsStratified i → z ≡ y → IsTrue false ↔ IsFarBelow i z y

@@ -1,19 +1,17 @@
 -- The search upwards for a member of one category, and the first member that finds one.
 use Rattle.std.proofs.Common.{◌≡◌, ◌≢◌, ℕ, ◌+◌, ◌<◌, ◌≤◌, List, [], ◌∷◌, ◌++◌, length, get_or, Bool, true, false, ap, sym, subst, ◌∙◌, inl, inr, arith}
-use Rattle.std.specs.Prelude.{Contains, replicate}
 use Rattle.std.proofs.lemmas.List.{length-replicate}
 use Rattle.std.proofs.lemmas.List.Elements.{Contains-append_left, Contains-push, Contains-push_cases}
-use native.Mathlib.Decide.{ℕ_discrete}
+use Rattle.std.specs.Prelude.{Contains, replicate}
+use Rattle.olap_base.{proofs.ListLemmas.{Contains-nil, none_marked}, specs.Deciding.below_is_member}
 use Rattle.olap_base.specs.Graph.{Graph, HasEdge, CategoryReaches}
 use Rattle.olap_base.specs.Instance.{Instance, IsBelow, IsFarBelow, category_of, parents_of}
-use Rattle.olap_graph.specs.Tables.{IsMarked}
-use Rattle.olap_legal.proofs.ParentLemmas.{edges_along, taken}
 use Rattle.olap_base.specs.Steps.{Steps, Steps.here, Steps.step, Climb, Climb.climb, Steps-append, Climb-from_leads, leads_from_Climb, Steps-climb, reaches_from_Steps}
-use Rattle.olap_base.proofs.ListLemmas.{Contains-nil, none_marked}
+use Rattle.olap_graph.specs.Tables.{IsMarked}
+use Rattle.olap_legal.{proofs.ParentLemmas.{edges_along, taken}, specs.Marks.{IsPassed, IsMarking, Hits}}
 use Rattle.olap_legal.specs.Rows.{IsBounded, AreLinked}
-use Rattle.olap_base.specs.Deciding.{below_is_member}
 use Rattle.olap_check.specs.Strata.{IsOnCycle, Repeats, HasNoneAbove, IsFirstIn, IsFirstOf, IsClosed, IsSearch, RepeatGives}
-use Rattle.olap_legal.specs.Marks.{IsPassed, IsMarking, Hits}
+use native.Mathlib.Decide.{ℕ_discrete}
 
 module _ {i : Instance} {c : ℕ} (x : ℕ) (inside : (a b : ℕ) → IsBelow i a b → b < length i) where
   -- the parents of x, over marks that are closed

@@ -1,19 +1,13 @@
 -- What is remembered of atoms: one entry more, and none.
 use Rattle.std.proofs.Common.{◌≡◌, ℕ, ◌<◌, zero, suc, List, length, replicate, set, get_or, refl, sym, subst, inl, inr}
-use Rattle.std.specs.FinSet.{FinSet}
-use Rattle.std.specs.Ordering.{nat_cmp}
-use Rattle.std.specs.Prelude.{Option, Some, None}
-use Rattle.std.proofs.lemmas.Bool.{cases_eq}
-use Rattle.std.proofs.lemmas.Grind.{get_or-set_at}
-use Rattle.std.proofs.lemmas.List.{get_or-set_other, get_or_default}
-use Rattle.olap_ast.specs.Formula.{ReachesNamed, ReachesNumbered}
-use Rattle.olap_ast.specs.Trees.{op_of}
+use Rattle.std.proofs.lemmas.{Bool.cases_eq, Grind.get_or-set_at, List.{get_or-set_other, get_or_default}}
+use Rattle.std.specs.{FinSet.FinSet, Ordering.nat_cmp, Prelude.{Option, Some, None}}
+use Rattle.olap_ast.specs.{Formula.{ReachesNamed, ReachesNumbered}, Trees.op_of}
 use Rattle.olap_base.specs.Instance.{Instance}
 use Rattle.olap_bits.specs.Sets.{members}
 use Rattle.olap_check.specs.Seen.{AreRight, GoesOn, IsAtomAt, IsKept, IsRight, IsSameAtom, IsSo}
-use Rattle.olap_check.specs.declared.asked.Asked.{Asked}
+use Rattle.olap_check.specs.declared.{asked.Asked.Asked, seen.Entry.Entry}
 use Rattle.olap_check.specs.declared.asked.Asked.TheVariants as asked
-use Rattle.olap_check.specs.declared.seen.Entry.{Entry}
 
 -- what asks the same as another, that asks the same as it
 pub same_sym : (a b : Asked) → IsSameAtom a b → IsSameAtom b a

@@ -1,19 +1,14 @@
 -- All that a member is far below, and two of one category among it.
 use Rattle.std.proofs.Common.{◌≡◌, ℕ, zero, suc, ◌+◌, ◌<◌, ◌≤◌, List, [], ◌∷◌, ◌++◌, length, Bool, false, refl, ap, sym, subst, ◌∙◌, ◌↔◌, inl, inr, arith, below_more}
 use Rattle.std.specs.Prelude.{IsTrue, Option, Some, None, is_some}
+use Rattle.olap_base.proofs.{GeneralLemmas.same_or_below, ListLemmas.Contains-nil}
 use Rattle.olap_base.specs.Instance.{Instance, IsBelow, Reaches, category_of, parents_of}
 use Rattle.olap_base.specs.Steps.{Steps, Steps.here, Steps.step, Climb, Climb.climb, Climb-from_leads, leads_from_Climb, Steps-climb, Steps-from_reaches}
-use Rattle.olap_base.proofs.ListLemmas.{Contains-nil}
 use Rattle.olap_graph.specs.Tables.{IsMarked}
+use Rattle.olap_legal.{proofs.ParentLemmas.taken, proofs.TableLemmas.reached_inside, specs.Marks.IsMarking}
 use Rattle.olap_legal.specs.Rows.{IsBounded, Splits}
-use Rattle.olap_check.specs.Strata.{IsClosed}
-use Rattle.olap_legal.specs.Marks.{IsMarking}
-use Rattle.olap_check.specs.Splitting.{MarksAbove, HasTwo, IsFoundAmong, IsClimbing, SplitsAt}
-use Rattle.olap_check.specs.Passing.{IsStratified}
-use Rattle.olap_legal.proofs.TableLemmas.{reached_inside}
-use Rattle.olap_legal.proofs.ParentLemmas.{taken}
-use Rattle.olap_check.proofs.SearchLemmas.{search_start, search_next}
-use Rattle.olap_base.proofs.GeneralLemmas.{same_or_below}
+use Rattle.olap_check.{proofs.SearchLemmas.{search_start, search_next}, specs.Passing.IsStratified}
+use Rattle.olap_check.specs.{Splitting.{MarksAbove, HasTwo, IsFoundAmong, IsClimbing, SplitsAt}, Strata.IsClosed}
 
 -- the parents of x are marked
 pub climbing_start : {i : Instance} {n : ℕ} {marks after : List Bool} {old new : List ℕ} (x : ℕ) → IsBounded i n

@@ -1,20 +1,15 @@
 -- Ways from one category to another by the row of the table, and the atoms that they make up.
 use Rattle.std.proofs.Common.{◌≡◌, ℕ, ◌+◌, ◌<◌, List, [], ◌∷◌, get_or, length, Bool, true, refl, sym, subst, ◌↔◌, inl, arith}
-use Rattle.std.specs.FinSet.{FinSet, contains}
-use Rattle.std.specs.Ordering.{nat_cmp}
+use Rattle.std.specs.{FinSet.{FinSet, contains}, Ordering.nat_cmp}
 use Rattle.olap_base.specs.Instance.{Instance, IsBelow, IsMemberOf, ReachesCategory, ReachesVia}
 use Rattle.olap_base.specs.Steps.{Steps.here, Steps.step, Steps-append, Steps-from_reaches, reaches_from_Steps}
 use Rattle.olap_ast.specs.Formula.{HasPath}
-use Rattle.olap_eval.specs.Shapes.{HasEdgeThere, IsShape}
 use Rattle.olap_eval.proofs.ShapeLemmas.{IsFollowed, follow_done, follow_step, path_to}
-use Rattle.olap_check.specs.Above.{IsAbove, is_present}
-use Rattle.olap_check.specs.Blocks.{IsBlock, IsPart, Selects}
-use Rattle.olap_check.proofs.BlockLemmas.{has_all}
-use Rattle.olap_check.proofs.GroupLemmas.{same_nth}
-use Rattle.olap_check.specs.Seen.{IsKept, StepsVia}
-use Rattle.olap_legal.specs.Laying.{cell}
-use Rattle.olap_check.proofs.AboveLemmas.{above_shape, member_is, own_place, present_member}
-use Rattle.olap_legal.specs.declared.tables.Table.{Table}
+use Rattle.olap_eval.specs.Shapes.{HasEdgeThere, IsShape}
+use Rattle.olap_check.proofs.{AboveLemmas.{above_shape, member_is, own_place, present_member}, BlockLemmas.has_all}
+use Rattle.olap_check.{proofs.GroupLemmas.same_nth, specs.Above.{IsAbove, is_present}}
+use Rattle.olap_check.specs.{Blocks.{IsBlock, IsPart, Selects}, Seen.{IsKept, StepsVia}}
+use Rattle.olap_legal.specs.{Laying.cell, declared.tables.Table.Table}
 
 -- a member of the first category has one of the second as a parent, by the row of x
 module _ (i : Instance) (n x : ℕ) (table : Table) (a : IsAbove i n x table) where

@@ -1,14 +1,9 @@
 -- Clauses without literals that are known false, and literals that stand as clauses.
 --     agrees_at, one_literal     a literal that stands is true, and so is a clause of it
 use Rattle.std.proofs.Common.{◌≡◌, ℕ, suc, zero, ◌+◌, ◌<◌, ◌≤◌, Bool, List, [], ◌∷◌, length, slice_index_or, sym, ◌∙◌, subst, arith, below_more}
-use Rattle.std.specs.Prelude.{Contains}
-use Rattle.std.proofs.lemmas.List.{get_or_default}
-use Rattle.olap_pool.specs.declared.literals.Lit.{Lit}
-use Rattle.olap_clauses.specs.declared.trails.Step.{Step}
-use Rattle.olap_pool.specs.Literals.{Holds, Satisfies}
-use Rattle.olap_clauses.specs.Standing.{Agrees}
-use Rattle.olap_clauses.proofs.StandsLemmas.{lit_at, no_lit}
-use Rattle.olap_parities.proofs.ParityLemmas.{one_literal}
+use Rattle.std.{proofs.lemmas.List.get_or_default, specs.Prelude.Contains}
+use Rattle.olap_pool.specs.{Literals.{Holds, Satisfies}, declared.literals.Lit.Lit}
+use Rattle.olap_clauses.{proofs.StandsLemmas.{lit_at, no_lit}, specs.Standing.Agrees, specs.declared.trails.Step.Step}
 
 -- who agrees with the trail makes the literal at each place true
 pub agrees_at : (v : ℕ → Bool) (ss : List Step) (p : ℕ) (s : Step) → p < length ss

@@ -1,23 +1,16 @@
 -- A cube's target is summarizable exactly if no choice of frozen dimensions is bad.
-use Rattle.std.proofs.Common.{ℕ, ◌↔◌, List, [], ◌∷◌, refl, sym, subst, ◌∙◌}
-use Rattle.std.specs.Prelude.{All}
-use Rattle.std.proofs.lemmas.List.Elements.{All-head, All-tail}
-use Rattle.std.specs.List.{AllZip}
+use Rattle.std.proofs.{Common.{ℕ, ◌↔◌, List, [], ◌∷◌, refl, sym, subst, ◌∙◌}, lemmas.List.Elements.{All-head, All-tail}}
+use Rattle.std.specs.{List.AllZip, Prelude.All}
+use Rattle.olap_base.{proofs.DecisionLemmas.dec_not, proofs.RollingLemmas.one_same, specs.Deciding.{dec_and, dec_or}}
 use Rattle.olap_base.specs.Graph.{IsBottom, IsHierarchy}
 use Rattle.olap_base.specs.Instance.{Instance, IsMemberOf, ReachesCategory, ReachesVia, category_of}
-use Rattle.olap_base.specs.Deciding.{dec_and, dec_or}
 use Rattle.olap_base.specs.Views.{ExactlyOne, NoneOf}
-use Rattle.olap_base.proofs.RollingLemmas.{one_same}
-use Rattle.olap_ast.specs.Formula.{Formula.Reach, Formula.Truth, Formula.Via}
-use Rattle.olap_ast.specs.Frozen.{CandidatesExist, thawed}
+use Rattle.olap_ast.proofs.{Decided.dec_via, SameAtoms.kinds_too, SmallModel.frozen_alike}
+use Rattle.olap_ast.specs.{Formula.{Formula.Reach, Formula.Truth, Formula.Via}, Frozen.{CandidatesExist, thawed}}
 use Rattle.olap_ast.specs.Schema.{Schema, IsLegal}
-use Rattle.olap_ast.proofs.Decided.{dec_via}
-use Rattle.olap_ast.proofs.SameAtoms.{kinds_too}
-use Rattle.olap_ast.proofs.SmallModel.{frozen_alike}
-use Rattle.olap_cube.specs.Tuples.{AllZip3, AreLawful, IsBottomTuple, IsTupleOf, TupleReaches, TupleReachesVia}
-use Rattle.olap_cube.specs.CubeSummarizable.{Chosen, CubeSummarizableExactlyIfNoneBad, IsBadChoice, IsChosen, IsCubeSummarizable, IsKinded, bottoms_of, graphs_of, instances_of}
 use Rattle.olap_cube.proofs.CubeLemmas.{cubes_agree_exactly}
-use Rattle.olap_base.proofs.DecisionLemmas.{dec_not}
+use Rattle.olap_cube.specs.CubeSummarizable.{Chosen, CubeSummarizableExactlyIfNoneBad, IsBadChoice, IsChosen, IsCubeSummarizable, IsKinded, bottoms_of, graphs_of, instances_of}
+use Rattle.olap_cube.specs.Tuples.{AllZip3, AreLawful, IsBottomTuple, IsTupleOf, TupleReaches, TupleReachesVia}
 
 -- legal instances are lawful
 pub lawful_from_legal : (ss : List Schema) (is : List Instance) → AllZip IsLegal ss is → AreLawful (graphs_of ss) is

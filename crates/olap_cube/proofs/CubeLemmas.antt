@@ -1,19 +1,14 @@
 -- Tuples of members as points: the two views of a tuple of categories agree for every fact table exactly if each
 -- fact's tuple is reached by one source.
-use Rattle.std.proofs.Common.{◌≡◌, ℕ, ◌↔◌, List, [], ◌∷◌, true, refl}
-use Rattle.std.proofs.Math.Decide.{ℕ_discrete}
-use mathlib.Core.List.{List-discrete}
-use Rattle.olap_base.specs.Graph.{Graph}
-use Rattle.olap_base.specs.Instance.{Instance}
-use Rattle.olap_base.specs.Reaching.{reaches, reaches_is}
+use Rattle.std.proofs.{Common.{◌≡◌, ℕ, ◌↔◌, List, [], ◌∷◌, true, refl}, Math.Decide.ℕ_discrete, lemmas.Bool.and_from}
 use Rattle.olap_base.proofs.ListLemmas.{first_true, second_true}
-use Rattle.olap_base.proofs.RollingTotals.{IsRolling, By}
 use Rattle.olap_base.proofs.RollingLemmas.{rolling_agree, times_same, direct_of_one, merged_of_one}
-use Rattle.olap_base.proofs.ViewLemmas.{members_of_is, via_is_by}
-use Rattle.olap_cube.specs.Tuples.{tuple_reaches, IsTupleOf, IsBottomTuple, AreLawful, TupleReachesVia, tuples_of}
-use Rattle.olap_cube.specs.CubeViews.{CubesAgreeExactlyIfReachedByOne, OneCubeFactsViews, tuples}
+use Rattle.olap_base.proofs.{RollingTotals.{IsRolling, By}, ViewLemmas.{members_of_is, via_is_by}}
+use Rattle.olap_base.specs.{Graph.Graph, Instance.Instance, Reaching.{reaches, reaches_is}}
 use Rattle.olap_cube.proofs.TupleLemmas.{tuple_reaches_is, tuple_onward, tuples_of_is, is_tuple_of, Distinct-tuples_of, tuple_once}
-use Rattle.std.proofs.lemmas.Bool.{and_from}
+use Rattle.olap_cube.specs.CubeViews.{CubesAgreeExactlyIfReachedByOne, OneCubeFactsViews, tuples}
+use Rattle.olap_cube.specs.Tuples.{tuple_reaches, IsTupleOf, IsBottomTuple, AreLawful, TupleReachesVia}
+use mathlib.Core.List.{List-discrete}
 
 -- tuples of members are points that roll up, as those of one instance do
 pub tuples_roll : (gs : List Graph) (is : List Instance) → AreLawful gs is → IsRolling (tuples is)

@@ -1,14 +1,11 @@
 -- There is one counterexample at most, whichever candidates are taken.
 use Rattle.std.proofs.Common.{◌≡◌, ℕ, List, [], ◌∷◌, ◌++◌, Bool, cond, length, map, refl, sym, ap, ◌∙◌, arith}
-use Rattle.olap_ast.specs.Formula.{Formula.Reach}
-use Rattle.olap_ast.specs.Frozen.{AreOneFrozenDimension, code, name_in, root_place, thawed}
+use Rattle.olap_ast.proofs.{Determined.{same_name, same_thawed}, Uniqueness.same_bit}
+use Rattle.olap_ast.specs.{Formula.Formula.Reach, Frozen.{AreOneFrozenDimension, code, name_in, root_place, thawed}}
 use Rattle.olap_ast.specs.Schema.{Schema}
-use Rattle.olap_ast.proofs.Determined.{same_name, same_thawed}
-use Rattle.olap_cube.proofs.RankLemmas.{to_least}
-use Rattle.olap_cube.specs.Codes.{AreNotAfter, codes_of}
-use Rattle.olap_cube.specs.Tuples.{AllZip3}
+use Rattle.olap_cube.{proofs.RankLemmas.to_least, specs.Codes.{AreNotAfter, codes_of}}
 use Rattle.olap_cube.specs.CubeSummarizable.{AreOneChoice, Chosen, IsChosen, TheCubeCounterexampleIsOne, bottoms_of}
-use Rattle.olap_ast.proofs.Uniqueness.{same_bit}
+use Rattle.olap_cube.specs.Tuples.{AllZip3}
 use Rattle.olap_base.proofs.RankLemmas.{not_after_both}
 
 -- codes that are not after each other are the same

@@ -1,28 +1,19 @@
 -- A cube of one dimension is its dimension.
 use Rattle.std.proofs.Common.{◌≡◌, ℕ, ◌<◌, ◌↔◌, List, [], ◌∷◌, map, refl, sym, ap, subst, ◌∙◌, inl, inr, arith}
 use Rattle.std.specs.List.{AllZip}
-use Rattle.olap_base.specs.Graph.{IsBottom}
-use Rattle.olap_base.specs.Instance.{Instance, IsMemberOf, ReachesVia}
-use Rattle.olap_base.specs.Above.{HasOneMemberEach}
-use Rattle.olap_base.specs.Views.{ExactlyOne, NoneOf, ViewsAgree}
-use Rattle.olap_base.proofs.ViewLemmas.{agree_exactly}
-use Rattle.olap_ast.specs.Atoms.{comparisons, equalities}
-use Rattle.olap_ast.specs.Formula.{Formula, Formula.Reach}
+use Rattle.olap_base.proofs.{GeneralLemmas.less_equal_greater, ViewLemmas.agree_exactly}
+use Rattle.olap_base.specs.{Above.HasOneMemberEach, Graph.IsBottom, Instance.{Instance, IsMemberOf, ReachesVia}}
+use Rattle.olap_base.specs.{Ranks.IsNotAfter, Views.{ExactlyOne, NoneOf, ViewsAgree}}
+use Rattle.olap_ast.proofs.{Determined.still_frozen, SameAtoms.{candidates_too, frozen_too}}
+use Rattle.olap_ast.proofs.{SourceLemmas.{question_free, question_numberless}, Summing.one_of}
+use Rattle.olap_ast.specs.{Atoms.{comparisons, equalities}, Formula.{Formula, Formula.Reach}}
 use Rattle.olap_ast.specs.Frozen.{AreCandidates, Candidates, Frozen, IsFrozen, IsFrozenInstance, code, thawed}
-use Rattle.olap_ast.specs.Schema.{Schema, IsLegal}
-use Rattle.olap_ast.specs.Summarizable.{IsCounterexample, IsSummarizable, not_by_one}
-use Rattle.olap_base.specs.Ranks.{IsNotAfter}
-use Rattle.olap_ast.proofs.Determined.{still_frozen}
-use Rattle.olap_ast.proofs.SameAtoms.{candidates_too, frozen_too}
-use Rattle.olap_ast.proofs.SourceLemmas.{question_free, question_numberless}
-use Rattle.olap_ast.proofs.Summing.{one_of}
-use Rattle.olap_cube.specs.Tuples.{IsBottomTuple, IsTupleOf, TupleReaches, TupleReachesVia}
-use Rattle.olap_cube.specs.CubeViews.{IsCubeFactTable, tuples}
+use Rattle.olap_ast.specs.{Schema.{Schema, IsLegal}, Summarizable.{IsCounterexample, IsSummarizable, not_by_one}}
+use Rattle.olap_cube.proofs.{CubeLemmas.cubes_agree_exactly, RankLemmas.{from_least, to_least}}
 use Rattle.olap_cube.specs.Codes.{AreNotAfter, IsLeastChoice, codes_of}
 use Rattle.olap_cube.specs.CubeSummarizable.{Chosen, CounterexamplesOfOneDimension, CubesOfOneDimension, IsBadChoice, IsCubeSummarizable, bottoms_of}
-use Rattle.olap_cube.proofs.CubeLemmas.{cubes_agree_exactly}
-use Rattle.olap_cube.proofs.RankLemmas.{from_least, to_least}
-use Rattle.olap_base.proofs.GeneralLemmas.{less_equal_greater}
+use Rattle.olap_cube.specs.CubeViews.{IsCubeFactTable, tuples}
+use Rattle.olap_cube.specs.Tuples.{IsBottomTuple, IsTupleOf, TupleReaches, TupleReachesVia}
 
 -- each as a tuple of one
 abbrev alone : List ℕ → List (List ℕ)

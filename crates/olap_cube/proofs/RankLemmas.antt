@@ -1,9 +1,7 @@
 -- The first bad choice by its rank is the least one by its codes, since of one dimension all codes are equally long.
 use Rattle.std.proofs.Common.{◌≡◌, ◌+◌, ℕ, suc, List, [], ◌∷◌, ◌++◌, length, refl, sym, ap, inl, inr, arith, ◌∙◌}
-use Rattle.std.specs.Prelude.{flat_map}
-use Rattle.std.proofs.lemmas.List.{length-append, length-map}
-use Rattle.olap_ast.specs.Frozen.{code}
-use Rattle.olap_ast.specs.Schema.{Schema}
+use Rattle.std.{proofs.lemmas.List.{length-append, length-map}, specs.Prelude.flat_map}
+use Rattle.olap_ast.specs.{Frozen.code, Schema.Schema}
 use Rattle.olap_base.specs.Ranks.{IsNotAfter}
 use Rattle.olap_cube.specs.Codes.{AreNotAfter, IsLeastChoice, codes_of}
 use Rattle.olap_cube.specs.CubeSummarizable.{Chosen, IsBadChoice, IsChosen, IsCubeCounterexample, bottoms_of}

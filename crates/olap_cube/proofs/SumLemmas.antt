@@ -1,19 +1,14 @@
 -- The two SUMs of the fact at the roots of a bad choice.
 use Rattle.std.proofs.Common.{◌≡◌, ℕ, zero, suc, List, [], ◌∷◌, pos, refl, sym, ap, subst, ◌∙◌, inl, inr, Some, None, arith}
-use Rattle.std.specs.Prelude.{◌≢◌}
-use Rattle.std.specs.List.{cons_option}
-use Rattle.std.proofs.Math.Decide.{ℕ_discrete}
-use Rattle.olap_base.specs.Deciding.{contains_cases}
-use Rattle.olap_base.specs.Instance.{Instance}
+use Rattle.std.{proofs.Math.Decide.ℕ_discrete, specs.List.cons_option, specs.Prelude.◌≢◌}
+use Rattle.olap_base.{proofs.ListLemmas.Contains-nil, specs.Deciding.contains_cases, specs.Instance.Instance}
 use Rattle.olap_base.specs.OneFact.{HoldsTimes, ones}
 use Rattle.olap_base.specs.Views.{ExactlyOne, Fact, NoneOf, direct_views, one_fact, only_sum, row_at, rows_from_views}
-use Rattle.olap_base.proofs.ListLemmas.{Contains-nil}
 use Rattle.olap_ast.specs.Schema.{Schema}
-use Rattle.olap_cube.specs.Tuples.{IsBottomTuple, TupleReachesVia}
-use Rattle.olap_cube.specs.CubeViews.{IsCubeFactTable, tuples}
-use Rattle.olap_cube.specs.CubeSummarizable.{BadChoicesHaveTwoSums, Chosen, HasTwoCubeSums, IsBadChoice, graphs_of, instances_of}
-use Rattle.olap_cube.proofs.CubeLemmas.{one_cube_facts_views}
 use Rattle.olap_cube.proofs.ChoiceLemmas.{chosen_bottom, chosen_legal, chosen_up, dec_tuple_via, lawful_from_legal}
+use Rattle.olap_cube.proofs.CubeLemmas.{one_cube_facts_views}
+use Rattle.olap_cube.specs.CubeSummarizable.{BadChoicesHaveTwoSums, Chosen, HasTwoCubeSums, IsBadChoice, graphs_of, instances_of}
+use Rattle.olap_cube.specs.{CubeViews.{IsCubeFactTable, tuples}, Tuples.{IsBottomTuple, TupleReachesVia}}
 
 -- ---- counting
 

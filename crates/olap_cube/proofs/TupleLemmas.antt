@@ -1,16 +1,12 @@
 -- Tuples of members: what is so of members is so of tuples, place by place.
 use Rattle.std.proofs.Common.{◌≡◌, ℕ, ◌↔◌, List, [], ◌∷◌, ◌++◌, map, true, refl, sym, ap, subst, ◌∙◌, inl, inr, arith}
+use Rattle.std.proofs.lemmas.{Bool.and_from, List.Elements.Contains-append_cases}
 use Rattle.std.specs.Prelude.{Contains, flat_map, IsTrue}
-use Rattle.std.proofs.lemmas.List.Elements.{Contains-append_cases}
-use Rattle.olap_base.specs.Graph.{Graph}
-use Rattle.olap_base.specs.Instance.{Instance}
-use Rattle.olap_base.specs.Reaching.{reaches, reaches_is}
-use Rattle.olap_base.specs.Views.{members_of}
-use Rattle.olap_base.specs.Deciding.{contains_cons, contains_cases}
 use Rattle.olap_base.proofs.ListLemmas.{Contains-nil, Contains-map, Contains-from_map, Distinct, Distinct-map, first_true, second_true, Contains-flat_map}
 use Rattle.olap_base.proofs.ViewLemmas.{members_of_is, is_member_of, Distinct-members_of, members_once, members_onward}
+use Rattle.olap_base.specs.{Deciding.{contains_cons, contains_cases}, Graph.Graph, Instance.Instance}
+use Rattle.olap_base.specs.{Reaching.{reaches, reaches_is}, Views.members_of}
 use Rattle.olap_cube.specs.Tuples.{TupleReaches, tuple_reaches, IsTupleOf, AreLawful, tuples_of}
-use Rattle.std.proofs.lemmas.Bool.{and_from}
 
 -- ---- reaching
 

@@ -1,40 +1,33 @@
 -- What the search answers of a cube.
 use Rattle.std.proofs.Common.{◌≡◌, ℕ, ◌+◌, ◌<◌, ◌↔◌, List, [], ◌∷◌, length, map, sym, subst, ◌∙◌, arith}
-use Rattle.std.specs.Prelude.{All, slice_index, slice_index_or}
-use Rattle.std.specs.Int.Bits.{bit_and}
-use Rattle.std.specs.List.{range_with_len}
+use Rattle.std.specs.{Int.Bits.bit_and, List.range_with_len, Prelude.{All, slice_index, slice_index_or}}
 use Rattle.olap_ast.specs.Schema.{Schema}
-use Rattle.olap_base.specs.Ranks.{IsNotAfter}
-use Rattle.olap_base.specs.Instance.{Instance}
-use Rattle.olap_base.specs.Views.{ExactlyOne}
+use Rattle.olap_base.specs.{Instance.Instance, Views.ExactlyOne}
 use Rattle.olap_bits.specs.declared.sets.CatSet.{CatSet}
+use Rattle.olap_cube.proofs.RankLemmas.{from_least}
 use Rattle.olap_cube.specs.CubeSummarizable.{Chosen, IsBadChoice, IsChosen, bottoms_of, instances_of}
 use Rattle.olap_cube.specs.Tuples.{AllZip3, IsTupleOf, TupleReachesVia}
-use Rattle.olap_cube.proofs.RankLemmas.{from_least}
-use Rattle.olap_cube_summ.specs.Found.{AreSized, IsCubeCounterexampleFound, chosen_of}
-use Rattle.olap_frozen.specs.declared.founding.Found.{Found}
-use Rattle.olap_cube_summ.specs.Families.{AreFirst, AreOf, AreUnions, patterns_of}
-use Rattle.olap_cube_summ.specs.Families as grouped
-use Rattle.olap_cube_summ.specs.Masks.{CanBeBad, all_of}
-use Rattle.olap_cube_summ.specs.declared.families.Family.{Family}
-use Rattle.olap_cube_summ.specs.Choices.{AreFamiliesOf, AreLeast, Dimension, IsDimension, dimensions_of, sets_of}
-use Rattle.olap_cube_summ.specs.Questions.{AreQuestions, AreQuestionsOf, sources_in, target_in}
-use Rattle.olap_cube_summ.specs.declared.questions.Question.{Question}
 use Rattle.olap_cube_summ.proofs.BelowLemmas.{one_at_places}
 use Rattle.olap_cube_summ.proofs.ChoiceLemmas.{Ends, IsLeftBy, bottoms_in, can_end, ends_of, least_bottoms, least_chosen, least_is_bad, least_of_all, least_sized, roots_of, row_in, schemas_in, targets_in}
 use Rattle.olap_cube_summ.proofs.DimensionLemmas.{are_dimensions, families_are, families_of, of_length, questions_are, schemas_are}
 use Rattle.olap_cube_summ.proofs.PatternLemmas.{has_all, same_itself}
+use Rattle.olap_cube_summ.specs.Choices.{AreFamiliesOf, AreLeast, Dimension, IsDimension, dimensions_of, sets_of}
+use Rattle.olap_cube_summ.specs.Families.{AreFirst, AreOf, AreUnions, patterns_of}
+use Rattle.olap_cube_summ.specs.{Found.{IsCubeCounterexampleFound, chosen_of}, Masks.{CanBeBad, all_of}}
+use Rattle.olap_cube_summ.specs.Questions.{AreQuestions, AreQuestionsOf, sources_in, target_in}
+use Rattle.olap_cube_summ.specs.declared.{families.Family.Family, questions.Question.Question}
+use Rattle.olap_frozen.specs.declared.founding.Found.{Found}
+use Rattle.olap_cube_summ.specs.Families as grouped
 
 -- families of some dimensions can be bad, then so can their unions
 pub by_unions : (n : ℕ) (ds : List (List Family)) (us : List (CatSet 4)) → AreUnions ds us → (xs : List Family)
     → AreOf ds xs → (m : ℕ) → CanBeBad n (patterns_of xs) m → CanBeBad n us m
 by_unions n [] [] u [] a m b = b
-by_unions n [] [] u (x ∷ xs) a m b = absurd a
 by_unions n [] (s ∷ us) u xs a m b = absurd u
 by_unions n (d ∷ ds) [] u xs a m b = absurd u
-by_unions n (d ∷ ds) (s ∷ us) u [] a m b = absurd a
 by_unions n (d ∷ ds) (s ∷ us) u (x ∷ xs) a m b =
     (b.0, (u.0 b.0).1 (x, a.0, b.1), by_unions n ds us u.1 xs a.1 (bit_and m b.0) b.2)
+by_unions n ds us u xs a m b = absurd a
 
 -- ---- sources by their places
 
@@ -95,13 +88,10 @@ module _ (ss : List Schema) (c : List ℕ) (sources : List (List ℕ)) (qs : Lis
         → (ys : List Chosen) → IsBadChoice schemas targets sources ys → bottoms_of ys ≡ bottoms_in ds
         → Ends n ds (all_of n) ys
     ends_by schemas targets e f ys b q =
-        let chosen = subst (λ w. AllZip3 IsChosen w (targets_in ds) ys) e
-        (subst (λ w. AllZip3 IsChosen schemas w ys) f b.chosen) in
-        let roots = subst (λ w. IsTupleOf (instances_of w ys) (bottoms_of ys) b.roots) e b.roots_are in
         let bad =
         subst (λ w. ExactlyOne (λ t. TupleReachesVia (instances_of w ys) b.roots t (targets_in ds)) sources → ⊥) e
         (subst (λ w. ExactlyOne (λ t. TupleReachesVia (instances_of schemas ys) b.roots t w) sources → ⊥) f b.bad) in
-        ends_of n ds dimensions ys chosen q b.roots roots (all_of n)
+        ends_of n ds dimensions ys (rw (e, f) at b.chosen) q b.roots (rw e at b.roots_are) (all_of n)
         (λ o. bad ((one_way ds sources same_rows (instances_of (schemas_in ds) ys) b.roots).1 o))
 
   -- a bad choice ends badly by the families of its bottom categories
@@ -115,8 +105,7 @@ module _ (ss : List Schema) (c : List ℕ) (sources : List (List ℕ)) (qs : Lis
         t.0,
         t.1,
         t.2,
-        subst (λ w. CanBeBad n w (all_of n)) (same_sets t.0 t.1)
-            (can_end n (dimensions_of ss qs t.0) (all_of n) ys e),
+        rw (same_sets t.0 t.1) at (can_end n (dimensions_of ss qs t.0) (all_of n) ys e),
       )
 
   -- where the sets of patterns can't be bad, no choice is
@@ -155,20 +144,18 @@ module _ (ss : List Schema) (c : List ℕ) (sources : List (List ℕ)) (qs : Lis
         roots = roots_of n (schemas_in dims) (targets_in dims) choice chosen
 
     pub is_bad : IsBadChoice ss c sources choice
-    is_bad = subst (λ w. IsBadChoice w c sources choice) (same_schemas first one)
-        (subst (λ w. IsBadChoice (schemas_in dims) w sources choice) (same_targets first one) there)
+    is_bad = rw (same_schemas first one, same_targets first one) at there
 
     pub is_counterexample : IsCubeCounterexampleFound ss c sources founds
     is_counterexample = record {
       is_one = from_least ss c sources choice (record {
         is_bad = is_bad;
         first = λ other b. let t = bad_families other b in
-            subst (λ w. IsNotAfter w (bottoms_of other)) (sym (bottoms_are ∙ same_bottoms first one))
-            (subst (IsNotAfter (grouped.bottoms_of first)) (sym t.2) (is_first.least t.0 t.1 t.3));
+            rw (bottoms_are ∙ same_bottoms first one, t.2) (is_first.least t.0 t.1 t.3);
         least = λ other b e. least_of_all n dims (dimensions first one) (all_of n) (all_of n) (same_itself n (all_of n))
             founds least other
             (ends_by first one ss c (sym (same_schemas first one)) (sym (same_targets first one)) other b
             (e ∙ bottoms_are));
       });
-      sized = subst (λ w. AreSized w founds) (same_schemas first one) (least_sized n dims (all_of n) founds least);
+      sized = rw (same_schemas first one) at (least_sized n dims (all_of n) founds least);
     }

@@ -1,16 +1,9 @@
 -- What is decided, counted and told of the numbers below a bound.
-use Rattle.std.proofs.Common.{◌≡◌, ℕ, zero, suc, ◌+◌, ◌<◌, ◌≤◌, ◌⊎◌, ◌↔◌, List, [], ◌∷◌, Bool, true, false, cond, length, refl, ap, sym, subst, ◌∙◌, inl, inr, arith}
-use Rattle.std.specs.Prelude.{Contains, slice_index_or}
-use Rattle.std.specs.List.{range_with_len}
-use Rattle.std.proofs.Math.Decide.{dec_le}
-use Rattle.olap_base.specs.Deciding.{contains_cases, dec_iff}
-use Rattle.olap_base.specs.Views.{ExactlyOne, NoneOf}
+use Rattle.std.proofs.Common.{◌≡◌, ℕ, zero, suc, ◌+◌, ◌<◌, ◌≤◌, ◌↔◌, List, [], ◌∷◌, Bool, true, false, cond, length, refl, ap, sym, subst, ◌∙◌, inl, inr, arith}
+use Rattle.std.{proofs.Math.Decide.dec_le, specs.List.range_with_len, specs.Prelude.{Contains, slice_index_or}}
+use Rattle.olap_base.specs.{Deciding.{contains_cases, dec_iff}, Views.{ExactlyOne, NoneOf}}
 
 -- ---- decisions
-
--- below k + 1 it is k, or below k
-pub below_suc : (j k : ℕ) → j < suc k → (j < k) ⊎ (j ≡ k)
-below_suc j k h = grind arith
 
 -- whether a number is less can be decided
 pub dec_less : (m n : ℕ) → Dec (m < n)
@@ -36,10 +29,8 @@ module _ {A : Type 0} (f g : A → Bool) (less : (x : A) → f x ≡ true → g 
     where
       go : (a b : Bool) → f x ≡ a → g x ≡ b → count f xs ≤ count g xs
           → count f (x ∷ xs) ≤ count g (x ∷ xs)
-      go true true d e h = rw (d, e) (omega arith)
       go true false d e h = absurd (let z : true ≡ false = sym (less x d) ∙ e in cc)
-      go false true d e h = rw (d, e) (omega arith)
-      go false false d e h = rw (d, e) (omega arith)
+      go a b d e h = rw (d, e) (omega arith)
 
   pub fewer : (xs : List A) (x : A) → Contains xs x → f x ≡ false → g x ≡ true → count f xs < count g xs
   fewer [] x c d e = absurd (omega (arith, c.1))
@@ -51,10 +42,8 @@ module _ {A : Type 0} (f g : A → Bool) (less : (x : A) → f x ≡ true → g 
     where
       more : (a b : Bool) → f y ≡ a → g y ≡ b → count f ys < count g ys
           → count f (y ∷ ys) < count g (y ∷ ys)
-      more true true p q h = rw (p, q) (omega arith)
       more true false p q h = absurd (let z : true ≡ false = sym (less y p) ∙ q in cc)
-      more false true p q h = rw (p, q) (omega arith)
-      more false false p q h = rw (p, q) (omega arith)
+      more a b p q h = rw (p, q) (omega arith)
 
 -- ---- exactly one
 

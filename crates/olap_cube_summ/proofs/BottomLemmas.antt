@@ -1,24 +1,16 @@
 -- The families of bottom categories, pattern by pattern and category by category.
 use Rattle.std.proofs.Common.{◌≡◌, ℕ, ◌+◌, ◌<◌, ◌≤◌, ◌++◌, List, [], ◌∷◌, Bool, true, false, ◌||◌, not, eqb, get_or, refl, ap, sym, subst, ◌∙◌, inl, inr, arith}
-use Rattle.std.specs.Prelude.{Contains}
-use Rattle.std.specs.FinSet as set
-use Rattle.std.specs.List.{range_with_len}
 use Rattle.std.proofs.lemmas.Bool.{eq-eqb, or_left}
 use Rattle.std.proofs.lemmas.List.Elements.{All-contains_itself, Contains-append_left, Contains-push, Contains-push_cases}
-use Rattle.std.proofs.lemmas.List.Quantifiers.{all_pairs_push}
+use Rattle.std.{proofs.lemmas.List.Quantifiers.all_pairs_push, specs.List.range_with_len, specs.Prelude.Contains}
 use Rattle.olap_ast.specs.Schema.{Schema}
+use Rattle.olap_base.proofs.{GeneralLemmas.below_or_same, ListLemmas.Contains-range}
 use Rattle.olap_base.specs.Graph.{IsBottom, category_count}
-use Rattle.olap_base.proofs.ListLemmas.{Contains-range}
-use Rattle.olap_bits.specs.Sets.{members}
-use Rattle.olap_bits.specs.declared.sets.CatSet.{CatSet}
-use Rattle.olap_bits.proofs.CatSetLemmas.{in_insert}
-use Rattle.olap_cube_summ.specs.Families.{IsOrdered}
-use Rattle.olap_cube_summ.specs.Masks.{IsIn}
-use Rattle.olap_cube_summ.specs.declared.families.Family.{Family}
-use Rattle.olap_cube_summ.proofs.MaskLemmas.{in_with}
-use Rattle.olap_cube_summ.specs.Patterns.{AreFamilies, IsFamily}
+use Rattle.olap_bits.{proofs.CatSetLemmas.in_insert, specs.Sets.members, specs.declared.sets.CatSet.CatSet}
+use Rattle.olap_cube_summ.{proofs.BelowLemmas.{count, fewer}, proofs.MaskLemmas.in_with, specs.Families.IsOrdered}
+use Rattle.olap_cube_summ.specs.{Masks.IsIn, Patterns.{AreFamilies, IsFamily}, declared.families.Family.Family}
 use Rattle.olap_cube_summ.specs.declared.questions.Question.{Question}
-use Rattle.olap_cube_summ.proofs.BelowLemmas.{below_suc, count, fewer}
+use Rattle.std.specs.FinSet as set
 
 -- ---- patterns
 
@@ -68,7 +60,7 @@ module _ (s : Schema) (q : Question) where
       each = before.each;
       ordered = before.ordered;
       below = λ f c. let l = before.below f c in omega arith;
-      all = λ b l bottom. elim (below_suc b n (omega arith)) [
+      all = λ b l bottom. elim (below_or_same b n (omega arith)) [
         | inl m ↦ before.all b m bottom
         | inr e ↦ absurd (none (subst (IsBottom s.graph) e bottom))
       ];
@@ -88,7 +80,7 @@ module _ (s : Schema) (q : Question) where
         | inl o ↦ let l = before.below g o in omega arith
         | inr r ↦ let z = ap (λ (w : Family). w.bottom.0) r in omega arith
       ];
-      all = λ b l bottom. elim (below_suc b n (omega arith)) [
+      all = λ b l bottom. elim (below_or_same b n (omega arith)) [
         | inl m ↦ let t = before.all b m bottom in (t.0, Contains-append_left families (f ∷ []) t.0 t.1, t.2)
         | inr r ↦ (f, Contains-push families f, e ∙ sym r)
       ];

@@ -1,19 +1,13 @@
 -- The families of the first bottom categories, dimension by dimension.
-use Rattle.std.proofs.Common.{◌≡◌, ℕ, zero, suc, ◌+◌, ◌-◌, ◌<◌, ◌≤◌, ◌⊎◌, ◌↔◌, ◌++◌, List, [], ◌∷◌, length, get_or, take, drop, drop-cons, refl, ap, sym, subst, ◌∙◌, inl, inr, arith}
-use Rattle.std.specs.Prelude.{All, Contains}
-use Rattle.std.proofs.lemmas.List.Elements.{All-head, All-tail}
-use Rattle.std.specs.Int.Bits.{bit_and}
-use Rattle.std.proofs.lemmas.List.{length-drop}
-use Rattle.std.proofs.Math.Seq.{take-length}
-use Rattle.olap_base.proofs.ListLemmas.{get_or_inside}
-use Rattle.olap_base.specs.Ranks.{IsNotAfter}
+use Rattle.std.proofs.Common.{◌≡◌, ℕ, zero, suc, ◌+◌, ◌<◌, ◌≤◌, ◌⊎◌, ◌↔◌, ◌++◌, List, [], ◌∷◌, length, get_or, take, drop, refl, ap, sym, subst, ◌∙◌, append_assoc, append-nil, inl, inr, arith}
+use Rattle.std.proofs.lemmas.List.{drop-drop, drop_all, drop_more, Elements.{All-head, All-tail}}
+use Rattle.std.specs.{Int.Bits.bit_and, Prelude.{All, Contains}}
+use Rattle.olap_base.{proofs.GeneralLemmas.below_or_same, proofs.ListLemmas.get_or_inside, specs.Ranks.IsNotAfter}
 use Rattle.olap_bits.specs.declared.sets.CatSet.{CatSet}
-use Rattle.olap_cube_summ.specs.Masks.{CanBeBad, IsIn, all_of}
-use Rattle.olap_cube_summ.specs.Families.{AreFirst, AreOf, AreUnions, IsOrdered, IsUnion, bottoms_of, patterns_of}
-use Rattle.olap_cube_summ.specs.declared.families.Family.{Family}
-use Rattle.olap_cube_summ.proofs.LeastLemmas.{CanEnd, Ends, Greedy, NotAfter, greedy_ends, greedy_least}
 use Rattle.olap_cube_summ.proofs.AnswerLemmas.{by_unions}
-use Rattle.olap_base.proofs.GeneralLemmas.{below_or_same}
+use Rattle.olap_cube_summ.proofs.LeastLemmas.{CanEnd, Ends, Greedy, NotAfter, greedy_ends, greedy_least}
+use Rattle.olap_cube_summ.specs.Families.{AreFirst, AreOf, AreUnions, IsOrdered, IsUnion, bottoms_of, patterns_of}
+use Rattle.olap_cube_summ.specs.{Masks.{CanBeBad, IsIn, all_of}, declared.families.Family.Family}
 
 -- ---- sets in the place of others
 
@@ -80,30 +74,20 @@ module _ (n : ℕ) where
   abbrev pub GreedyOf : List (List Family) → List (CatSet 4) → List Family → Type 0
   GreedyOf ds m xs = Greedy In bottom after left IsBadBy ds m xs
 
-  next_is : {A : Type 0} (m : List A) (p : A) (rest : List A) → (m ++ p ∷ []) ++ rest ≡ m ++ p ∷ rest
-  next_is [] p rest = refl
-  next_is (x ∷ m) p rest = ap (λ w. x ∷ w) (next_is m p rest)
-
-  nothing_is : {A : Type 0} (m : List A) → m ++ [] ≡ m
-  nothing_is [] = refl
-  nothing_is (x ∷ m) = ap (λ w. x ∷ w) (nothing_is m)
-
   ends_of : (ds : List (List Family)) → All IsOrdered ds → (m : List (CatSet 4)) (xs : List Family) → AreOf ds xs
       → IsBadBy (m ++ patterns_of xs) → Ends In bottom after left IsBadBy ds m xs
-  ends_of [] o m [] a b = subst IsBadBy (nothing_is m) b
-  ends_of [] o m (x ∷ xs) a b = absurd a
-  ends_of (d ∷ ds) o m [] a b = absurd a
-  ends_of (d ∷ ds) o m (x ∷ xs) a b =
-      let rest = subst IsBadBy (sym (next_is m x.patterns (patterns_of xs))) b in
-      ((All-head IsOrdered d ds o, a.0), ends_of ds (All-tail IsOrdered d ds o) (left m x) xs a.1 rest)
+  ends_of [] o m [] a b = rw append-nil at b
+  ends_of (d ∷ ds) o m (x ∷ xs) a b = (
+    (All-head IsOrdered d ds o, a.0),
+    ends_of ds (All-tail IsOrdered d ds o) (left m x) xs a.1 (rw append_assoc b),
+  )
+  ends_of ds o m xs a b = absurd a
 
   of_ends : (ds : List (List Family)) (m : List (CatSet 4)) (xs : List Family)
       → Ends In bottom after left IsBadBy ds m xs → AreOf ds xs × IsBadBy (m ++ patterns_of xs)
-  of_ends [] m [] e = (tt, subst IsBadBy (sym (nothing_is m)) e)
-  of_ends [] m (x ∷ xs) e = absurd e
-  of_ends (d ∷ ds) m [] e = absurd e
-  of_ends (d ∷ ds) m (x ∷ xs) e = let t = of_ends ds (left m x) xs e.1 in
-      ((e.0.1, t.0), subst IsBadBy (next_is m x.patterns (patterns_of xs)) t.1)
+  of_ends [] m [] e = (tt, rw append-nil e)
+  of_ends (d ∷ ds) m (x ∷ xs) e = let t = of_ends ds (left m x) xs e.1 in ((e.0.1, t.0), rw append_assoc at t.1)
+  of_ends ds m xs e = absurd e
 
   not_after : (xs ys : List Family) → NotAfter In bottom after left IsBadBy xs ys
       → IsNotAfter (bottoms_of xs) (bottoms_of ys)
@@ -124,16 +108,13 @@ module _ (n : ℕ) where
       → (xs : List Family) → GreedyOf (drop (i + 1) all) (done ++ x.patterns ∷ []) xs
       → GreedyOf all [] ((first ++ x ∷ []) ++ xs)
   greedy_next all i done first d us x l e o u c least h xs g =
-      let q : drop i all ≡ d ∷ drop (i + 1) all =
-      drop-cons all i d l ∙ (λ j. e j ∷ (let z : suc i ≡ i + 1 = omega arith in ap (λ w. drop w all) z) j) in
-      subst (GreedyOf all []) (sym (next_is first x xs))
-      (h (x ∷ xs) (subst (λ ds. GreedyOf ds done (x ∷ xs)) (sym q) ((o, c), before, g)))
+      rw (append_assoc first (x ∷ []) xs) (h (x ∷ xs) (rw (rw e at (drop_more all i d l)) ((o, c), before, g)))
     where
       before : (y : Family) → In d y → CanEnd In bottom after left IsBadBy (drop (i + 1) all) (left done y)
           → after (bottom x) (bottom y) → ⊥
       before y k end a =
           let t = of_ends (drop (i + 1) all) (left done y) end.0 end.1 in
-          let b = subst IsBadBy (next_is done y.patterns (patterns_of end.0)) t.1 in
+          let b = rw append_assoc at t.1 in
           let m = least y k.1 (under n done (y.patterns ∷ patterns_of end.0) (y.patterns ∷ us)
           (λ m v. (v.0, v.1, by_unions n (drop (i + 1) all) us u end.0 t.0 (bit_and m v.0) v.2)) (all_of n) b) in
           omega arith
@@ -143,10 +124,8 @@ module _ (n : ℕ) where
       (first : List Family) → length all ≤ i → AreUnions (drop i all) us → CanBeBad n (done ++ us) (all_of n)
       → ((xs : List Family) → GreedyOf (drop i all) done xs → GreedyOf all [] (first ++ xs)) → AreFirst n all first
   are_first all o i done us first l u b h =
-      let none = nothing_left all i l in
-      let over = no_sets us (subst (λ ds. AreUnions ds us) none u) in
-      let bad = subst IsBadBy (ap (λ w. done ++ w) over ∙ nothing_is done) b in
-      let g = subst (GreedyOf all []) (nothing_is first) (h [] (subst (λ ds. GreedyOf ds done []) (sym none) bad)) in
+      let none = drop_all i all l in
+      let g = rw (append-nil first) at (h [] (rw none (rw (no_sets us (rw none at u), append-nil) at b))) in
       let e = of_ends all [] first (greedy_ends In bottom after left IsBadBy all [] first g) in record {
         are_of = e.0;
         are_bad = e.1;
@@ -154,12 +133,6 @@ module _ (n : ℕ) where
             ap (left m) (same_by_bottom d x y i.0 i.1 j.1 k)) order all [] first other g (ends_of all o [] other a c));
       }
     where
-      nothing_left : (xs : List (List Family)) (k : ℕ) → length xs ≤ k → drop k xs ≡ []
-      nothing_left [] zero l = refl
-      nothing_left [] (suc k) l = refl
-      nothing_left (x ∷ xs) zero l = let z : suc (length xs) ≤ zero = l in absurd (omega arith)
-      nothing_left (x ∷ xs) (suc k) l = nothing_left xs k (let z : suc (length xs) ≤ suc k = l in omega arith)
-
       no_sets : (us : List (CatSet 4)) → AreUnions [] us → us ≡ []
       no_sets [] u = refl
       no_sets (s ∷ us) u = absurd u
@@ -184,8 +157,7 @@ first_by_order P families k x ordered l e none f c p = go (which c.0 k)
     go (inr (inl a)) = let q : x ≡ f = sym at_k ∙ ap (λ w. get_or families w f) (sym a) ∙ c.2 in
         let r = ap (λ (w : Family). w.bottom.0) q in omega arith
     go (inr (inr a)) = let o = ordered k c.0 f a c.1 in
-        let r = subst (λ (w : Family). w.bottom.0 < (get_or families c.0 f).bottom.0) at_k o in
-        let s = subst (λ (w : Family). x.bottom.0 < w.bottom.0) c.2 r in omega arith
+        let r = rw (at_k, c.2) at o in omega arith
 
 -- one family more joins the patterns so far
 pub union_next : (families : List Family) (k : ℕ) (all next : CatSet 4) (x : Family) → k < length families
@@ -209,19 +181,11 @@ pub unions_next : (ds : List (List Family)) (k : ℕ) (ss : List (CatSet 4)) (d 
     → AreUnions (take (suc k) ds) (ss ++ s ∷ [])
 unions_next [] k ss d s l e u i = absurd (omega arith)
 unions_next (x ∷ ds) zero [] d s l e u i = (subst (λ w. IsUnion w s) (sym e) i, tt)
-unions_next (x ∷ ds) zero (t ∷ ss) d s l e u i = absurd u
-unions_next (x ∷ ds) (suc k) [] d s l e u i = absurd u
 unions_next (x ∷ ds) (suc k) (t ∷ ss) d s l e u i =
     (u.0, unions_next ds k ss d s (let z : suc k < suc (length ds) = l in omega arith) e u.1 i)
+unions_next ds k ss d s l e u i = absurd u
 
 -- ---- what is left of the sets
-
--- what is left after one item more
-drop_next : {A : Type 0} (xs : List A) (i : ℕ) (y : A) (ys : List A) → drop i xs ≡ y ∷ ys → drop (suc i) xs ≡ ys
-drop_next [] zero y ys e = absurd (cc)
-drop_next [] (suc i) y ys e = absurd (cc)
-drop_next (x ∷ xs) zero y ys e = cc
-drop_next (x ∷ xs) (suc i) y ys e = drop_next xs i y ys e
 
 -- the sets from the i-th on
 pub record SetsFrom (all : List (List Family)) (sets : List (CatSet 4)) (i : ℕ) (d : List Family) : Type 0 where
@@ -233,25 +197,13 @@ pub record SetsFrom (all : List (List Family)) (sets : List (CatSet 4)) (i : ℕ
 -- the sets from a dimension on: the union of its families, and the others
 pub sets_from : (all : List (List Family)) (sets : List (CatSet 4)) (i : ℕ) (d : List Family) → i < length all
     → get_or all i d ≡ d → AreUnions (drop i all) (drop i sets) → SetsFrom all sets i d
-sets_from all sets i d l e u = go (drop i sets) refl
-    (subst (λ ds. AreUnions ds (drop i sets))
-    (drop-cons all i d l ∙ (λ j. e j ∷ (let z : suc i ≡ i + 1 = omega arith in ap (λ w. drop w all) z) j)) u)
+sets_from all sets i d l e u = let q = rw e at (drop_more all i d l) in go (drop i sets) refl (rw q at u)
   where
     go : (us : List (CatSet 4)) → drop i sets ≡ us → AreUnions (d ∷ drop (i + 1) all) us → SetsFrom all sets i d
     go [] q v = absurd v
     go (s ∷ ss) q v =
-        let r : drop (i + 1) sets ≡ ss = (let z : i + 1 ≡ suc i = omega arith in ap (λ w. drop w sets) z)
-        ∙ drop_next sets i s ss q in
-        record {
-          set = s;
-          is = q ∙ (λ j. s ∷ sym r j);
-          union = v.0;
-          rest = subst (AreUnions (drop (i + 1) all)) (sym r) v.1;
-        }
-
--- all of what is left
-pub take_left : {A : Type 0} (xs : List A) (k : ℕ) → take (length xs - k) (drop k xs) ≡ drop k xs
-take_left xs k = ap (λ w. take w (drop k xs)) (sym (length-drop k xs)) ∙ take-length (drop k xs)
+        let r : ss ≡ drop (i + 1) sets = rw q at (drop-drop 1 i sets) in
+        record { set = s; is = rw r at q; union = v.0; rest = rw r at v.1 }
 
 -- where the sets can be bad, some family of this dimension keeps them so
 pub some_family : (n : ℕ) (all : List (List Family)) (sets : List (CatSet 4)) (i : ℕ) (d items : List Family)
@@ -261,24 +213,10 @@ pub some_family : (n : ℕ) (all : List (List Family)) (sets : List (CatSet 4)) 
     → (f : Family) × Contains items f × CanBeBad n (from ++ f.patterns ∷ to) (all_of n)
 some_family n all sets i d items done from to l e q u a b c =
     let s = sets_from all sets i d l e u in
-    let t = one_of_union n d s.set s.union done (drop (i + 1) sets) (all_of n)
-    (subst (λ w. CanBeBad n (done ++ w) (all_of n)) s.is c) in (
-      t.0,
-      subst (λ w. Contains w t.0) (sym q) t.1,
-      subst (λ w. CanBeBad n (w ++ t.0.patterns ∷ to) (all_of n)) (sym a)
-          (subst (λ w. CanBeBad n (done ++ t.0.patterns ∷ w) (all_of n)) (sym b) t.2),
-    )
-
--- the same sets
-pub by_same : (n : ℕ) (from done to rest : List (CatSet 4)) → from ≡ done → to ≡ rest → (p : CatSet 4) (m : ℕ)
-    → CanBeBad n (done ++ p ∷ rest) m → CanBeBad n (from ++ p ∷ to) m
-by_same n from done to rest a b p m h = subst (λ w. CanBeBad n (w ++ p ∷ to) m) (sym a)
-    (subst (λ w. CanBeBad n (done ++ p ∷ w) m) (sym b) h)
+    let t = one_of_union n d s.set s.union done (drop (i + 1) sets) (all_of n) (rw s.is at c) in
+    (t.0, rw q t.1, rw (a, b) t.2)
 
 -- one set more is done
 pub by_one_more : (n : ℕ) (from done to rest next : List (CatSet 4)) → from ≡ done → to ≡ rest → (p : CatSet 4)
     → next ≡ done ++ p ∷ [] → (m : ℕ) → CanBeBad n (from ++ p ∷ to) m → CanBeBad n (next ++ rest) m
-by_one_more n from done to rest next a b p e m h =
-    subst (λ w. CanBeBad n (w ++ rest) m) (sym e)
-    (subst (λ w. CanBeBad n w m) (sym (next_is n done p rest))
-    (by_same n done from rest to (sym a) (sym b) p m h))
+by_one_more n from done to rest next a b p e m h = rw (e, append_assoc done (p ∷ []) rest) (rw (a, b) at h)

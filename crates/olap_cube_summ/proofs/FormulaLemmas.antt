@@ -1,15 +1,12 @@
 -- What formulas about ways say.
-use Rattle.std.proofs.Common.{◌≡◌, ◌≢◌, ℕ, ◌+◌, ◌<◌, ◌↔◌, ◌⊎◌, ◌++◌, List, [], Bool, true, false, eqb, length, refl, ap, sym, subst, ◌∙◌, inl, inr, arith}
-use Rattle.std.specs.Prelude.{slice_index}
-use Rattle.std.specs.Int.{bit_at}
-use Rattle.std.proofs.lemmas.Bool.{cases_eq, eq-eqb, ne_eqb}
-use Rattle.olap_ast.specs.Formula.{Formula, Formula.Truth, Formula.Falsity, Formula.Not, Formula.And, Formula.Or, Formula.Reach}
-use Rattle.olap_base.specs.Instance.{Instance, ReachesVia}
+use Rattle.std.proofs.Common.{◌≡◌, ◌≢◌, ℕ, ◌+◌, ◌<◌, ◌⊎◌, ◌++◌, List, [], Bool, true, false, eqb, length, refl, ap, sym, subst, ◌∙◌, inl, inr, arith}
+use Rattle.std.{proofs.lemmas.Bool.{cases_eq, eq-eqb, ne_eqb}, specs.Int.bit_at, specs.Prelude.slice_index}
 use Rattle.olap_ast.specs.Atoms.{comparisons, equalities}
+use Rattle.olap_ast.specs.Formula.{Formula, Formula.Truth, Formula.Falsity, Formula.Not, Formula.And, Formula.Or, Formula.Reach}
+use Rattle.olap_base.{proofs.GeneralLemmas.below_or_same, specs.Instance.Instance}
 use Rattle.olap_bits.specs.declared.sets.CatSet.{CatSet}
 use Rattle.olap_cube_summ.specs.Masks.{Has, IsIn}
 use Rattle.olap_cube_summ.specs.Ways.{HasWays, HasWaysIn, HasWaysTo, IsAboutWays, IsInside, IsOutside, way_of}
-use Rattle.olap_base.proofs.GeneralLemmas.{below_or_same}
 
 -- two empty lists together are empty
 nothing_joined : {A : Type 0} (xs ys : List A) → xs ≡ [] → ys ≡ [] → xs ++ ys ≡ []
@@ -36,8 +33,7 @@ module _ (c : ℕ) (column : List ℕ) where
     means = λ i x. (
       λ h j m. elim (below_or_same j k m) [
         | inl n ↦ (a.means i x).0 h.0 j n
-        | inr q ↦ subst (λ w. Has p w ↔ ReachesVia i x (slice_index column w) c) (sym q)
-            (λ y. h.1, λ y. is_one (cases_eq (bit_at p k) 1))
+        | inr q ↦ rw q (λ y. h.1, λ y. is_one (cases_eq (bit_at p k) 1))
       ],
       λ h. ((a.means i x).1 (λ j m. h j (omega arith)), (h k (omega arith)).0 (is_one (cases_eq (bit_at p k) 1))),
     );
@@ -53,8 +49,7 @@ module _ (c : ℕ) (column : List ℕ) where
     means = λ i x. (
       λ h j m. elim (below_or_same j k m) [
         | inl n ↦ (a.means i x).0 h.0 j n
-        | inr q ↦ subst (λ w. Has p w ↔ ReachesVia i x (slice_index column w) c) (sym q)
-            (λ y. absurd (not_one y), λ y. absurd (h.1 y))
+        | inr q ↦ rw q (λ y. absurd (not_one y), λ y. absurd (h.1 y))
       ],
       λ h. ((a.means i x).1 (λ j m. h j (omega arith)), λ y. not_one ((h k (omega arith)).1 y)),
     );
@@ -68,8 +63,7 @@ module _ (c : ℕ) (column : List ℕ) where
       → IsAboutWays c column (λ i x. HasWaysTo n i x c column p) (And f way)
   way_added p k n next l f way s e w a =
       subst (λ m. IsAboutWays c column (λ i x. HasWaysTo m i x c column p) (And f way)) next
-      (subst (λ q. IsAboutWays c column (λ i x. HasWaysTo (k + 1) i x c column p) (And f q))
-      (ap (λ v. way_of c v (eqb (bit_at p k) 1)) (sym e) ∙ sym w) (next_way p k l f (eqb (bit_at p k) 1) refl a))
+      (rw (ap (λ v. way_of c v (eqb (bit_at p k) 1)) (sym e) ∙ sym w) at (next_way p k l f (eqb (bit_at p k) 1) refl a))
 
   pub all_sources : (p k : ℕ) → k ≡ length column → (f : Formula)
       → IsAboutWays c column (λ i x. HasWaysTo k i x c column p) f

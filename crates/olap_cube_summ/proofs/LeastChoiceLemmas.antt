@@ -1,21 +1,16 @@
 -- The least choice, dimension by dimension.
-use Rattle.std.proofs.Common.{◌≡◌, ℕ, zero, suc, ◌+◌, ◌-◌, ◌<◌, ◌≤◌, ◌↔◌, ◌++◌, List, [], ◌∷◌, length, drop, take, get_or, refl, ap, sym, subst, ◌∙◌, arith}
-use Rattle.std.specs.Prelude.{All}
-use Rattle.std.specs.Int.Bits.{bit_and}
-use Rattle.std.proofs.lemmas.List.{append-nil}
+use Rattle.std.proofs.Common.{◌≡◌, ℕ, ◌+◌, ◌-◌, ◌<◌, ◌≤◌, ◌↔◌, ◌++◌, List, [], ◌∷◌, length, drop, take, get_or, refl, ap, sym, subst, ◌∙◌, append_assoc, arith}
+use Rattle.std.proofs.lemmas.List.{append-nil, drop-map, drop_all, take_rest, Elements.{All-drop, All-head}}
+use Rattle.std.specs.{Int.Bits.bit_and, Prelude.{All, slice_index_or}}
 use Rattle.olap_ast.specs.Schema.{Schema}
 use Rattle.olap_bits.specs.declared.sets.CatSet.{CatSet}
-use Rattle.olap_cube_summ.specs.Found.{chosen_of}
-use Rattle.olap_frozen.specs.declared.founding.Found.{Found}
-use Rattle.olap_cube_summ.specs.Families.{patterns_of}
-use Rattle.olap_cube_summ.specs.Masks.{CanBeBad, IsIn, all_of}
-use Rattle.olap_cube_summ.specs.declared.families.Family.{Family}
-use Rattle.olap_cube_summ.proofs.FamilyLemmas.{take_left}
-use Rattle.olap_cube_summ.specs.Choices.{AreLeast, Dimension, IsDimension, IsLeastBefore, dimensions_of, sets_of}
-use Rattle.olap_cube_summ.specs.Patterns.{HasPattern, IsLeastKnown}
-use Rattle.olap_cube_summ.specs.declared.questions.Question.{Question}
-use Rattle.olap_cube_summ.proofs.DimensionLemmas.{families_are}
+use Rattle.olap_cube_summ.proofs.DimensionLemmas.{dimension_taken, families_are}
 use Rattle.olap_cube_summ.proofs.PatternLemmas.{bad_too, same_itself, same_met, same_patterns}
+use Rattle.olap_cube_summ.specs.Choices.{AreLeast, Dimension, IsDimension, IsLeastBefore, dimensions_of, sets_of}
+use Rattle.olap_cube_summ.specs.{Dimensions.no_schema, Families.patterns_of, Found.chosen_of}
+use Rattle.olap_cube_summ.specs.{Masks.{CanBeBad, IsIn, all_of}, Patterns.{HasPattern, IsLeastKnown}}
+use Rattle.olap_cube_summ.specs.declared.{families.Family.Family, questions.Question.Question}
+use Rattle.olap_frozen.specs.declared.founding.Found.{Found}
 
 module _ (n : ℕ) (d : Dimension) (is : IsDimension n d) (rest : List (CatSet 4)) (mask : ℕ) (possible : CatSet 4)
     (means : (p : ℕ) → IsIn possible p ↔ (IsIn d.family.patterns p × CanBeBad n rest (bit_and mask p))) where
@@ -36,96 +31,71 @@ module _ (n : ℕ) (d : Dimension) (is : IsDimension n d) (rest : List (CatSet 4
     least = λ h a e p i t b. l.least h a e (p, (means p).1 (i, b), t);
   }
 
--- one dimension more
-pub least_next : (n : ℕ) (all : List Dimension) (i mask left : ℕ) (founds next : List Found) (d : Dimension)
-    (found : Found) (sets : List (CatSet 4)) → drop i all ≡ d ∷ drop (i + 1) all → sets ≡ sets_of (drop (i + 1) all)
-    → IsLeastBefore n d sets mask found left → next ≡ founds ++ found ∷ []
-    → ((xs : List Found) → AreLeast n (drop i all) mask xs → AreLeast n all (all_of n) (founds ++ xs))
-    → (xs : List Found) → AreLeast n (drop (i + 1) all) left xs → AreLeast n all (all_of n) (next ++ xs)
-least_next n all i mask left founds next d found sets e s l made h xs a =
-    subst (AreLeast n all (all_of n)) (sym (ap (λ w. w ++ xs) made ∙ joined founds))
-    (h (found ∷ xs) (subst (λ w. AreLeast n w mask (found ∷ xs)) (sym e)
-    (left, subst (λ w. IsLeastBefore n d w mask found left) s l, a)))
-  where
-    joined : (fs : List Found) → (fs ++ found ∷ []) ++ xs ≡ fs ++ found ∷ xs
-    joined [] = refl
-    joined (f ∷ fs) = ap (λ w. f ∷ w) (joined fs)
+module _ (n : ℕ) (ss : List Schema) (qs : List Question) (fs : List Family) (many : length qs ≡ length ss)
+    (each : length fs ≡ length ss) where
+  -- at first the mask can be bad
+  pub first_bad : (mask : ℕ) → mask ≡ all_of n → CanBeBad n (patterns_of fs) (all_of n)
+      → CanBeBad n (sets_of (dimensions_of ss qs fs)) mask
+  first_bad mask e bad = rw (e, families_are (λ (f : Family). f.patterns) ss qs fs many each) bad
 
--- what is left to be bad
-pub bad_next : (n : ℕ) (all : List Dimension) (i : ℕ) (d : Dimension) (sets : List (CatSet 4)) (mask left : ℕ)
-    (found : Found) → sets ≡ sets_of (drop (i + 1) all) → IsLeastBefore n d sets mask found left
-    → CanBeBad n (sets_of (drop (i + 1) all)) left
-bad_next n all i d sets mask left found s l = subst (λ w. CanBeBad n w left) s l.bad
+  -- where no dimension is left
+  pub all_least : (i mask : ℕ) (founds : List Found) → length ss ≤ i
+      → CanBeBad n (sets_of (drop i (dimensions_of ss qs fs))) mask
+      → ((xs : List Found) → AreLeast n (drop i (dimensions_of ss qs fs)) mask xs
+      → AreLeast n (dimensions_of ss qs fs) (all_of n) (founds ++ xs))
+      → AreLeast n (dimensions_of ss qs fs) (all_of n) founds
+  all_least i mask founds l bad h =
+      let none = drop_all i (dimensions_of ss qs fs) (let few = are_few ss qs fs in omega arith) in
+      rw append-nil at (h [] (rw none (rw none at bad)))
+    where
+      are_few : (ss : List Schema) (qs : List Question) (fs : List Family)
+          → length (dimensions_of ss qs fs) ≤ length ss
+      are_few (s ∷ ss) (q ∷ qs) (f ∷ fs) = let l = are_few ss qs fs in omega arith
+      are_few ss qs fs = omega arith
 
--- before it
-pub bad_here : (n : ℕ) (all : List Dimension) (i : ℕ) (d : Dimension) (sets : List (CatSet 4)) (mask : ℕ)
-    → drop i all ≡ d ∷ drop (i + 1) all → sets ≡ sets_of (drop (i + 1) all)
-    → CanBeBad n (sets_of (drop i all)) mask → CanBeBad n (d.family.patterns ∷ sets) mask
-bad_here n all i d sets mask e s b = subst (λ w. CanBeBad n (d.family.patterns ∷ w) mask) (sym s)
-    (subst (λ w. CanBeBad n (sets_of w) mask) e b)
+  module _ (are : All (IsDimension n) (dimensions_of ss qs fs)) (i : ℕ) (s : Schema) (q : Question) (f : Family)
+      (inside : i < length ss) (schema_is : s ≡ slice_index_or ss i no_schema) (question_is : q ≡ get_or qs i q)
+      (family_is : f ≡ get_or fs i f) where
+    -- the dimension at a place comes before the rest
+    taken : drop i (dimensions_of ss qs fs)
+        ≡ record { schema = s; question = q; family = f } ∷ drop (i + 1) (dimensions_of ss qs fs)
+    taken = dimension_taken ss qs fs i s q f many each inside schema_is question_is family_is
 
--- ---- the loop's ends
+    -- it is one
+    is_one : IsDimension n (record { schema = s; question = q; family = f })
+    is_one = All-head (IsDimension n) _ (drop (i + 1) (dimensions_of ss qs fs))
+        (rw taken at (All-drop (IsDimension n) i (dimensions_of ss qs fs) are))
 
--- at first the mask can be bad
-pub first_bad : (n : ℕ) (ss : List Schema) (qs : List Question) (fs : List Family) (mask : ℕ) → length qs ≡ length ss
-    → length fs ≡ length ss → mask ≡ all_of n → CanBeBad n (patterns_of fs) (all_of n)
-    → CanBeBad n (sets_of (dimensions_of ss qs fs)) mask
-first_bad n ss qs fs mask a b e bad = subst (CanBeBad n (sets_of (dimensions_of ss qs fs))) (sym e)
-    (subst (λ w. CanBeBad n w (all_of n)) (sym (families_are (λ (f : Family). f.patterns) ss qs fs a b)) bad)
+    -- with as many sources as its own question
+    pub is_dimension : IsDimension (length q.sources) (record { schema = s; question = q; family = f })
+    is_dimension = record { question = is_one.question; count = refl; family = is_one.family }
 
--- the sets that are left are those of the dimensions
-pub sets_left : (ss : List Schema) (qs : List Question) (fs : List Family) (sets : List (CatSet 4)) (i : ℕ)
-    → length qs ≡ length ss → length fs ≡ length ss → sets ≡ patterns_of fs
-    → take (length sets - i) (drop i sets) ≡ sets_of (drop i (dimensions_of ss qs fs))
-sets_left ss qs fs sets i a b e = take_left sets i
-    ∙ ap (drop i) (e ∙ sym (families_are (λ (f : Family). f.patterns) ss qs fs a b))
-    ∙ dropped (dimensions_of ss qs fs) i
-  where
-    dropped : (ds : List Dimension) (i : ℕ) → drop i (sets_of ds) ≡ sets_of (drop i ds)
-    dropped [] zero = refl
-    dropped [] (suc i) = refl
-    dropped (d ∷ ds) zero = refl
-    dropped (d ∷ ds) (suc i) = dropped ds i
+    module _ (sets : List (CatSet 4)) (sets_are : sets ≡ patterns_of fs) (mask : ℕ) where
+      -- the sets that are left are those of the dimensions
+      left_are : take (length sets - (i + 1)) (drop (i + 1) sets) ≡ sets_of (drop (i + 1) (dimensions_of ss qs fs))
+      left_are = take_rest sets (i + 1)
+          ∙ ap (drop (i + 1)) (sets_are ∙ sym (families_are (λ (f : Family). f.patterns) ss qs fs many each))
+          ∙ drop-map (λ (d : Dimension). d.family.patterns) (i + 1) (dimensions_of ss qs fs)
 
--- what all dimensions keep, the one at a place does
-pub dimension_at : (n : ℕ) (all : List Dimension) (i : ℕ) (d : Dimension) → drop i all ≡ d ∷ drop (i + 1) all
-    → All (IsDimension n) all → IsDimension n d
-dimension_at n all i d e h = subst (IsDimension n) (at all i e) (h i d (inside all i e))
-  where
-    at : (xs : List Dimension) (i : ℕ) {ys : List Dimension} → drop i xs ≡ d ∷ ys → get_or xs i d ≡ d
-    at [] zero e = refl
-    at [] (suc i) e = refl
-    at (x ∷ xs) zero e = cc
-    at (x ∷ xs) (suc i) e = at xs i e
+      -- it can be bad before them
+      pub bad_here : CanBeBad n (sets_of (drop i (dimensions_of ss qs fs))) mask
+          → CanBeBad (length q.sources) (f.patterns ∷ take (length sets - (i + 1)) (drop (i + 1) sets)) mask
+      bad_here bad =
+          let rest = take (length sets - (i + 1)) (drop (i + 1) sets) in
+          subst (λ m. CanBeBad m (f.patterns ∷ rest) mask) (sym is_one.count)
+          (subst (λ w. CanBeBad n (f.patterns ∷ w) mask) (sym left_are) (rw taken at bad))
 
-    inside : (xs : List Dimension) (i : ℕ) {ys : List Dimension} → drop i xs ≡ d ∷ ys → i < length xs
-    inside [] zero e = absurd (cc)
-    inside [] (suc i) e = absurd (cc)
-    inside (x ∷ xs) zero e = omega arith
-    inside (x ∷ xs) (suc i) e = let l = inside xs i e in omega arith
-
--- where no dimension is left
-pub all_least : (n : ℕ) (ss : List Schema) (qs : List Question) (fs : List Family) (i mask : ℕ) (founds : List Found)
-    → length ss ≤ i → CanBeBad n (sets_of (drop i (dimensions_of ss qs fs))) mask
-    → ((xs : List Found) → AreLeast n (drop i (dimensions_of ss qs fs)) mask xs
-    → AreLeast n (dimensions_of ss qs fs) (all_of n) (founds ++ xs))
-    → AreLeast n (dimensions_of ss qs fs) (all_of n) founds
-all_least n ss qs fs i mask founds l bad h =
-    subst (AreLeast n (dimensions_of ss qs fs) (all_of n)) (append-nil founds)
-    (h [] (subst (λ w. AreLeast n w mask []) (sym (none ss qs fs i l))
-    (subst (λ w. CanBeBad n (sets_of w) mask) (none ss qs fs i l) bad)))
-  where
-    none : (ss : List Schema) (qs : List Question) (fs : List Family) (i : ℕ) → length ss ≤ i
-        → drop i (dimensions_of ss qs fs) ≡ []
-    none [] qs fs zero l = refl
-    none [] qs fs (suc i) l = refl
-    none (s ∷ ss) [] fs zero l = refl
-    none (s ∷ ss) [] fs (suc i) l = refl
-    none (s ∷ ss) (q ∷ qs) [] zero l = refl
-    none (s ∷ ss) (q ∷ qs) [] (suc i) l = refl
-    none (s ∷ ss) (q ∷ qs) (f ∷ fs) zero l = let z : suc (length ss) ≤ zero = l in absurd (omega arith)
-    none (s ∷ ss) (q ∷ qs) (f ∷ fs) (suc i) l = none ss qs fs i (let z : suc (length ss) ≤ suc i = l in omega arith)
-
--- it has as many sources as it has
-pub by_its_own : (n : ℕ) (d : Dimension) → IsDimension n d → IsDimension (length d.question.sources) d
-by_its_own n d is = record { question = is.question; count = refl; family = is.family }
+      -- its least one is followed by the least of the rest, and the rest can be bad
+      pub one_more : (left : ℕ) (founds next : List Found) (found : Found) → next ≡ founds ++ found ∷ []
+          → IsLeastBefore (length q.sources) (record { schema = s; question = q; family = f })
+          (take (length sets - (i + 1)) (drop (i + 1) sets)) mask found left
+          → ((xs : List Found) → AreLeast n (drop i (dimensions_of ss qs fs)) mask xs
+          → AreLeast n (dimensions_of ss qs fs) (all_of n) (founds ++ xs))
+          → ((xs : List Found) → AreLeast n (drop (i + 1) (dimensions_of ss qs fs)) left xs
+          → AreLeast n (dimensions_of ss qs fs) (all_of n) (next ++ xs))
+          × CanBeBad n (sets_of (drop (i + 1) (dimensions_of ss qs fs))) left
+      one_more left founds next found made least h =
+          let its = rw (is_one.count, left_are) at least in (
+            λ xs a. rw (made, append_assoc founds (found ∷ []) xs) (h (found ∷ xs) (rw taken (left, its, a))),
+            its.bad,
+          )

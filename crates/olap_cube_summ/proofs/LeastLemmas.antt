@@ -33,17 +33,14 @@ module _ {D X K M : Type 0} (In : D → X → Type 0) (key : X → K) (after : K
   -- the greedy choice ends
   pub greedy_ends : (ds : List D) (m : M) (xs : List X) → Greedy ds m xs → Ends ds m xs
   greedy_ends [] m [] g = g
-  greedy_ends [] m (x ∷ xs) g = g
-  greedy_ends (d ∷ ds) m [] g = g
   greedy_ends (d ∷ ds) m (x ∷ xs) g = (g.0, greedy_ends ds (left m x) xs g.2)
+  greedy_ends ds m xs g = g
 
   -- no choice that ends is before it, where what is left depends on the key alone
   pub greedy_least : ((d : D) (x y : X) → In d x → In d y → key x ≡ key y → (m : M) → left m x ≡ left m y)
       → ((a b : K) → after a b ⊎ ((a ≡ b) ⊎ after b a))
       → (ds : List D) (m : M) (xs ys : List X) → Greedy ds m xs → Ends ds m ys → NotAfter xs ys
   greedy_least one order [] m [] ys g e = tt
-  greedy_least one order [] m (x ∷ xs) ys g e = absurd g
-  greedy_least one order (d ∷ ds) m [] ys g e = absurd g
   greedy_least one order (d ∷ ds) m (x ∷ xs) [] g e = absurd e
   greedy_least one order (d ∷ ds) m (x ∷ xs) (y ∷ ys) g e = elim (order (key x) (key y)) [
     | inl a ↦ absurd (g.1 y e.0 (ys, e.1) a)
@@ -56,3 +53,4 @@ module _ {D X K M : Type 0} (In : D → X → Type 0) (key : X → K) (after : K
       | inr b ↦ inl b
     ]
   ]
+  greedy_least one order ds m xs ys g e = absurd g

@@ -1,20 +1,13 @@
 -- What a search that looks for patterns finds.
-use Rattle.std.proofs.Common.{◌≡◌, ℕ, ◌<◌, refl, subst, sym}
-use Rattle.olap_ast.specs.Formula.{Formula.Reach}
-use Rattle.olap_ast.specs.Frozen.{IsFrozen}
-use Rattle.olap_ast.specs.Schema.{Schema}
+use Rattle.std.proofs.Common.{◌≡◌, ℕ, refl, subst, sym}
+use Rattle.olap_ast.specs.{Formula.Formula.Reach, Schema.Schema}
 use Rattle.olap_base.specs.Graph.{IsBottom}
-use Rattle.olap_cube_summ.specs.Found.{chosen_of}
-use Rattle.olap_dimsat.specs.OneFound.{IsOneFound}
-use Rattle.olap_dimsat.specs.Searches.{root_of}
+use Rattle.olap_cube_summ.specs.{Found.chosen_of, Looking.IsLookout}
+use Rattle.olap_cube_summ.specs.{Patterns.{HasPattern, IsFoundFor, IsPatternOf, named_by}, Questions.target_in}
+use Rattle.olap_cube_summ.specs.declared.{looking.Lookout.Lookout, questions.Question.Question}
+use Rattle.olap_dimsat.specs.{OneFound.IsOneFound, Searches.root_of}
+use Rattle.olap_names.specs.Names.{Named}
 use Rattle.olap_frozen.specs.declared.frozen.Frozen as kept
-use Rattle.olap_frozen.specs.LeastFound.{frozen_of}
-use Rattle.olap_names.specs.Names.{Named, candidates_of}
-use Rattle.olap_cube_summ.specs.Looking.{IsLookout}
-use Rattle.olap_cube_summ.specs.Patterns.{HasPattern, IsFoundFor, IsPatternOf, named_by}
-use Rattle.olap_cube_summ.specs.Questions.{target_in}
-use Rattle.olap_cube_summ.specs.declared.looking.Lookout.{Lookout}
-use Rattle.olap_cube_summ.specs.declared.questions.Question.{Question}
 
 module _ (s : Schema) (q : Question) (b : ℕ) where
   -- a frozen dimension that reaches the target is one of the bottom category, by the names that the search has
@@ -28,8 +21,7 @@ module _ (s : Schema) (q : Question) (b : ℕ) where
       chosen = record {
         bottom = subst (IsBottom s.graph) (sym one.root) bottom;
         candidates = one.candidates;
-        is_one = subst (λ r. IsFrozen s (Reach (target_in q)) r (candidates_of named) (frozen_of f)) (sym one.root)
-            one.is_one;
+        is_one = rw one.root one.is_one;
       };
       sized = one.sized;
       zero = one.zero;

@@ -1,21 +1,13 @@
 -- What sets of masks have, and when a mask is bad.
-use Rattle.std.proofs.Common.{◌≡◌, ◌≢◌, not, ℕ, zero, suc, ◌+◌, ◌-◌, ◌<◌, ◌≤◌, ◌⊎◌, ◌↔◌, ◌||◌, Bool, List, [], ◌∷◌, length, ◌++◌, drop, drop-cons, get_or, true, false, eqb, refl, ap, sym, subst, ◌∙◌, inl, inr, arith}
-use Rattle.std.specs.Prelude.{IsTrue}
-use Rattle.std.specs.Cmp.{nat_cmp_total}
-use Rattle.std.specs.FinSet as set
-use Rattle.std.specs.Int.Bits.{bit_and}
-use Rattle.std.specs.List.{range_with_len}
-use Rattle.std.specs.Ordering.{nat_cmp}
-use Rattle.std.proofs.lemmas.Bool.{cases_eq, eq-eqb, ne_eqb, or_left}
-use Rattle.std.proofs.lemmas.List.{append-nil}
-use Rattle.std.proofs.lemmas.Nat.{and_le_l}
-use Rattle.olap_base.specs.OneFact.{HoldsTimes}
+use Rattle.std.proofs.Common.{◌≡◌, ◌≢◌, not, ℕ, suc, ◌+◌, ◌-◌, ◌<◌, ◌≤◌, ◌⊎◌, ◌↔◌, ◌||◌, Bool, List, [], ◌∷◌, length, ◌++◌, drop, get_or, true, false, eqb, refl, ap, sym, subst, ◌∙◌, inl, inr, arith}
+use Rattle.std.proofs.lemmas.Bool.{cases_eq, eq-eqb, ne_eqb, or_cases, or_left, or_right}
+use Rattle.std.proofs.lemmas.{List.{append-nil, drop_all, drop_more}, Nat.and_le_l}
+use Rattle.std.specs.{Cmp.nat_cmp_total, Int.Bits.bit_and, List.range_with_len, Ordering.nat_cmp, Prelude.IsTrue}
+use Rattle.olap_base.{proofs.GeneralLemmas.{below_or_same, one_time}, specs.OneFact.HoldsTimes}
 use Rattle.olap_base.specs.Views.{ExactlyOne, NoneOf}
-use Rattle.olap_bits.specs.Sets.{members}
-use Rattle.olap_bits.specs.declared.sets.CatSet.{CatSet}
-use Rattle.olap_bits.proofs.CatSetLemmas.{in_insert}
+use Rattle.olap_bits.{proofs.CatSetLemmas.in_insert, specs.Sets.members, specs.declared.sets.CatSet.CatSet}
 use Rattle.olap_cube_summ.specs.Masks.{CanBeBad, Has, IsBad, IsIn, OneCanBeBad, all_of}
-use Rattle.olap_base.proofs.GeneralLemmas.{below_or_same, one_time}
+use Rattle.std.specs.FinSet as set
 
 -- ---- sets
 
@@ -28,11 +20,11 @@ module _ (s t : CatSet 4) (n : ℕ) (within : n < 256) (e : members t ≡ set.in
   )
 
   in_old : (m : ℕ) → IsIn s m → IsIn t m
-  in_old m h = (h.0, ap (λ w. set.contains w m) e ∙ in_insert (members s) n m ∙ either (eqb m n) h.1)
-    where
-      either : (b : _) → set.contains (members s) m ≡ true → (b || set.contains (members s) m) ≡ true
-      either true h = refl
-      either false h = h
+  in_old m h = (
+    h.0,
+    ap (λ w. set.contains w m) e ∙ in_insert (members s) n m
+        ∙ or_right (eqb m n) (set.contains (members s) m) h.1,
+  )
 
   -- what a set has after a mask is put in
   pub in_with : (m : ℕ) → IsIn t m ↔ ((m ≡ n) ⊎ IsIn s m)
@@ -61,7 +53,7 @@ in_empty t e m h =
 pub in_union : (s t u : CatSet 4) → members u ≡ set.union (members s) (members t) → (m : ℕ)
     → IsIn u m ↔ (IsIn s m ⊎ IsIn t m)
 in_union s t u e m = (
-  λ h. elim (either (set.contains (members s) m) (set.contains (members t) m) (sym both ∙ h.1)) [
+  λ h. elim (or_cases (set.contains (members s) m) (set.contains (members t) m) (sym both ∙ h.1)) [
     | inl a ↦ inl (h.0, a)
     | inr a ↦ inr (h.0, a)
   ],
@@ -73,14 +65,6 @@ in_union s t u e m = (
   where
     both : set.contains (members u) m ≡ (set.contains (members s) m || set.contains (members t) m)
     both = ap (λ w. set.contains w m) e ∙ set.contains-union nat_cmp_total (members s) (members t) m
-
-    either : (a b : Bool) → (a || b) ≡ true → (a ≡ true) ⊎ (b ≡ true)
-    either true b h = inl refl
-    either false b h = inr h
-
-    or_right : (a b : Bool) → b ≡ true → (a || b) ≡ true
-    or_right true b h = refl
-    or_right false b h = h
 
 -- ---- bad masks
 
@@ -210,24 +194,16 @@ pub set_taken : (n : ℕ) (sets after : List (CatSet 4)) (k : ℕ) (masks met ne
     → ((m : ℕ) → IsIn met m ↔ ((s p : ℕ) × IsIn masks s × IsIn next p × (m ≡ bit_and s p)))
     → P ↔ OneCanBeBad n (drop k sets ++ after) masks → P ↔ OneCanBeBad n (drop (k + 1) sets ++ after) met
 set_taken n sets after k masks met next P l e h a =
-    let q : drop k sets ≡ next ∷ drop (k + 1) sets =
-    drop-cons sets k next l ∙ (λ i. sym e i ∷ (let z : suc k ≡ k + 1 = omega arith in ap (λ w. drop w sets) z) i) in
+    let q : drop k sets ≡ next ∷ drop (k + 1) sets = rw (sym e) at (drop_more sets k next l) in
     let s = next_set n (drop (k + 1) sets ++ after) masks met next h in (
-      λ p. s.1 (subst (λ w. OneCanBeBad n (w ++ after) masks) q (a.0 p)),
-      λ o. a.1 (subst (λ w. OneCanBeBad n (w ++ after) masks) (sym q) (s.0 o)),
+      λ p. s.1 (rw q at (a.0 p)),
+      λ o. a.1 (rw q (s.0 o)),
     )
 
 -- all sets are taken
 pub sets_taken : (n : ℕ) (sets after : List (CatSet 4)) (k : ℕ) (met : CatSet 4) (P : Type 0) → length sets ≤ k
     → P ↔ OneCanBeBad n (drop k sets ++ after) met → P ↔ OneCanBeBad n after met
-sets_taken n sets after k met P l a =
-    subst (λ w. P ↔ OneCanBeBad n (w ++ after) met) (drop_all sets k l) a
-  where
-    drop_all : (xs : List (CatSet 4)) (k : ℕ) → length xs ≤ k → drop k xs ≡ []
-    drop_all [] zero l = refl
-    drop_all [] (suc k) l = refl
-    drop_all (x ∷ xs) zero l = let z : suc (length xs) ≤ zero = l in absurd (omega arith)
-    drop_all (x ∷ xs) (suc k) l = drop_all xs k (let z : suc (length xs) ≤ suc k = l in omega arith)
+sets_taken n sets after k met P l a = rw drop_all at a
 
 -- one of the masks is bad
 pub found_bad : (r : Bool) (n mask : ℕ) (sets : List (CatSet 4)) (first last : CatSet 4)
@@ -235,7 +211,7 @@ pub found_bad : (r : Bool) (n mask : ℕ) (sets : List (CatSet 4)) (first last :
     → OneCanBeBad n (sets ++ []) first ↔ OneCanBeBad n [] last
     → IsTrue r ↔ ((m : ℕ) × IsIn last m × IsBad n m) → IsTrue r ↔ CanBeBad n sets mask
 found_bad r n mask sets first last a b t =
-    let c = subst (λ w. OneCanBeBad n w first ↔ OneCanBeBad n [] last) (append-nil sets) b in
+    let c = rw append-nil at b in
     (λ h. a.0 (c.1 (t.0 h)), λ h. t.1 (c.0 (a.1 h)))
 
 -- what was found of the masks so far is the answer for a set between others
@@ -247,10 +223,10 @@ pub found_bad_with : (r : Bool) (n a : ℕ) → a ≡ all_of n → (done rest : 
     → OneCanBeBad n (rest ++ []) between ↔ OneCanBeBad n [] last
     → IsTrue r ↔ ((m : ℕ) × IsIn last m × IsBad n m) → IsTrue r ↔ CanBeBad n (done ++ set ∷ rest) (all_of n)
 found_bad_with r n start is done rest first before set between last a b h c t =
-    let d = subst (λ w. OneCanBeBad n w between ↔ OneCanBeBad n [] last) (append-nil rest) c in
+    let d = rw append-nil at c in
     let e = next_set n rest before between set h in (
-      λ y. subst (CanBeBad n (done ++ set ∷ rest)) is (a.0 (b.1 (e.0 (d.1 (t.0 y))))),
-      λ y. t.1 (d.0 (e.1 (b.0 (a.1 (subst (CanBeBad n (done ++ set ∷ rest)) (sym is) y))))),
+      λ y. rw is at (a.0 (b.1 (e.0 (d.1 (t.0 y))))),
+      λ y. t.1 (d.0 (e.1 (b.0 (a.1 (rw is y))))),
     )
 
 -- what the count of all sources says

@@ -1,23 +1,13 @@
 -- Masks that have the same sources, and the patterns of one frozen dimension.
-use Rattle.std.proofs.Common.{◌≡◌, ℕ, ◌<◌, ◌↔◌, List, [], ◌∷◌, Bool, length, sym, subst, ◌∙◌, arith}
-use Rattle.std.specs.Int.Bits.{bit_and}
-use Rattle.std.proofs.lemmas.List.{length-map}
-use Rattle.std.proofs.lemmas.Nat.Bits.{bit_at-lt, bit_at_and, bit_at_ones}
-use Rattle.olap_ast.specs.Formula.{Formula.Reach}
-use Rattle.olap_ast.specs.Frozen.{code}
-use Rattle.olap_ast.specs.Schema.{Schema}
-use Rattle.olap_ast.proofs.Determined.{same_thawed}
-use Rattle.olap_base.specs.Instance.{IsMemberOf}
-use Rattle.olap_base.specs.declared.ids.CatId.{CatId}
+use Rattle.std.proofs.{Common.{◌≡◌, ℕ, ◌<◌, ◌↔◌, List, [], ◌∷◌, length, sym, subst, ◌∙◌, arith}, lemmas.List.length-map}
+use Rattle.std.{proofs.lemmas.Nat.Bits.{bit_at-lt, bit_at_and, bit_at_ones}, specs.Int.Bits.bit_and}
+use Rattle.olap_ast.{proofs.Determined.same_thawed, specs.Formula.Formula.Reach, specs.Frozen.code, specs.Schema.Schema}
+use Rattle.olap_base.specs.{Instance.IsMemberOf, declared.ids.CatId.CatId}
 use Rattle.olap_bits.specs.declared.sets.CatSet.{CatSet}
-use Rattle.olap_cube.proofs.DeterminedLemmas.{same_parts}
-use Rattle.olap_cube.specs.CubeSummarizable.{Chosen, IsChosen}
-use Rattle.olap_cube_summ.specs.Masks.{CanBeBad, Has, all_of}
-use Rattle.olap_cube_summ.specs.Ways.{HasWays}
-use Rattle.olap_cube_summ.specs.Patterns.{HasPattern, shape_of}
-use Rattle.olap_cube_summ.specs.Questions.{sources_in, target_in}
+use Rattle.olap_cube.{proofs.DeterminedLemmas.same_parts, specs.CubeSummarizable.{Chosen, IsChosen}}
+use Rattle.olap_cube_summ.{proofs.BelowLemmas.one_below, specs.Masks.{CanBeBad, Has, all_of}}
+use Rattle.olap_cube_summ.specs.{Patterns.{HasPattern, shape_of}, Questions.{sources_in, target_in}, Ways.HasWays}
 use Rattle.olap_cube_summ.specs.declared.questions.Question.{Question}
-use Rattle.olap_cube_summ.proofs.BelowLemmas.{one_below}
 
 -- ---- masks
 

@@ -1,38 +1,25 @@
 -- What searches for frozen dimensions by their patterns say.
-use Rattle.std.proofs.Common.{◌≡◌, ℕ, ◌↔◌, List, length, sym, subst, ◌∙◌}
+use Rattle.std.{proofs.Common.{◌≡◌, ℕ, ◌↔◌, List, length, sym, subst, ◌∙◌}, specs.Int.bit_at, specs.List.range_with_len}
 use Rattle.std.specs.Prelude.{slice_index}
-use Rattle.std.specs.FinSet as set
-use Rattle.std.specs.Int.{bit_at}
-use Rattle.std.specs.List.{range_with_len}
-use native.Mathlib.Decide.{ℕ_discrete}
-use Rattle.olap_base.specs.Deciding.{dec_and, dec_iff}
-use Rattle.olap_base.specs.Graph.{IsBottom}
-use Rattle.olap_base.specs.Instance.{Instance, IsMemberOf, ReachesCategory, ReachesVia}
-use Rattle.olap_base.specs.declared.ids.CatId.{CatId}
-use Rattle.olap_base.proofs.ListLemmas.{Contains-range}
-use Rattle.olap_ast.specs.Formula.{Formula, Formula.Reach}
-use Rattle.olap_ast.specs.Frozen.{AreCandidates, Candidates, Frozen, IsFrozen, thawed}
-use Rattle.olap_ast.specs.Questions.{NoneFrozen}
-use Rattle.olap_ast.specs.Schema.{Schema}
-use Rattle.olap_ast.proofs.Decided.{dec_some, dec_via}
-use Rattle.olap_ast.proofs.Determined.{still_frozen}
-use Rattle.olap_bits.specs.Sets.{members}
-use Rattle.olap_bits.specs.declared.sets.CatSet.{CatSet}
+use Rattle.olap_base.proofs.{DecisionLemmas.{dec_below, dec_both}, ListLemmas.Contains-range}
+use Rattle.olap_base.specs.{Deciding.{dec_and, dec_iff}, Graph.IsBottom}
+use Rattle.olap_base.specs.{Instance.{Instance, IsMemberOf, ReachesCategory, ReachesVia}, declared.ids.CatId.CatId}
+use Rattle.olap_ast.proofs.{Decided.{dec_some, dec_via}, Determined.still_frozen}
+use Rattle.olap_ast.{proofs.SameAtoms.{candidates_too, frozen_too}, specs.Formula.{Formula, Formula.Reach}}
+use Rattle.olap_ast.specs.{Frozen.{AreCandidates, Candidates, Frozen, IsFrozen, thawed}, Questions.NoneFrozen}
+use Rattle.olap_ast.specs.{Schema.Schema, Trees.numbers_of}
+use Rattle.olap_bits.specs.{Sets.members, declared.sets.CatSet.CatSet}
 use Rattle.olap_cube.specs.CubeSummarizable.{Chosen, IsChosen}
-use Rattle.olap_ast.proofs.SameAtoms.{candidates_too, frozen_too}
-use Rattle.olap_cube_summ.specs.Found.{chosen_of}
-use Rattle.olap_dimsat.specs.OneFound.{IsOneFound}
-use Rattle.olap_frozen.specs.declared.founding.Found.{Found}
-use Rattle.olap_frozen.specs.LeastFound.{IsLeastFound, frozen_of}
-use Rattle.olap_names.specs.Names.{candidates_of}
-use Rattle.olap_cube_summ.specs.Masks.{Has, IsIn}
-use Rattle.olap_ast.specs.Trees.{numbers_of}
-use Rattle.olap_cube_summ.specs.Ways.{HasWays, HasWaysIn, IsAboutWays, IsInside, IsOutside}
+use Rattle.olap_cube_summ.{proofs.BelowLemmas.{dec_less, dec_true}, specs.Found.chosen_of, specs.Masks.{Has, IsIn}}
 use Rattle.olap_cube_summ.specs.Patterns.{AreAllKnown, IsKnown, IsLeastKnown, IsOther, SomeIsKnown, shape_of}
 use Rattle.olap_cube_summ.specs.Questions.{sources_in, target_in}
+use Rattle.olap_cube_summ.specs.Ways.{HasWays, HasWaysIn, IsAboutWays, IsInside, IsOutside}
 use Rattle.olap_cube_summ.specs.declared.questions.Question.{Question}
-use Rattle.olap_cube_summ.proofs.BelowLemmas.{dec_less, dec_true}
-use Rattle.olap_base.proofs.DecisionLemmas.{dec_below, dec_both}
+use Rattle.olap_dimsat.specs.OneFound.{IsOneFound}
+use Rattle.olap_frozen.specs.{LeastFound.{IsLeastFound, frozen_of}, declared.founding.Found.Found}
+use Rattle.olap_names.specs.Names.{candidates_of}
+use Rattle.std.specs.FinSet as set
+use native.Mathlib.Decide.{ℕ_discrete}
 
 -- what holds at the root holds at each member of its category
 pub at_root : (s : Schema) (f : Formula) (r : ℕ) (k : Candidates) (h : Frozen) → (t : IsFrozen s f r k h)
@@ -130,8 +117,7 @@ module _ (s : Schema) (q : Question) where
     }
       where
         t : IsFrozen s f found.frozen.root.0 (candidates_of found.candidates) (frozen_of found.frozen)
-        t = subst (λ r. IsFrozen s f r (candidates_of found.candidates) (frozen_of found.frozen)) (sym one.root)
-            one.is_one
+        t = rw one.root one.is_one
 
         a : IsChosen s c (chosen_of found)
         a = chosen (IsOutside c column patterns) f about (candidates_of found.candidates) one.candidates
@@ -145,8 +131,7 @@ module _ (s : Schema) (q : Question) where
     pub some_found : (b : ℕ) (k : Candidates) → AreCandidates s f k → SomeIsKnown s q b patterns
         → NoneFrozen s f b k → ⊥
     some_found b k candidates some none = let h = some.0 in let a = some.1 in let z = a.is_one.stands_for in
-        none h.frozen (subst (λ r. IsFrozen s f r k h.frozen) some.2
-        (asked (IsInside c column patterns) f about k candidates h a
+        none h.frozen (rw some.2 at (asked (IsInside c column patterns) f about k candidates h a
         (z.true_at_root, known_at patterns h some.3 z.root z.root_is)))
 
     -- what is found is the least
@@ -167,8 +152,7 @@ module _ (s : Schema) (q : Question) where
     }
       where
         t : IsFrozen s f found.frozen.root.0 (candidates_of found.candidates) (frozen_of found.frozen)
-        t = subst (λ r. IsFrozen s f r (candidates_of found.candidates) (frozen_of found.frozen)) (sym one.root)
-            one.least.is_one
+        t = rw one.root one.least.is_one
 
         a : IsChosen s c (chosen_of found)
         a = chosen (IsInside c column patterns) f about (candidates_of found.candidates) one.least.candidates

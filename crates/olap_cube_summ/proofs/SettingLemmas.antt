@@ -1,38 +1,20 @@
 -- The questions of a cube, and the answers to them.
-use Rattle.std.proofs.Common.{◌≡◌, ℕ, zero, suc, ◌+◌, ◌<◌, ◌≤◌, ◌↔◌, ◌++◌, List, [], ◌∷◌, Bool, true, false, length, get_or, ap, sym, subst, ◌∙◌, inl, inr, arith}
-use Rattle.std.specs.Prelude.{All, IsTrue, slice_index, slice_index_or}
+use Rattle.std.proofs.Common.{◌≡◌, ℕ, ◌+◌, ◌<◌, ◌≤◌, ◌↔◌, ◌++◌, List, [], ◌∷◌, Bool, true, false, length, get_or, ap, sym, subst, ◌∙◌, inl, inr, arith}
 use Rattle.std.proofs.lemmas.List.{get_or-map, get_or_append_left, get_or_push, length-map}
-use Rattle.olap_ast.specs.Formula.{Formula.Truth}
-use Rattle.olap_ast.specs.Schema.{Schema}
+use Rattle.std.specs.Prelude.{All, IsTrue, slice_index, slice_index_or}
+use Rattle.olap_ast.{proofs.AtomLemmas.has_kinds, specs.Formula.Formula.Truth, specs.Schema.Schema}
 use Rattle.olap_ast.specs.Valid.{IsValidSchema}
-use Rattle.olap_ast.proofs.AtomLemmas.{has_kinds}
-use Rattle.olap_base.specs.Graph.{IsCategory, IsHierarchy}
-use Rattle.olap_base.specs.Limits.{most_views}
+use Rattle.olap_base.proofs.{GeneralLemmas.below_or_same, ListLemmas.get_or_inside}
+use Rattle.olap_base.specs.{Graph.{IsCategory, IsHierarchy}, Limits.most_views}
 use Rattle.olap_bits.specs.declared.sets.CatSet.{CatSet}
 use Rattle.olap_cube.specs.CubeSummarizable.{CubeSummarizableExactlyIfNoneBad, IsCubeSummarizable, IsKinded, graphs_of}
-use Rattle.olap_cube_summ.specs.Dimensions.{AreCategoriesOf, no_schema}
-use Rattle.olap_cube_summ.specs.Families.{AreUnions, IsOrdered}
-use Rattle.olap_cube_summ.specs.Masks.{CanBeBad, all_of}
-use Rattle.olap_cube_summ.specs.declared.families.Family.{Family}
-use Rattle.olap_cube_summ.specs.Choices.{AreFamiliesOf}
-use Rattle.olap_cube_summ.specs.Patterns.{AreFamilies}
+use Rattle.olap_cube_summ.proofs.{AnswerLemmas.none_bad, PlaceLemmas.{category_at, category_count}}
+use Rattle.olap_cube_summ.specs.{Choices.AreFamiliesOf, Dimensions.{AreCategoriesOf, no_schema}}
+use Rattle.olap_cube_summ.specs.{Families.{AreUnions, IsOrdered}, Masks.{CanBeBad, all_of}, Patterns.AreFamilies}
 use Rattle.olap_cube_summ.specs.Questions.{AreQuestions, AreQuestionsOf, no_question, sources_in, target_in}
-use Rattle.olap_cube_summ.specs.declared.questions.Question.{Question}
-use Rattle.olap_cube_summ.proofs.AnswerLemmas.{none_bad}
-use Rattle.olap_cube_summ.proofs.BelowLemmas.{below_suc}
-use Rattle.olap_cube_summ.proofs.PlaceLemmas.{category_count}
-use Rattle.olap_base.proofs.ListLemmas.{get_or_inside}
+use Rattle.olap_cube_summ.specs.declared.{families.Family.Family, questions.Question.Question}
 
 -- ---- categories of each dimension
-
--- the category of a tuple in a dimension is one of its schema
-category_at : (ss : List Schema) (cs : List ℕ) → AreCategoriesOf ss cs → (i : ℕ) → i < length ss
-    → IsCategory (slice_index_or ss i no_schema).graph (slice_index cs i)
-category_at [] cs a i l = absurd (omega arith)
-category_at (s ∷ ss) [] a i l = absurd a
-category_at (s ∷ ss) (c ∷ cs) a zero l = a.0
-category_at (s ∷ ss) (c ∷ cs) a (suc i) l =
-    category_at ss cs a.1 i (let z : suc i < suc (length ss) = l in omega arith)
 
 -- the questions are ones of the schemas
 pub are_questions_of : (ss : List Schema) (c : List ℕ) (sources : List (List ℕ)) (qs : List Question)
@@ -43,15 +25,15 @@ are_questions_of ss c sources qs t all few asked = record {
   each = λ i l. let m : i < length qs = subst (λ w. i < w) (sym count) l in record {
     target = subst (IsCategory (slice_index_or ss i no_schema).graph)
         (ap (λ w. slice_index w i) (sym asked.targets) ∙ get_or-map target_in qs i no_question 0 m)
-        (category_at ss c t i l);
+        (category_at ss c i t l);
     sources = λ k d o. let n : k < length sources = subst (λ w. k < w)
         (length-map (get_or qs i no_question).sources (λ x. x.0) ∙ asked.counts i no_question m) o in
         subst (IsCategory (slice_index_or ss i no_schema).graph)
         (ap (λ w. slice_index w i) (sym (asked.rows k n))
         ∙ get_or-map (λ q. slice_index (sources_in q) k) qs i no_question 0 m
         ∙ get_or_inside (sources_in (get_or qs i no_question)) k 0 d o)
-        (category_at ss (slice_index_or sources k []) (all k [] n) i l);
-    few = subst (λ w. w ≤ most_views) (sym (asked.counts i no_question m)) few;
+        (category_at ss (slice_index_or sources k []) i (all k [] n) l);
+    few = rw (asked.counts i no_question m) few;
   };
 }
   where
@@ -68,27 +50,21 @@ pub families_next : (ss : List Schema) (qs : List Question) (i : ℕ) (all next 
     → AreFamilies (slice_index_or ss j no_schema) (slice_index_or qs j no_question) (slice_index_or all j []))
     → (j : ℕ) → j < i + 1
     → AreFamilies (slice_index_or ss j no_schema) (slice_index_or qs j no_question) (slice_index_or next j [])
-families_next ss qs i all next new s q l x y n made a before j m = elim (below_suc j i (omega arith)) [
-  | inl o ↦ subst (AreFamilies (slice_index_or ss j no_schema) (slice_index_or qs j no_question))
-      (sym (ap (λ w. slice_index_or w j []) made
-      ∙ get_or_append_left all (new ∷ []) [] j (subst (λ w. j < w) (sym n) o))) (before j o)
-  | inr e ↦ subst (λ w. AreFamilies (slice_index_or ss w no_schema) (slice_index_or qs w no_question)
-      (slice_index_or next w [])) (sym e) here
+families_next ss qs i all next new s q l x y n made a before j m = elim (below_or_same j i (omega arith)) [
+  | inl o ↦ rw (made, get_or_append_left all (new ∷ []) [] j (rw n o)) (before j o)
+  | inr e ↦ rw e here
 ]
   where
     here : AreFamilies (slice_index_or ss i no_schema) (slice_index_or qs i no_question) (slice_index_or next i [])
-    here = subst (AreFamilies (slice_index_or ss i no_schema) (slice_index_or qs i no_question))
-        (sym (ap (λ w. slice_index_or w i []) made ∙ get_or_push all new [] i n))
-        (subst (λ w. AreFamilies w (slice_index_or qs i no_question) new) x
-        (subst (λ w. AreFamilies s w new) (y ∙ get_or_inside qs i q no_question l) a))
+    here = rw (made, get_or_push all new [] i n) (rw (x, y ∙ get_or_inside qs i q no_question l) at a)
 
 -- one schema more that is valid
 pub valid_next : (ss : List Schema) (i : ℕ) (s : Schema) → s ≡ slice_index_or ss i no_schema → IsValidSchema s
     → ((j : ℕ) → j < i → IsValidSchema (slice_index_or ss j no_schema)) → (j : ℕ) → j < i + 1
     → IsValidSchema (slice_index_or ss j no_schema)
-valid_next ss i s e v before j l = elim (below_suc j i (omega arith)) [
+valid_next ss i s e v before j l = elim (below_or_same j i (omega arith)) [
   | inl o ↦ before j o
-  | inr q ↦ subst (λ w. IsValidSchema (slice_index_or ss w no_schema)) (sym q) (subst IsValidSchema e v)
+  | inr q ↦ rw (q, ← e) v
 ]
 
 -- after the last all are
@@ -125,5 +101,4 @@ summarizable_is law ss c sources qs fss asked of families valid n e sets items u
     (none_bad ss c sources qs fss asked of families sets u none)
   where
     none : CanBeBad (length sources) sets (all_of (length sources)) → ⊥
-    none bad = let z : false ≡ true = sym lost ∙ is.1 (subst (CanBeBad n items) (sym full)
-        (subst (λ w. CanBeBad n w (all_of n)) (sym same) (subst (λ w. CanBeBad w sets (all_of w)) e bad))) in cc
+    none bad = let z : false ≡ true = sym lost ∙ is.1 (rw (full, same, ← e) bad) in cc

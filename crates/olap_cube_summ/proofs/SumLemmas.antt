@@ -1,29 +1,19 @@
 -- What one fact at the roots of a choice comes to.
 use Rattle.std.proofs.Common.{◌≡◌, ℕ, List, [], ◌∷◌, ◌++◌, map, ℤ, pos, Option, Some, refl, sym, ap, ◌∙◌, subst}
-use Rattle.std.specs.Prelude.{All}
-use Rattle.std.specs.List.{cons_option}
-use Rattle.std.proofs.lemmas.List.Elements.{All-head, All-tail}
-use Rattle.olap_base.specs.Graph.{IsHierarchy}
-use Rattle.olap_base.specs.Instance.{Instance}
-use Rattle.olap_base.specs.OneFact.{HoldsTimes, ones}
+use Rattle.std.{proofs.lemmas.List.Elements.{All-head, All-tail}, specs.List.cons_option, specs.Prelude.All}
+use Rattle.olap_base.specs.{Graph.IsHierarchy, Instance.Instance, OneFact.{HoldsTimes, ones}}
 use Rattle.olap_base.specs.Views.{ExactlyOne, only_sum, row_at}
-use Rattle.olap_ast.specs.Frozen.{chosen, name_in}
-use Rattle.olap_ast.specs.Schema.{Schema}
+use Rattle.olap_ast.specs.{Frozen.{chosen, name_in}, Schema.Schema}
+use Rattle.olap_cube.proofs.{ChoiceLemmas.{chosen_legal, chosen_up, lawful_from_legal}, CubeLemmas.one_cube_facts_views}
 use Rattle.olap_cube.specs.CubeSummarizable.{BadChoicesHaveTwoSums, Chosen, IsChosen, bottoms_of, graphs_of, instances_of}
 use Rattle.olap_cube.specs.Tuples.{AllZip3, IsTupleOf, TupleReachesVia}
-use Rattle.olap_cube.proofs.ChoiceLemmas.{chosen_legal, chosen_up, lawful_from_legal}
-use Rattle.olap_cube.proofs.CubeLemmas.{one_cube_facts_views}
-use Rattle.olap_frozen.proofs.ChosenInstance as made
-use Rattle.olap_frozen.proofs.ChosenLemmas.{choice_of}
-use Rattle.olap_cube_summ.specs.Found.{IsCubeCounterexampleFound, chosen_of}
-use Rattle.olap_frozen.specs.declared.founding.Found.{Found}
+use Rattle.olap_frozen.{proofs.ChosenLemmas.choice_of, specs.declared.founding.Found.Found}
 use Rattle.olap_frozen.specs.declared.frozen.Room.{Room}
-use Rattle.olap_cube_summ.specs.CubeCexText.{cube_counterexample_text, dimensions_text, roots_of}
-use Rattle.olap_cube_summ.specs.Telling.{cube_direct_sum, cube_sums_text, cube_views_sum}
-use Rattle.olap_cube_summ.specs.Drawn.{AreDrawn}
-use Rattle.olap_cube_summ.specs.Laws.{CubeCounterexampleSumsDiffer}
-use Rattle.olap_cube_summ.specs.Reaching.{ReachBy}
 use Rattle.olap_cube_summ.proofs.PlaceLemmas.{hierarchies}
+use Rattle.olap_cube_summ.specs.{CubeCexText.{cube_counterexample_text, dimensions_text, roots_of}, Drawn.AreDrawn}
+use Rattle.olap_cube_summ.specs.{Found.{IsCubeCounterexampleFound, chosen_of}, Laws.CubeCounterexampleSumsDiffer}
+use Rattle.olap_cube_summ.specs.{Reaching.ReachBy, Telling.{cube_direct_sum, cube_sums_text, cube_views_sum}}
+use Rattle.olap_frozen.proofs.ChosenInstance as made
 
 -- ---- the roots' members
 
@@ -33,17 +23,13 @@ pub only_roots : (ss : List Schema) (cs : List ℕ) (ps : List Chosen) → All I
     → xs ≡ roots_of ss ps
 only_roots [] [] [] h a [] m = refl
 only_roots [] [] [] h a (x ∷ xs) m = absurd m
-only_roots [] [] (p ∷ ps) h a xs m = absurd a
-only_roots [] (c ∷ cs) ps h a xs m = absurd a
-only_roots (s ∷ ss) [] ps h a xs m = absurd a
-only_roots (s ∷ ss) (c ∷ cs) [] h a xs m = absurd a
 only_roots (s ∷ ss) (c ∷ cs) (p ∷ ps) h a [] m = absurd m
 only_roots (s ∷ ss) (c ∷ cs) (p ∷ ps) h a (x ∷ xs) m =
     let ch = choice_of s.graph p.bottom p.frozen.edges (All-head IsHierarchy s.graph (graphs_of ss) h) a.0.bottom.0.1 in
     let e = (made.only_member s.graph p.bottom (chosen s.graph.edges p.frozen.edges) ch
     (name_in p.candidates p.frozen) p.bottom x m.0).1 in
-    let rest = only_roots ss cs ps (All-tail IsHierarchy s.graph (graphs_of ss) h) a.1 xs m.1 in
-    λ k. sym e k ∷ rest k
+    λ k. sym e k ∷ (only_roots ss cs ps (All-tail IsHierarchy s.graph (graphs_of ss) h) a.1 xs m.1) k
+only_roots ss cs ps h a xs m = absurd a
 
 -- ---- sums of ones
 

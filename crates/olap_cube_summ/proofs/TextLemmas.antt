@@ -1,16 +1,13 @@
 -- What is told of one dimension more, and one name more.
 use Rattle.std.proofs.Common.{◌≡◌, ℕ, zero, suc, ◌+◌, ◌<◌, ◌≤◌, ◌==◌, List, [], ◌∷◌, ◌++◌, length, get_or, map, take, if◌then◌else◌, refl, sym, ap, ◌∙◌, inl, inr, append_assoc, arith}
+use Rattle.std.proofs.lemmas.{Bool.Decides.eqb_tells, List.{append-nil, length-take-le, take_all, take_more}}
 use Rattle.std.specs.List.{join_with_byte}
-use Rattle.std.proofs.lemmas.Bool.Decides.{eqb_tells}
-use Rattle.std.proofs.lemmas.List.{append-nil, length-take-le, take_all, take_more}
 use Rattle.olap_ast.specs.Schema.{Schema}
 use Rattle.olap_cube.specs.CubeSummarizable.{graphs_of}
-use Rattle.olap_cube_summ.specs.Dimensions.{AreCategoriesOf, no_schema}
-use Rattle.olap_cube_summ.specs.Found.{chosen_of}
+use Rattle.olap_cube_summ.specs.{CubeCexText.{dimension_text, dimensions_text}, Dimensions.{AreCategoriesOf, no_schema}}
+use Rattle.olap_cube_summ.specs.{Found.chosen_of, Telling.names_of}
 use Rattle.olap_frozen.specs.declared.founding.Found.{Found}
 use Rattle.olap_graph.specs.Lookups.{name_of_category}
-use Rattle.olap_cube_summ.specs.CubeCexText.{dimension_text, dimensions_text}
-use Rattle.olap_cube_summ.specs.Telling.{names_of}
 
 -- ---- dimensions
 
@@ -19,8 +16,6 @@ dimensions_at : (n : ℕ) (ss : List Schema) (fs : List Found) (i : ℕ) (d : Fo
     → dimensions_text n (take (i + 1) ss) (map chosen_of (take (i + 1) fs))
     ≡ dimensions_text n (take i ss) (map chosen_of (take i fs))
     ++ dimension_text (i + n) (get_or ss i no_schema) (chosen_of (get_or fs i d))
-dimensions_at n [] fs i d l m = absurd (omega arith)
-dimensions_at n (s ∷ ss) [] i d l m = absurd (omega arith)
 dimensions_at n (s ∷ ss) (f ∷ fs) zero d l m =
     let e : n ≡ 0 + n = omega arith in
     append-nil (dimension_text n s (chosen_of f)) ∙ ap (λ k. dimension_text k s (chosen_of f)) e
@@ -34,6 +29,7 @@ dimensions_at n (s ∷ ss) (f ∷ fs) (suc i) d l m =
     ∙ sym (append_assoc (dimension_text n s (chosen_of f))
     (dimensions_text (n + 1) (take i ss) (map chosen_of (take i fs)))
     (dimension_text (suc i + n) (get_or ss i no_schema) (chosen_of (get_or fs i d))))
+dimensions_at n ss fs i d l m = absurd (omega arith)
 
 -- one dimension more in what was printed
 pub dimensions_more : (ss : List Schema) (fs : List Found) (i : ℕ) (d : Found) (before old new : List ℕ)
@@ -49,9 +45,7 @@ dimensions_more ss fs i d before old new l m e p =
 -- after the last, it is the text of all
 pub dimensions_all : (ss : List Schema) (fs : List Found) (i : ℕ) → length ss ≤ i → length fs ≤ i
     → dimensions_text 1 (take i ss) (map chosen_of (take i fs)) ≡ dimensions_text 1 ss (map chosen_of fs)
-dimensions_all ss fs i l m =
-    ap (λ (xs : List Schema). dimensions_text 1 xs (map chosen_of (take i fs))) (take_all i ss l)
-    ∙ ap (λ (ys : List Found). dimensions_text 1 ss (map chosen_of ys)) (take_all i fs m)
+dimensions_all ss fs i l m = rw (take_all i ss l, take_all i fs m) refl
 
 -- ---- names
 
@@ -59,9 +53,8 @@ dimensions_all ss fs i l m =
 pub names_count : (ss : List Schema) (cs : List ℕ) → AreCategoriesOf ss cs
     → length (names_of (graphs_of ss) cs) ≡ length ss
 names_count [] [] a = refl
-names_count [] (c ∷ cs) a = absurd a
-names_count (s ∷ ss) [] a = absurd a
 names_count (s ∷ ss) (c ∷ cs) a = ap suc (names_count ss cs a.1)
+names_count ss cs a = absurd a
 
 -- the name of one dimension's category
 pub name_at : (ss : List Schema) (cs : List ℕ) (i : ℕ) → AreCategoriesOf ss cs → i < length ss

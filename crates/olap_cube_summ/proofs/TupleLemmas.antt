@@ -1,17 +1,13 @@
 -- Tuples of categories, and the questions that are made of them.
 use Rattle.std.proofs.Common.{◌≡◌, ℕ, ◌+◌, ◌<◌, List, [], ◌∷◌, ◌++◌, eqb, length, map, take, get_or, refl, ap, sym, subst, ◌∙◌}
+use Rattle.std.proofs.lemmas.{Bool.Decides.Decides-eqb, Grind.same_number_lists}
+use Rattle.std.{proofs.lemmas.List.{get_or-map, length-map, map-append, take_more}, specs.Bool.Decides}
 use Rattle.std.specs.Prelude.{All, slice_index, slice_index_or}
-use Rattle.std.specs.Bool.{Decides}
-use Rattle.std.proofs.lemmas.Bool.Decides.{Decides-eqb}
-use Rattle.std.proofs.lemmas.Grind.{same_number_lists}
-use Rattle.std.proofs.lemmas.List.{get_or-map, length-map, map-append, take_more}
-use Rattle.olap_base.specs.declared.ids.CatId.{CatId}
+use Rattle.olap_base.{proofs.ListLemmas.get_or_inside, specs.declared.ids.CatId.CatId}
 use Rattle.olap_ast.specs.Trees.{numbers_of}
-use Rattle.olap_cube.specs.Told.{tuple_of, tuples_in}
-use Rattle.olap_cube.specs.declared.tuples.Tuple.{Tuple}
+use Rattle.olap_cube.specs.{Told.{tuple_of, tuples_in}, declared.tuples.Tuple.Tuple}
 use Rattle.olap_cube_summ.specs.Questions.{AreQuestions, IsColumn, no_question, sources_in, target_in}
 use Rattle.olap_cube_summ.specs.declared.questions.Question.{Question}
-use Rattle.olap_base.proofs.ListLemmas.{get_or_inside}
 
 -- ---- tuples
 
@@ -43,8 +39,7 @@ tuple_at ts k t l e = get_or-map tuple_of ts k t [] l ∙ ap tuple_of (sym e)
 -- what all tuples keep, it keeps
 pub kept_at : (P : List ℕ → Type 0) (ts : List Tuple) (k : ℕ) (t : Tuple) → k < length ts → t ≡ get_or ts k t
     → All P (tuples_in ts) → P (tuple_of t)
-kept_at P ts k t l e all = subst P (tuple_at ts k t l e)
-    (all k [] (subst (λ w. k < w) (sym (length-map ts tuple_of)) l))
+kept_at P ts k t l e all = subst P (tuple_at ts k t l e) (all k [] (rw length-map l))
 
 -- the i-th categories of the first tuples, and that of one tuple more
 pub column_more : (ts : List Tuple) (i k : ℕ) (t : Tuple) (old new : List CatId) (c : CatId) → k < length ts
@@ -54,7 +49,7 @@ pub column_more : (ts : List Tuple) (i k : ℕ) (t : Tuple) (old new : List CatI
 column_more ts i k t old new c l is e n so =
     let cut : List ℕ → ℕ = λ w. get_or w i 0 in
     let all = tuples_in ts in
-    let inside : k < length all = subst (λ w. k < w) (sym (length-map ts tuple_of)) l in
+    let inside : k < length all = rw length-map l in
     ap numbers_of e ∙ map-append (λ (d : CatId). d.0) old (c ∷ []) ∙ ap (λ (ns : List ℕ). ns ++ c.0 ∷ []) so
     ∙ ap (λ m. map cut (take k all) ++ m ∷ []) (n ∙ ap cut (sym (tuple_at ts k t l is)))
     ∙ sym (map-append cut (take k all) (get_or all k [] ∷ [])) ∙ ap (map cut) (sym (take_more all k [] inside))

@@ -1,28 +1,16 @@
 -- The pattern of a frozen dimension, source by source.
 use Rattle.std.proofs.Common.{◌≡◌, ◌≢◌, ℕ, suc, ◌+◌, ◌*◌, ◌%◌, ◌<◌, ◌≤◌, ◌^◌, ◌↔◌, List, Bool, length, get_or, refl, ap, sym, subst, ◌∙◌, inl, inr, arith}
-use Rattle.std.specs.Prelude.{IsTrue, slice_index}
-use Rattle.std.specs.Int.{bit_at}
-use Rattle.std.specs.Int.Bits.{bit_or, or_add_and}
-use Rattle.std.proofs.Math.Nat.{pow-succ'}
-use Rattle.std.proofs.Math.Pow.{pow_mono}
-use Rattle.std.proofs.lemmas.List.{get_or-map}
+use Rattle.std.proofs.{Math.Nat.pow-succ', Math.Pow.pow_mono, lemmas.List.get_or-map}
 use Rattle.std.proofs.lemmas.Nat.Bits.{bit_at-lt, bit_at_above, bit_at_or, bit_at-pow_other, bit_at-pow_same}
-use Rattle.olap_ast.specs.Formula.{Formula.Reach, Formula.Via}
-use Rattle.olap_ast.specs.Frozen.{AreCandidates, IsFrozen}
-use Rattle.olap_ast.specs.Schema.{Schema}
-use Rattle.olap_base.specs.Instance.{Instance, IsMemberOf, ReachesVia}
-use Rattle.olap_ast.proofs.SameAtoms.{candidates_too, frozen_too}
-use Rattle.olap_cube_summ.specs.Found.{chosen_of}
-use Rattle.olap_frozen.specs.declared.founding.Found.{Found}
-use Rattle.olap_frozen.specs.LeastFound.{frozen_of}
-use Rattle.olap_names.specs.Names.{candidates_of}
-use Rattle.olap_cube_summ.specs.Masks.{Has}
+use Rattle.std.specs.{Int.bit_at, Int.Bits.{bit_or, or_add_and}, Prelude.{IsTrue, slice_index}}
+use Rattle.olap_ast.{proofs.SameAtoms.{candidates_too, frozen_too}, specs.Formula.{Formula.Reach, Formula.Via}}
+use Rattle.olap_ast.specs.{Frozen.{AreCandidates, IsFrozen}, Schema.Schema, Trees.numbers_of}
+use Rattle.olap_base.{proofs.GeneralLemmas.below_or_same, specs.Instance.{Instance, IsMemberOf, ReachesVia}}
 use Rattle.olap_base.specs.declared.ids.CatId.{CatId}
-use Rattle.olap_ast.specs.Trees.{numbers_of}
-use Rattle.olap_cube_summ.specs.Ways.{HasWaysTo}
-use Rattle.olap_cube_summ.specs.Patterns.{IsFoundFor, shape_of}
-use Rattle.olap_cube_summ.proofs.BelowLemmas.{below_suc}
-use Rattle.olap_cube_summ.proofs.SearchLemmas.{at_root}
+use Rattle.olap_cube_summ.{proofs.SearchLemmas.at_root, specs.Found.chosen_of, specs.Masks.Has}
+use Rattle.olap_cube_summ.specs.{Patterns.{IsFoundFor, shape_of}, Ways.HasWaysTo}
+use Rattle.olap_frozen.specs.{LeastFound.frozen_of, declared.founding.Found.Found}
+use Rattle.olap_names.specs.Names.{candidates_of}
 
 module _ (s : Schema) (c : ℕ) (found : Found) (serves : IsFoundFor s c found) where
   -- the question by way of a source has the same names
@@ -44,8 +32,7 @@ module _ (s : Schema) (c : ℕ) (found : Found) (serves : IsFoundFor s c found) 
       back : ReachesVia (shape_of s (chosen_of found)) x d c
           → ReachesVia (shape_of s (chosen_of found)) serves.chosen.is_one.stands_for.root d c
       back v = let z = serves.chosen.is_one.stands_for in
-          subst (λ y. ReachesVia (shape_of s (chosen_of found)) y d c)
-          (z.one_each x z.root m.0 z.root_is.0 (m.1 ∙ sym z.root_is.1)) v
+          rw (z.one_each x z.root m.0 z.root_is.0 (m.1 ∙ sym z.root_is.1)) at v
 
 -- ---- one source more
 
@@ -64,21 +51,18 @@ module _ (i : Instance) (x c : ℕ) (column : List ℕ) (k m : ℕ) (small : m <
     (before : HasWaysTo k i x c column m) where
   pub way_put : (b : ℕ) → b ≡ 2 ^ k → ReachesVia i x (slice_index column k) c
       → HasWaysTo (k + 1) i x c column (bit_or m b)
-  way_put b bit way j l = elim (below_suc j k (omega arith)) [
+  way_put b bit way j l = elim (below_or_same j k (omega arith)) [
     | inl h ↦ let o = put_other m k b bit j (omega arith) in let t = before j h in
         (λ y. t.0 (o.0 y), λ y. o.1 (t.1 y))
-    | inr e ↦ (
-      λ y. subst (λ w. ReachesVia i x (slice_index column w) c) (sym e) way,
-      λ y. subst (Has (bit_or m b)) (sym e) (put_same m k b bit),
-    )
+    | inr e ↦ (λ y. rw e way, λ y. rw e (put_same m k b bit))
   ]
 
   pub way_passed : (ReachesVia i x (slice_index column k) c → ⊥) → HasWaysTo (k + 1) i x c column m
-  way_passed none j l = elim (below_suc j k (omega arith)) [
+  way_passed none j l = elim (below_or_same j k (omega arith)) [
     | inl h ↦ before j h
     | inr e ↦ (
       λ y. absurd (let z = bit_at_above m k j small (omega arith) in omega arith),
-      λ y. absurd (none (subst (λ w. ReachesVia i x (slice_index column w) c) e y)),
+      λ y. absurd (none (rw e at y)),
     )
   ]
 

@@ -1,18 +1,14 @@
 -- Tuples that a tuple reaches, dimension by dimension.
 --     none_here, none_on one dimension more in which nothing is reached
 use Rattle.std.proofs.Common.{◌≡◌, ℕ, suc, ◌+◌, ◌<◌, ◌≤◌, List, [], ◌∷◌, ◌++◌, length, drop, refl, sym, ap, subst, ◌∙◌, arith, append_assoc, append-nil}
-use Rattle.std.proofs.Math.ListN.{set}
-use Rattle.std.proofs.lemmas.List.{drop_all, length-map}
-use Rattle.olap_base.specs.Instance.{Instance, ReachesCategory}
-use Rattle.olap_base.specs.declared.ids.MemberId.{MemberId}
+use Rattle.std.proofs.{Math.ListN.set, lemmas.List.{drop_all, length-map}}
+use Rattle.olap_base.specs.{Instance.{Instance, ReachesCategory}, declared.ids.MemberId.MemberId}
 use Rattle.olap_legal.specs.Ancestors.{IsAncestor}
-use Rattle.olap_cube.specs.Tuples.{IsTupleOf, TupleReaches}
+use Rattle.olap_cube.specs.{Limits.most_dimensions, Tuples.{IsTupleOf, TupleReaches}}
 use Rattle.olap_view.specs.Columns.{Ascent}
-use Rattle.olap_cube_views.specs.CubeTallies.{AreMembers, IsTupleAncestor, ReachesNone, key_of}
-use Rattle.olap_cube_views.specs.Dimensions.{categories_in, instances_in}
-use Rattle.olap_cube.specs.Limits.{most_dimensions}
-use Rattle.olap_cube_views.specs.Seen.{members_of}
 use Rattle.olap_cube_views.proofs.KeyLemmas.{filled_more}
+use Rattle.olap_cube_views.specs.CubeTallies.{AreMembers, IsTupleAncestor, ReachesNone, key_of}
+use Rattle.olap_cube_views.specs.{Dimensions.{categories_in, instances_in}, Seen.members_of}
 
 -- a tuple has a member for each instance
 pub tuple_length : (is : List Instance) (cs ys : List ℕ) → IsTupleOf is cs ys → length ys ≡ length is

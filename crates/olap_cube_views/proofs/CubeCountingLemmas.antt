@@ -1,19 +1,14 @@
 -- One record more of a cube's facts, a fault, and the end.
 --     counted-header, counted-fact, header-fault, fact-fault, all-counted, no-header
 use Rattle.std.proofs.Common.{◌≡◌, ◌∷◌, ◌++◌, ◌+◌, ◌∙◌, ◌↔◌, ℕ, Bool, true, false, List, [], Option, None, Some, IsTrue, length, map, refl, sym, ap, append_assoc}
-use Rattle.std.specs.Prelude.{Ok, Err}
-use Rattle.std.proofs.lemmas.List.{append-nil, map-append}
-use Rattle.olap_base.specs.Graph.{Graph}
-use Rattle.olap_base.specs.Instance.{Instance}
-use Rattle.olap_base.specs.Limits.{most_facts}
-use Rattle.olap_records.specs.Faults.{first_fault, or_after}
+use Rattle.std.{proofs.lemmas.List.{append-nil, map-append}, specs.Prelude.{Ok, Err}}
+use Rattle.olap_base.specs.{Graph.Graph, Instance.Instance, Limits.most_facts, Views.Fact}
+use Rattle.olap_records.specs.{Faults.{first_fault, or_after}, Tables.{begins_with, or_read}}
 use Rattle.olap_facts.specs.declared.kinds.FactKind.{FactKind}
-use Rattle.olap_facts.specs.declared.kinds.FactKind.TheVariants as kind
-use Rattle.olap_base.specs.Views.{Fact}
+use Rattle.olap_cube_views.proofs.CubeReadingLemmas.{header_is}
 use Rattle.olap_cube_views.specs.CubeFactText.{cube_fact_fault_within, cube_fact_read, cube_facts_read_within, header}
 use Rattle.olap_cube_views.specs.CubeFeeding.{Counted, IsFresh, IsGoing}
-use Rattle.olap_cube_views.proofs.CubeReadingLemmas.{header_is}
-use Rattle.olap_records.specs.Tables.{begins_with, or_read}
+use Rattle.olap_facts.specs.declared.kinds.FactKind.TheVariants as kind
 
 module _ (gs : List Graph) (is : List Instance) (done : List (List (List ℕ))) (facts : List (Fact (List ℕ)))
     (row : List (List ℕ)) where

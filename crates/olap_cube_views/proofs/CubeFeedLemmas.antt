@@ -1,37 +1,15 @@
 -- A roller of a cube's facts after a part of a piece, and at the end of its text.
---     no-cut, one-cut    what the splitter says of the rest of a piece
-use Rattle.std.proofs.Common.{◌≡◌, ◌+◌, ◌-◌, ◌∷◌, ◌++◌, ◌∙◌, Bool, true, false, ℕ, List, [], length, take, drop, refl, sym, ap, subst}
+use Rattle.std.proofs.{Common.{◌≡◌, ◌∷◌, ◌++◌, ◌∙◌, true, ℕ, List, [], refl, sym, ap, subst}, lemmas.List.append-nil}
 use Rattle.std.specs.Prelude.{MatchResult, Result, Ok, Err, ⊤}
-use Rattle.std.proofs.lemmas.List.{append-nil}
-use Rattle.olap_base.proofs.ListLemmas.{rest_is}
-use Rattle.olap_base.specs.Graph.{Graph}
-use Rattle.olap_base.specs.Instance.{Instance}
-use Rattle.olap_base.specs.Limits.{most_facts}
-use Rattle.olap_base.specs.Refusing.{IsRefusedBy}
-use Rattle.olap_base.specs.declared.refusals.Fault.{Fault}
-use Rattle.olap_base.specs.declared.refusals.Refusal.{Refusal}
-use Rattle.olap_records.specs.Standing.{Standing, at_start, behind, records_fed, records_if, standing}
+use Rattle.olap_base.specs.{Graph.Graph, Instance.Instance, Limits.most_facts, Refusing.IsRefusedBy}
+use Rattle.olap_base.specs.declared.refusals.{Fault.Fault, Refusal.Refusal}
+use Rattle.olap_records.specs.Standing.{Standing, at_start, behind, records_fed, standing}
 use Rattle.olap_facts.specs.declared.kinds.FactKind.{FactKind}
-use Rattle.olap_cube_views.specs.CubeFactText.{cube_facts_read_within}
+use Rattle.olap_cube_views.{proofs.CubeCountingLemmas.all-counted, specs.CubeFactText.cube_facts_read_within}
 use Rattle.olap_cube_views.specs.CubeFeeding.{CubeRolling, HasCounted, HasTakenFacts, cube_fed_read, cube_rolling}
 use Rattle.olap_cube_views.specs.CubeTallies.{CubeTallied, HasTallied}
-use Rattle.olap_cube_views.proofs.CubeCountingLemmas.{all-counted}
 
--- what the splitter says of the rest of a piece, without or with a record
-module _ (piece : List ℕ) (at n : ℕ) (found : Bool) (row : List (List ℕ)) (s new : Standing)
-    (h : standing s (take n (take (length piece - at) (drop at piece))) ≡ behind (records_if found row) new)
-  where
-    pub no-cut : found ≡ false → standing s (take n (drop at piece)) ≡ behind [] new
-    no-cut e =
-        ap (λ xs. standing s (take n xs)) (sym (rest_is at piece)) ∙ h
-        ∙ ap (λ b. behind (records_if b row) new) e
-
-    pub one-cut : found ≡ true → standing s (take n (drop at piece)) ≡ behind (row ∷ []) new
-    one-cut e =
-        ap (λ xs. standing s (take n xs)) (sym (rest_is at piece)) ∙ h
-        ∙ ap (λ b. behind (records_if b row) new) e
-
-module _ (gs : List Graph) (is : List Instance) (target fed : List ℕ) (r : CubeRolling)
+module _ {gs : List Graph} {is : List Instance} {target fed : List ℕ} {r : CubeRolling}
     (h : HasTakenFacts gs is target fed r) where
   -- no record more
   pub taken-none : (more : List ℕ) (new : Standing) → standing at_start more ≡ behind h.done new

@@ -1,24 +1,16 @@
 -- What is read of a text of a cube's facts is what it means.
 use Rattle.std.proofs.Common.{◌≡◌, ◌∙◌, ◌+◌, ◌∷◌, ap, arith, ℕ, ℤ, pos, Bool, true, false, cond, List, [], length, map, Option, Some, None, Result, Ok, refl}
-use Rattle.std.specs.Prelude.{◌==◌, Err, codes, is_none, nat_le, not, unwrap_or}
-use Rattle.std.specs.Option.{option_map, option_or}
-use Rattle.olap_base.specs.Following.{given, goes_on}
-use Rattle.olap_base.specs.Graph.{Graph}
-use Rattle.olap_base.specs.Instance.{Instance, category_of}
-use Rattle.olap_records.specs.Faults.{field, first_fault}
-use Rattle.olap_records.specs.Tables.{all_read, at_record, named, or_read}
+use Rattle.std.specs.{Option.{option_map, option_or}, Prelude.{◌==◌, Err, codes, is_none, nat_le, not, unwrap_or}}
+use Rattle.olap_base.specs.{Following.{given, goes_on}, Graph.Graph, Instance.{Instance, category_of}, Views.Fact}
 use Rattle.olap_records.proofs.TableLemmas.{all_read-named, at_record-named, or_value, table_meant-named}
+use Rattle.olap_records.specs.{Faults.{field, first_fault}, Tables.{all_read, at_record, named, or_read}}
 use Rattle.olap_instance.specs.Members.{member_named, member_number}
 use Rattle.olap_numerals.specs.Values.{value_of}
-use Rattle.olap_facts.specs.FactMeaning.{value_meant}
-use Rattle.olap_facts.specs.FactText.{is_bottom}
-use Rattle.olap_facts.specs.Kinds.{name_of_kind}
-use Rattle.olap_facts.specs.declared.kinds.FactKind.{FactKind}
-use Rattle.olap_facts.specs.declared.kinds.FactKind.TheVariants as kind
-use Rattle.olap_facts.proofs.MeaningLemmas.{value-named}
-use Rattle.olap_base.specs.Views.{Fact}
+use Rattle.olap_facts.{proofs.MeaningLemmas.value-named, specs.FactMeaning.value_meant, specs.FactText.is_bottom}
+use Rattle.olap_facts.specs.{Kinds.name_of_kind, declared.kinds.FactKind.FactKind}
 use Rattle.olap_cube_views.specs.CubeFactMeaning.{cube_fact_meant, cube_facts_meant, members_meant}
 use Rattle.olap_cube_views.specs.CubeFactText.{cube_fact_fault_within, cube_fact_read, cube_facts_read_within, header, member_fault, members_fault, members_read, value_fault_within}
+use Rattle.olap_facts.specs.declared.kinds.FactKind.TheVariants as kind
 
 -- ---- one after the other
 

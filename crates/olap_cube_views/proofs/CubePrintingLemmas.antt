@@ -1,21 +1,16 @@
 -- Printing a cube's view row by row, and reading its text back.
 use Rattle.std.proofs.Common.{◌≡◌, ℕ, zero, suc, ◌+◌, ◌<◌, ◌≤◌, ◌++◌, ◌∷◌, ◌∙◌, List, [], length, map, take, drop, get_or, arith, refl, sym, ap, subst, append_assoc, append-nil, length-append}
+use Rattle.std.proofs.lemmas.List.{drop_all, get_or-map, length-map, map-append, take_more, Elements.All-map}
 use Rattle.std.specs.Prelude.{All}
-use Rattle.std.proofs.lemmas.List.Elements.{All-map}
-use Rattle.std.proofs.lemmas.List.{drop_all, get_or-map, length-map, map-append, take_more}
-use Rattle.olap_base.specs.Instance.{Instance, IsMember, member_at}
-use Rattle.olap_base.specs.Views.{Row, View}
-use Rattle.olap_view.specs.Seen.{summary_of}
-use Rattle.olap_records.specs.Records.{records_of}
+use Rattle.olap_base.specs.{Instance.{Instance, IsMember, member_at}, Views.{Row, View}}
+use Rattle.olap_view.specs.{Seen.summary_of, ViewText.numbers_of}
+use Rattle.olap_records.{proofs.ReadingBack.{text-back, texts-push}, specs.Records.records_of}
 use Rattle.olap_records.specs.Texts.{text_of_row, text_of_rows}
-use Rattle.olap_records.proofs.ReadingBack.{text-back, texts-push}
-use Rattle.olap_cube_views.specs.CubeTallies.{AreMembers}
+use Rattle.olap_cube_views.{proofs.AncestorLemmas.members_length, specs.CubeTallies.AreMembers}
 use Rattle.olap_cube_views.specs.CubeViewText.{cube_view_text, fields_in, header, ids_in, records_of_cube_view}
-use Rattle.olap_view.specs.ViewText.{numbers_of}
 use Rattle.olap_cube_views.specs.Seen.{cube_row_of, cube_rows_of}
-use Rattle.olap_cube_views.specs.declared.views.CubeRow as told
-use Rattle.olap_cube_views.proofs.AncestorLemmas.{members_length}
 use Rattle.olap_instance.proofs.Passing.{all-full}
+use Rattle.olap_cube_views.specs.declared.views.CubeRow as told
 
 -- ---- the ids of a row's members
 

@@ -1,34 +1,22 @@
 -- The fields of a record that name members, from left to right, and the records of a text.
-use Rattle.std.proofs.Common.{◌≡◌, ◌↔◌, ℕ, suc, ◌+◌, ◌≤◌, List, [], ◌∷◌, ◌++◌, length, get_or, map, drop, Bool, true, IsTrue, Option, Some, None, Ok, Err, refl, sym, ap, subst, ◌∙◌, inl, inr, arith, append_assoc, append-nil}
-use Rattle.std.specs.Prelude.{All}
-use Rattle.std.specs.Bool.{one_answer}
-use Rattle.std.specs.Cmp.Lexicographic.{pointwise}
-use Rattle.std.specs.Option.{option_or}
-use Rattle.std.specs.Str.{bytes_eq}
-use Rattle.std.proofs.lemmas.List.{drop_all, length-map, map-append}
+use Rattle.std.proofs.Common.{◌≡◌, ◌↔◌, ℕ, suc, ◌+◌, ◌<◌, ◌≤◌, Bor, List, [], ◌∷◌, ◌++◌, length, get_or, map, drop, Bool, true, IsTrue, Option, Some, None, Ok, Err, refl, sym, ap, subst, ◌∙◌, inl, inr, arith, append_assoc, append-nil}
+use Rattle.std.proofs.lemmas.List.{drop_all, drop_more, length-map, map-append}
 use Rattle.std.proofs.lemmas.List.Elements.{Contains-get_or, Contains-push_cases}
-use Rattle.std.proofs.lemmas.Slice.Eq.{bytes_eq-Decides, slice_eq-Decides}
-use Rattle.olap_base.specs.Graph.{Graph, IsBottom}
-use Rattle.olap_base.specs.Instance.{Instance, IsMember, category_of}
-use Rattle.olap_base.proofs.ListLemmas.{Contains-map}
-use Rattle.olap_instance.specs.Made.{IsMadeFor}
-use Rattle.olap_records.specs.Faults.{first_fault}
+use Rattle.std.{proofs.lemmas.Slice.Eq.{bytes_eq-Decides, slice_eq-Decides}, specs.Bool.one_answer}
+use Rattle.std.specs.{Cmp.Lexicographic.pointwise, Option.option_or, Prelude.All, Str.bytes_eq}
+use Rattle.olap_base.{proofs.ListLemmas.Contains-map, specs.Graph.{Graph, IsBottom}}
+use Rattle.olap_base.specs.{Instance.{Instance, IsMember, category_of}, Refusing.IsRefusedBy, Views.Fact}
+use Rattle.olap_base.specs.declared.refusals.{Fault.Fault, Refusal.Refusal}
+use Rattle.olap_instance.specs.{Made.IsMadeFor, Members.member_number}
+use Rattle.olap_records.{proofs.Seeing.{HasSeen, see-fault}, specs.Faults.first_fault}
 use Rattle.olap_records.specs.Tables.{begins_with, or_read}
-use Rattle.olap_records.proofs.Seeing.{HasSeen, see-fault}
 use Rattle.olap_facts.specs.declared.kinds.FactKind.{FactKind}
-use Rattle.olap_base.specs.Refusing.{IsRefusedBy}
-use Rattle.olap_base.specs.declared.refusals.Fault.{Fault}
-use Rattle.olap_base.specs.declared.refusals.Refusal.{Refusal}
-use Rattle.olap_base.specs.declared.refusals.Refusal.TheVariants as refusal
-use Rattle.olap_base.specs.Views.{Fact}
-use Rattle.olap_cube.specs.CubeViews.{IsCubeFactTable}
-use Rattle.olap_cube.specs.Tuples.{IsBottomTuple}
+use Rattle.olap_cube.specs.{CubeViews.IsCubeFactTable, Tuples.IsBottomTuple}
+use Rattle.olap_cube_views.proofs.ReferenceLemmas.{mapped_from}
 use Rattle.olap_cube_views.specs.CubeFactText.{cube_fact_fault, cube_fact_read, cube_facts_read, header, member_fault, members_fault, members_read}
-use Rattle.olap_instance.specs.Members.{member_number}
-use Rattle.olap_cube_views.specs.CubeRefusals.{IsFaultCause, IsToldAt}
-use Rattle.olap_cube_views.specs.CubeTallies.{AreMembers}
-use Rattle.olap_cube_views.specs.Dimensions.{AreMadeFor}
-use Rattle.olap_cube_views.specs.Seen.{cube_fact_of, members_of}
+use Rattle.olap_cube_views.specs.{CubeRefusals.{IsFaultCause, IsToldAt}, CubeTallies.AreMembers}
+use Rattle.olap_cube_views.specs.{Dimensions.{AreMadeFor, graphs_of}, Seen.{cube_fact_of, members_of}}
+use Rattle.olap_base.specs.declared.refusals.Refusal.TheVariants as refusal
 use Rattle.olap_cube_views.specs.declared.tables.CubeFact as told
 
 -- there is a graph for each instance
@@ -49,65 +37,81 @@ bottom_members (g ∷ gs) (i ∷ is) (x ∷ xs) b = (b.0.0, bottom_members gs is
 
 -- ---- the members of a record
 
-module _ (gs : List Graph) (is : List Instance) (row : List (List ℕ)) where
-  -- the first k fields have no fault and name these members; what the others say goes after it
-  pub record MembersSoFar (k : ℕ) (xs : List ℕ) : Type 0 where
+-- the first k fields have no fault and name these members; what the others say goes after it
+pub record MembersSoFar (gs : List Graph) (is : List Instance) (row : List (List ℕ)) (k : ℕ) (xs : List ℕ) : Type 0
+  where
     pub faults : members_fault gs is row ≡ members_fault (drop k gs) (drop k is) (drop k row)
     pub read : members_read is row ≡ xs ++ members_read (drop k is) (drop k row)
     pub bottom : (ys : List ℕ) → IsBottomTuple (drop k gs) (drop k is) ys → IsBottomTuple gs is (xs ++ ys)
     pub made : AreMadeFor (drop k gs) (drop k is)
 
-  module _ (k : ℕ) (xs : List ℕ) (h : MembersSoFar k xs) (g : Graph) (i : Instance) (f : List ℕ)
-      (dg : drop k gs ≡ g ∷ drop (k + 1) gs) (di : drop k is ≡ i ∷ drop (k + 1) is)
-      (dr : drop k row ≡ f ∷ drop (k + 1) row) where
+-- the fields of a record, where p of the items of xs are the instances
+module _ {X : Type 0} (graphs : List (Bor Graph)) (p : X → Instance) (xs : List X) (row : List (List ℕ))
+    (made : AreMadeFor (graphs_of graphs) (map p xs)) {k : ℕ} {ms : List ℕ}
+    (h : MembersSoFar (graphs_of graphs) (map p xs) row k ms) where
+  abbrev gs : List Graph
+  gs = graphs_of graphs
+
+  abbrev is : List Instance
+  is = map p xs
+
+  -- there is a graph for each of the items
+  pub graph_within : k < length xs → k < length graphs
+  graph_within inside =
+      let n = made_length gs is made in
+      let a = length-map graphs (λ (s : Bor Graph). s.now) in
+      let b = length-map xs p in
+      omega arith
+
+  module _ (width : length row ≡ length xs + 1) (inside : k < length xs) {g : Bor Graph} (d : X) {i : Instance}
+      {f : List ℕ} (g-is : g ≡ get_or graphs k g) (i-is : i ≡ p (get_or xs k d)) (f-is : f ≡ get_or row k []) where
+    dg : drop k gs ≡ g.now ∷ drop (k + 1) gs
+    dg = mapped_from (λ s. s.now) graphs k g.now g (graph_within inside) (ap (λ (s : Bor Graph). s.now) g-is)
+
+    di : drop k is ≡ i ∷ drop (k + 1) is
+    di = mapped_from p xs k i d inside i-is
+
+    dr : drop k row ≡ f ∷ drop (k + 1) row
+    dr = drop_more row k [] (omega arith) ∙ ap (λ (e : List ℕ). e ∷ drop (k + 1) row) (sym f-is)
+
     -- the next instance was made for its graph, and the others for theirs
-    made_next : AreMadeFor (g ∷ drop (k + 1) gs) (i ∷ drop (k + 1) is)
-    made_next = subst (λ t. AreMadeFor t (i ∷ drop (k + 1) is)) dg (subst (λ t. AreMadeFor (drop k gs) t) di h.made)
+    made_next : AreMadeFor (g.now ∷ drop (k + 1) gs) (i ∷ drop (k + 1) is)
+    made_next = rw (dg, di) at h.made
 
     -- the next instance was made for its graph
-    pub made_here : IsMadeFor g i
+    pub made_here : IsMadeFor g.now i
     made_here = made_next.0
 
     -- the first fault is the next field's, if it has one, else that of those after it
     faults_here : members_fault gs is row
-        ≡ option_or (member_fault g i f) (members_fault (drop (k + 1) gs) (drop (k + 1) is) (drop (k + 1) row))
-    faults_here = h.faults ∙ ap (λ t. members_fault t (drop k is) (drop k row)) dg
-        ∙ ap (λ t. members_fault (g ∷ drop (k + 1) gs) t (drop k row)) di
-        ∙ ap (λ t. members_fault (g ∷ drop (k + 1) gs) (i ∷ drop (k + 1) is) t) dr
+        ≡ option_or (member_fault g.now i f) (members_fault (drop (k + 1) gs) (drop (k + 1) is) (drop (k + 1) row))
+    faults_here = rw (dg, di, dr) at h.faults
 
     -- one field more, which names a member of a bottom category
-    pub members_more : (x : ℕ) → member_fault g i f ≡ None → x ≡ member_number i f → IsMember i x
-        → IsBottom g (category_of i x) → MembersSoFar (k + 1) (xs ++ x ∷ [])
-    members_more x none same inside bottom = record {
-      faults = faults_here
-          ∙ ap (λ o. option_or o (members_fault (drop (k + 1) gs) (drop (k + 1) is) (drop (k + 1) row))) none;
-      read = h.read ∙ ap (λ t. xs ++ members_read t (drop k row)) di
-          ∙ ap (λ t. xs ++ members_read (i ∷ drop (k + 1) is) t) dr
-          ∙ ap (λ y. xs ++ y ∷ members_read (drop (k + 1) is) (drop (k + 1) row)) (sym same)
-          ∙ sym (append_assoc xs (x ∷ []) (members_read (drop (k + 1) is) (drop (k + 1) row)));
-      bottom = λ ys b. subst (IsBottomTuple gs is) (sym (append_assoc xs (x ∷ []) ys))
-          (h.bottom (x ∷ ys) (subst (λ t. IsBottomTuple t (drop k is) (x ∷ ys)) (sym dg)
-          (subst (λ t. IsBottomTuple (g ∷ drop (k + 1) gs) t (x ∷ ys)) (sym di) ((inside, bottom), b))));
+    pub members_more : (x : ℕ) → member_fault g.now i f ≡ None → x ≡ member_number i f → IsMember i x
+        → IsBottom g.now (category_of i x) → MembersSoFar gs is row (k + 1) (ms ++ x ∷ [])
+    members_more x none same member bottom = record {
+      faults = rw none at faults_here;
+      read = rw (append_assoc, same) (rw (di, dr) at h.read);
+      bottom = λ ys b. rw append_assoc (h.bottom (x ∷ ys) (rw (dg, di) ((member, bottom), b)));
       made = made_next.1;
     }
 
     -- the next field has a fault, and it is the first
-    pub members_stop : (kind : FactKind) → member_fault g i f ≡ Some kind → members_fault gs is row ≡ Some kind
-    members_stop kind e = faults_here
-        ∙ ap (λ o. option_or o (members_fault (drop (k + 1) gs) (drop (k + 1) is) (drop (k + 1) row))) e
+    pub members_stop : (kind : FactKind) → member_fault g.now i f ≡ Some kind → members_fault gs is row ≡ Some kind
+    members_stop kind e = rw e at faults_here
 
   -- no field has a fault, and they name a tuple of members of bottom categories
-  pub members_end : (k : ℕ) (xs : List ℕ) → AreMadeFor gs is → length is ≤ k → MembersSoFar k xs
-      → (members_fault gs is row ≡ None) × (xs ≡ members_read is row) × IsBottomTuple gs is xs
-  members_end k xs m l h =
-      let no_is = drop_all k is l in
-      let n = made_length gs is m in
+  pub members_end : length xs ≤ k
+      → (members_fault gs is row ≡ None) × (ms ≡ members_read is row) × IsBottomTuple gs is ms
+  members_end l =
+      let b = length-map xs p in
+      let n = made_length gs is made in
+      let no_is = drop_all k is (omega arith) in
       let no_gs = drop_all k gs (omega arith) in (
-        h.faults ∙ ap (λ t. members_fault t (drop k is) (drop k row)) no_gs,
-        sym (h.read ∙ ap (λ t. xs ++ members_read t (drop k row)) no_is ∙ append-nil xs),
-        subst (IsBottomTuple gs is) (append-nil xs) (h.bottom []
-            (subst (λ t. IsBottomTuple t (drop k is) []) (sym no_gs)
-            (subst (λ t. IsBottomTuple [] t []) (sym no_is) tt))),
+        rw no_gs at h.faults,
+        sym ((rw no_is at h.read) ∙ append-nil ms),
+        subst (IsBottomTuple gs is) (append-nil ms) (h.bottom [] (rw (no_gs, no_is) tt)),
       )
 
 -- ---- records

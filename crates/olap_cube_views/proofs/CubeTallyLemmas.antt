@@ -1,42 +1,25 @@
 -- For which fact tables a tally of a cube stands.
 --     tally_*                       what is true of every tally
 use Rattle.std.proofs.Common.{◌≡◌, ℕ, ◌+◌, ◌≤◌, List, [], ◌∷◌, ◌++◌, length, map, take, Bool, true, false, cond, refl, ap, sym, subst, ◌∙◌, arith, Option, Some, None, w64, length-append}
+use Rattle.std.proofs.lemmas.{Cmp.nat_list_cmp_total, List.{append-nil, length-map, map-append}}
+use Rattle.std.proofs.lemmas.{List.Elements.{All-cons, All-nil, All-push, filter-append}, Map.Lookups.exact_bytes}
+use Rattle.std.specs.{BTreeMap.is_at, Cmp.tied_itself, List.cons_option, List.Sorted.IsStrictlySortedBy}
+use Rattle.std.specs.{Map.{keys_of, lookup}, Ordering.is_eq}
 use Rattle.std.specs.Prelude.{All, filter_map, Contains, IsSome, filter, if◌then◌else◌}
-use mir.Val.{SFits}
-use Rattle.std.specs.BTreeMap.{is_at}
-use Rattle.std.specs.Cmp.{tied_itself}
-use Rattle.std.specs.List.Sorted.{IsStrictlySortedBy}
-use Rattle.std.specs.List.{cons_option}
-use Rattle.std.specs.Map.{keys_of, lookup}
-use Rattle.std.specs.Ordering.{is_eq}
-use Rattle.std.specs.declared.cmp.Ordering.{Ordering}
-use Rattle.std.specs.declared.cmp.Ordering.TheVariants.{Less, Equal, Greater}
-use Rattle.std.proofs.lemmas.Cmp.{nat_list_cmp_total}
-use Rattle.std.proofs.lemmas.List.{append-nil, length-map, map-append}
-use Rattle.std.proofs.lemmas.List.Elements.{All-cons, All-nil, All-push, filter-append}
-use Rattle.std.proofs.lemmas.Map.Lookups.{exact_bytes}
-use Rattle.olap_base.specs.Deciding.{contains_cons}
-use Rattle.olap_base.specs.Instance.{Instance}
-use Rattle.olap_base.specs.Limits.{most_count}
+use Rattle.std.specs.declared.cmp.Ordering.{Ordering, TheVariants.{Less, Equal, Greater}}
+use Rattle.olap_base.proofs.{ListLemmas.{contains_head, filter_map_same}, TotalLemmas.{total_push, ⊕_none}}
+use Rattle.olap_base.specs.{Deciding.contains_cons, Instance.Instance, Limits.most_count}
 use Rattle.olap_base.specs.Summaries.{Summary, of_value, total, ◌⊕◌}
-use Rattle.olap_base.proofs.ListLemmas.{contains_head, filter_map_same}
-use Rattle.olap_base.proofs.TotalLemmas.{total_push, ⊕_none}
 use Rattle.olap_base.specs.Views.{Fact, Row, direct_rows, row_at, total_of_facts, values_at}
-use Rattle.olap_cube.specs.CubeViews.{tuples}
-use Rattle.olap_cube.specs.Tuples.{IsTupleOf, TupleReaches, tuple_reaches, tuples_of}
-use Rattle.olap_cube.proofs.TupleLemmas.{is_tuple_of, tuple_reaches_is, tuples_of_is}
-use Rattle.olap_view.specs.Columns.{Ascent}
-use Rattle.olap_view.specs.Tables.{when}
+use Rattle.olap_cube.{proofs.TupleLemmas.{is_tuple_of, tuple_reaches_is, tuples_of_is}, specs.CubeViews.tuples}
+use Rattle.olap_cube.specs.{Limits.most_dimensions, Tuples.{IsTupleOf, TupleReaches, tuple_reaches, tuples_of}}
+use Rattle.olap_view.specs.{Columns.Ascent, Tables.when}
+use Rattle.olap_cube_views.proofs.{AncestorLemmas.{tuple_length, tuple_members}, KeyLemmas.{filled_same, take-filled}}
+use Rattle.olap_cube_views.proofs.{OrderLemmas.keys-ascend, RowLemmas.rows_are, SumLemmas.{summary_found, summary_push}}
 use Rattle.olap_cube_views.specs.CubeTallies.{AreMembers, CubeStandsFor, CubeTallied, Entry, IsCubeTally, IsKeyOf, IsOwn, IsTupleAncestor, IsWithin, ReachesNone, entries_of, is_key, key_cmp, key_of, row_of_entry, summary_at, tallied}
-use Rattle.olap_cube_views.specs.Dimensions.{categories_in, instances_in}
-use Rattle.olap_cube.specs.Limits.{most_dimensions}
-use Rattle.olap_cube_views.specs.Seen.{cube_row_of, cube_rows_of}
+use Rattle.olap_cube_views.specs.{Dimensions.{categories_in, instances_in}, Seen.{cube_row_of, cube_rows_of}}
+use mir.Val.{SFits}
 use Rattle.olap_cube_views.specs.declared.views.CubeRow as told_row
-use Rattle.olap_cube_views.proofs.AncestorLemmas.{tuple_length, tuple_members}
-use Rattle.olap_cube_views.proofs.KeyLemmas.{filled_same, take-filled}
-use Rattle.olap_cube_views.proofs.OrderLemmas.{keys-ascend}
-use Rattle.olap_cube_views.proofs.RowLemmas.{rows_are}
-use Rattle.olap_cube_views.proofs.SumLemmas.{summary_found, summary_push}
 
 -- ---- totals
 

@@ -1,9 +1,7 @@
 -- Keys of tuples: their numbers, and zeros up to this many.
 use Rattle.std.proofs.Common.{◌≡◌, ℕ, zero, suc, ◌<◌, ◌≤◌, List, [], ◌∷◌, ◌++◌, length, take, refl, sym, ap, ◌∙◌, arith}
-use Rattle.std.proofs.Math.ListN.{set}
-use Rattle.std.specs.Cmp.{nat_cmp_total, tied_itself}
-use Rattle.std.specs.Cmp.Lexicographic.{lists_total, slice_cmp}
-use Rattle.std.specs.Ordering.{nat_cmp, ordering_then}
+use Rattle.std.{proofs.Math.ListN.set, specs.Cmp.{nat_cmp_total, tied_itself}}
+use Rattle.std.specs.{Cmp.Lexicographic.{lists_total, slice_cmp}, Ordering.{nat_cmp, ordering_then}}
 use Rattle.olap_cube_views.specs.CubeTallies.{filled}
 
 -- the numbers of a tuple, back from its key

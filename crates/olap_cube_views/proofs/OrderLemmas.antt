@@ -1,25 +1,14 @@
 -- The tuples of some categories ascend, and so do their keys.
 use Rattle.std.proofs.Common.{◌≡◌, ℕ, zero, suc, ◌+◌, ◌<◌, ◌≤◌, List, [], ◌∷◌, length, map, Bool, true, false, cond, refl, sym, ap, subst, ◌∙◌, inl, inr, arith}
-use Rattle.std.specs.Prelude.{Contains, filter, flat_map}
-use Rattle.std.specs.Cmp.{nat_cmp_total, tied_itself}
-use Rattle.std.specs.Cmp.Lexicographic.{slice_cmp}
-use Rattle.std.specs.List.{range_with_len}
-use Rattle.std.specs.Ordering.{MatchOrdering, nat_cmp, ordering_then}
-use Rattle.std.specs.declared.cmp.Ordering.{Ordering}
-use Rattle.std.specs.declared.cmp.Ordering.TheVariants.{Less, Equal, Greater}
-use Rattle.std.proofs.lemmas.Cmp.{ranked}
-use Rattle.std.proofs.lemmas.List.Elements.{Contains-append_cases}
-use Rattle.olap_base.specs.Deciding.{contains_cons}
-use Rattle.olap_base.specs.Instance.{Instance}
-use Rattle.olap_base.specs.Views.{members_of}
+use Rattle.std.proofs.lemmas.{Cmp.ranked, List.Elements.Contains-append_cases}
+use Rattle.std.specs.{Cmp.{nat_cmp_total, tied_itself}, Cmp.Lexicographic.slice_cmp, List.range_with_len}
+use Rattle.std.specs.{Ordering.{MatchOrdering, nat_cmp, ordering_then}, Prelude.{Contains, filter, flat_map}}
+use Rattle.std.specs.declared.cmp.Ordering.{Ordering, TheVariants.{Less, Equal, Greater}}
 use Rattle.olap_base.proofs.ListLemmas.{Contains-from_filter, Contains-from_map, Contains-from_range_at, Contains-nil, contains_head}
-use Rattle.olap_cube.specs.Tuples.{tuples_of}
-use Rattle.olap_cube.proofs.TupleLemmas.{tuples_of_is}
-use Rattle.olap_cube_views.specs.CubeTallies.{key_cmp, key_of}
-use Rattle.olap_cube.specs.Limits.{most_dimensions}
-use Rattle.olap_cube_views.proofs.AncestorLemmas.{tuple_length}
-use Rattle.olap_cube_views.proofs.KeyLemmas.{filled_order}
-use Rattle.olap_cube_views.proofs.RowLemmas.{Ascends, ascends-append}
+use Rattle.olap_base.specs.{Deciding.contains_cons, Instance.Instance, Views.members_of}
+use Rattle.olap_cube.{proofs.TupleLemmas.tuples_of_is, specs.Limits.most_dimensions, specs.Tuples.tuples_of}
+use Rattle.olap_cube_views.proofs.{AncestorLemmas.tuple_length, KeyLemmas.filled_order}
+use Rattle.olap_cube_views.{proofs.RowLemmas.{Ascends, ascends-append}, specs.CubeTallies.{key_cmp, key_of}}
 
 -- ---- members
 

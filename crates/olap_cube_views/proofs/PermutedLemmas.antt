@@ -1,11 +1,8 @@
 -- A total of items doesn't depend on their order.
 use Rattle.std.proofs.Common.{◌≡◌, ℕ, zero, suc, ◌<◌, List, [], ◌∷◌, length, get_or, set, refl, sym, ap, ◌∙◌, Option, arith}
-use Rattle.std.specs.List.{swap}
+use Rattle.std.{proofs.lemmas.List.Edits.swap_is, proofs.lemmas.List.Sorted.IsPermutation-keeps, specs.List.swap}
 use Rattle.std.specs.List.Sorted.{IsPermutation}
-use Rattle.std.proofs.lemmas.List.Edits.{swap_is}
-use Rattle.std.proofs.lemmas.List.Sorted.{IsPermutation-keeps}
-use Rattle.olap_base.specs.Summaries.{Summary, ◌⊕◌}
-use Rattle.olap_base.proofs.TotalLemmas.{total_by, ⊕_assoc, ⊕_comm, totals_exchanged}
+use Rattle.olap_base.{proofs.TotalLemmas.{total_by, totals_exchanged}, specs.Summaries.{Summary, ◌⊕◌}}
 
 module _ {A : Type 0} (f : A → Option Summary) where
   -- the item at j before the list that has another in its place

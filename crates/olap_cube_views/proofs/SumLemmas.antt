@@ -2,30 +2,23 @@
 --     within_*                           how many values entries are of
 --     IsJoined, joined_*                 entries of one key are joined, side by side
 use Rattle.std.proofs.Common.{◌≡◌, ℕ, zero, suc, ◌+◌, ◌*◌, ◌^◌, ◌<◌, ◌≤◌, List, [], ◌∷◌, ◌++◌, ◌-◌, length, take, drop, get_or, set, Bool, true, false, cond, refl, sym, ap, subst, ◌∙◌, arith, ℤ, pos, Option, Some, None, w64}
-use mir.Val.{SFits}
-use Rattle.std.specs.Prelude.{All, filter, sum_by}
-use Rattle.std.specs.BTreeMap.{is_at}
-use Rattle.std.specs.List.Sorted.{IsPermutation, IsSortedByKey, IsStrictlySortedBy}
-use Rattle.std.specs.Map.{keys_of, lookup}
-use Rattle.std.specs.Ordering.{is_eq, is_lt, ordering_reverse}
-use Rattle.std.specs.declared.cmp.Ordering.{Ordering}
-use Rattle.std.specs.declared.cmp.Ordering.TheVariants.{Less, Equal, Greater}
 use Rattle.std.proofs.lemmas.Cmp.{nat_list_cmp_total}
 use Rattle.std.proofs.lemmas.List.{drop-drop, drop-set-lt, get_or-drop, get_or-map, get_or-set_same, get_or-take, length-map, length-set, length-take-le, map-append, map-set, take_all, take_more, take_more_set, take-set, take-take}
 use Rattle.std.proofs.lemmas.List.Elements.{All-get_or, All-push, All-take}
-use Rattle.std.proofs.lemmas.List.Sums.{sum_by-take-le, sum_by_push}
-use Rattle.std.proofs.lemmas.List.Sorted.{All-permutation, sum_by-IsPermutation}
-use Rattle.std.proofs.lemmas.Map.Keys.{sorted_from_all_adjacent, sorted_tail}
-use Rattle.std.proofs.lemmas.Map.Lookups.{exact_bytes}
-use Rattle.olap_base.specs.Summaries.{Summary, joined, of_value, ◌⊕◌}
+use Rattle.std.proofs.lemmas.List.{Sorted.{All-permutation, sum_by-IsPermutation}, Sums.{sum_by-take-le, sum_by_push}}
+use Rattle.std.proofs.lemmas.Map.{Keys.{sorted_from_all_adjacent, sorted_tail}, Lookups.exact_bytes}
+use Rattle.std.specs.{BTreeMap.is_at, List.Sorted.{IsPermutation, IsSortedByKey, IsStrictlySortedBy}}
+use Rattle.std.specs.{Map.{keys_of, lookup}, Ordering.{is_eq, is_lt, ordering_reverse}, Prelude.{All, filter, sum_by}}
+use Rattle.std.specs.declared.cmp.Ordering.{Ordering, TheVariants.{Less, Equal, Greater}}
 use Rattle.olap_base.proofs.TotalLemmas.{total-append, total-filter, total_by, total_is, ⊕_assoc, ⊕_none}
-use Rattle.olap_view.specs.Bounds.{IsJoinable}
+use Rattle.olap_base.specs.Summaries.{Summary, joined, of_value, ◌⊕◌}
+use Rattle.olap_view.{proofs.SummaryLemmas.{joinable, joined_up_to, up_to_more, value_up_to}, specs.Bounds.IsJoinable}
 use Rattle.olap_view.specs.Seen.{summary_of}
-use Rattle.olap_view.proofs.SummaryLemmas.{joinable, joined_up_to, up_to_more, value_up_to}
+use Rattle.olap_cube_views.proofs.PermutedLemmas.{total_permuted}
 use Rattle.olap_cube_views.specs.CubeTallies.{Entry, IsOwn, IsWithin, entries_of, is_key, key_cmp, summary_at}
 use Rattle.olap_cube_views.specs.Seen.{entry_of}
+use mir.Val.{SFits}
 use Rattle.olap_cube_views.specs.declared.views.CubeRow as told
-use Rattle.olap_cube_views.proofs.PermutedLemmas.{total_permuted}
 use Rattle.olap_cube_views.proofs.RowLemmas as rows
 
 -- ---- what stands at a key

@@ -1,25 +1,18 @@
 -- All choices of a frozen dimension for each dimension of a cube are listed, with one set of candidates; whatever the
 -- candidates, a choice can't be told from one of them.
 use Rattle.std.proofs.Common.{◌≡◌, ℕ, zero, suc, ◌+◌, ◌<◌, List, [], ◌∷◌, ◌++◌, length, map, refl, ap, sym, subst, ◌∙◌, inl, inr, arith}
-use Rattle.std.specs.Prelude.{All, Contains}
-use Rattle.std.proofs.lemmas.List.Elements.{All-head, All-tail}
-use Rattle.olap_base.specs.Deciding.{contains_cases, contains_cons}
-use Rattle.olap_base.specs.Graph.{IsBottom}
+use Rattle.std.{proofs.lemmas.List.Elements.{All-head, All-tail}, specs.Prelude.{All, Contains}}
+use Rattle.olap_base.proofs.GeneralLemmas.{same_or_below_suc}
 use Rattle.olap_base.proofs.ListLemmas.{Contains-from_map, Contains-map, Contains-nil, contains_head}
+use Rattle.olap_base.specs.{Deciding.{contains_cases, contains_cons}, Graph.IsBottom}
+use Rattle.olap_ast.proofs.{Determined.{same_thawed, still_frozen}, SameAtoms.kinds_too}
 use Rattle.olap_ast.specs.Formula.{Formula.Reach, Formula.Truth}
 use Rattle.olap_ast.specs.Frozen.{AreCandidates, Candidates, CandidatesExist, Frozen, IsFrozen, code, thawed}
-use Rattle.olap_ast.specs.Schema.{Schema}
-use Rattle.olap_ast.specs.Valid.{IsValidSchema}
-use Rattle.olap_ast.proofs.Determined.{same_thawed, still_frozen}
-use Rattle.olap_ast.proofs.SameAtoms.{kinds_too}
-use Rattle.olap_cube.specs.Codes.{codes_of}
+use Rattle.olap_ast.specs.{Schema.Schema, Valid.IsValidSchema}
+use Rattle.olap_cube.specs.{Codes.codes_of, CubeSummarizable.{Chosen, IsChosen, bottoms_of, instances_of}}
 use Rattle.olap_cube.specs.Tuples.{AllZip3}
-use Rattle.olap_cube.specs.CubeSummarizable.{Chosen, IsChosen, bottoms_of, instances_of}
-use Rattle.olap_exists.specs.Existing.{FrozenAreListed}
-use Rattle.olap_exists.proofs.Counterexamples.{dec_bottom}
-use Rattle.olap_exists.proofs.FindingsListed.{truth_kinds}
-use Rattle.olap_exists.proofs.Listed.{from_either, in_left, in_right}
-use Rattle.olap_base.proofs.GeneralLemmas.{same_or_below_suc}
+use Rattle.olap_exists.proofs.{Counterexamples.dec_bottom, FindingsListed.truth_kinds}
+use Rattle.olap_exists.{proofs.Listed.{from_either, in_left, in_right}, specs.Existing.FrozenAreListed}
 
 -- ---- the same frozen dimension, whichever candidates it has
 
@@ -35,35 +28,17 @@ AreSame [] [] [] = Unit {0}
 AreSame (s ∷ ss) (p ∷ ps) (q ∷ qs) = SameAs s p q × AreSame ss ps qs
 AreSame _ _ _ = ⊥
 
--- so the bottom categories are the same
-pub same_bottoms : (ss : List Schema) (ps qs : List Chosen) → AreSame ss ps qs → bottoms_of ps ≡ bottoms_of qs
-same_bottoms [] [] [] a = refl
-same_bottoms [] [] (q ∷ qs) a = absurd a
-same_bottoms [] (p ∷ ps) qs a = absurd a
-same_bottoms (s ∷ ss) [] qs a = absurd a
-same_bottoms (s ∷ ss) (p ∷ ps) [] a = absurd a
-same_bottoms (s ∷ ss) (p ∷ ps) (q ∷ qs) a =
-    let r = same_bottoms ss ps qs a.1 in λ i. a.0.bottom i ∷ r i
-
--- and the codes
-pub same_codes : (ss : List Schema) (ps qs : List Chosen) → AreSame ss ps qs → codes_of ps ≡ codes_of qs
-same_codes [] [] [] a = refl
-same_codes [] [] (q ∷ qs) a = absurd a
-same_codes [] (p ∷ ps) qs a = absurd a
-same_codes (s ∷ ss) [] qs a = absurd a
-same_codes (s ∷ ss) (p ∷ ps) [] a = absurd a
-same_codes (s ∷ ss) (p ∷ ps) (q ∷ qs) a = let r = same_codes ss ps qs a.1 in λ i. a.0.codes i ∷ r i
-
--- and the instances
-pub same_instances : (ss : List Schema) (ps qs : List Chosen) → AreSame ss ps qs → instances_of ss ps
-    ≡ instances_of ss qs
-same_instances [] [] [] a = refl
-same_instances [] [] (q ∷ qs) a = absurd a
-same_instances [] (p ∷ ps) qs a = absurd a
-same_instances (s ∷ ss) [] qs a = absurd a
-same_instances (s ∷ ss) (p ∷ ps) [] a = absurd a
-same_instances (s ∷ ss) (p ∷ ps) (q ∷ qs) a =
-    let r = same_instances ss ps qs a.1 in λ i. a.0.instance i ∷ r i
+-- so the bottom categories, the codes and the instances are the same
+pub all_same : (ss : List Schema) (ps qs : List Chosen) → AreSame ss ps qs
+    → (bottoms_of ps ≡ bottoms_of qs) × (codes_of ps ≡ codes_of qs) × (instances_of ss ps ≡ instances_of ss qs)
+all_same [] [] [] a = (refl, refl, refl)
+all_same [] [] (q ∷ qs) a = absurd a
+all_same [] (p ∷ ps) qs a = absurd a
+all_same (s ∷ ss) [] qs a = absurd a
+all_same (s ∷ ss) (p ∷ ps) [] a = absurd a
+all_same (s ∷ ss) (p ∷ ps) (q ∷ qs) a =
+    let r = all_same ss ps qs a.1 in
+    (λ i. a.0.bottom i ∷ r.0 i, λ i. a.0.codes i ∷ r.1 i, λ i. a.0.instance i ∷ r.2 i)
 
 -- ---- one element of each list
 

@@ -1,24 +1,17 @@
 -- Each question that an order of this family comes to is about valid schemas.
 use Rattle.std.proofs.Common.{ℕ, suc, List, [], ◌∷◌, ◌++◌, Option, None, Some}
 use Rattle.std.proofs.lemmas.List.Elements.{All-nil, All-push}
-use Rattle.std.specs.Prelude.{◌+◌, ◌*◌, All, codes, drop, option_and_then, take, if◌then◌else◌}
-use Rattle.std.specs.Str.{bytes_eq}
-use Rattle.olap_base.specs.Limits.{most_views}
-use Rattle.olap_ast.specs.Schema.{Schema}
-use Rattle.olap_ast.specs.Valid.{IsValidSchema}
+use Rattle.std.specs.{Prelude.{◌+◌, ◌*◌, All, codes, drop, option_and_then, take, if◌then◌else◌}, Str.bytes_eq}
+use Rattle.olap_base.specs.{Limits.most_views, Views.direct_view}
+use Rattle.olap_ast.specs.{Schema.Schema, Valid.IsValidSchema}
 use Rattle.olap_cubes.specs.Commands.{by_dimensions, cube_order, cubeview_order, dimensions_said, order_named}
-use Rattle.olap_cubes.specs.Cut.{schema_files_from}
-use Rattle.olap_cubes.specs.Existing.{IsAsked}
-use Rattle.olap_cubes.specs.Questions.{ByCube, Question}
+use Rattle.olap_cubes.specs.{Cut.schema_files_from, Existing.IsAsked, Questions.{ByCube, Question}}
 use Rattle.olap_cubes.specs.Steps.{cube_facts_file, different_tuples, legal_files, numbered, schema_files, tuple_word}
-use Rattle.olap_base.specs.Views.{direct_view}
 use Rattle.olap_cube.specs.CubeViews.{tuples}
 use Rattle.olap_cube_views.specs.CubeViewText.{cube_view_text}
-use Rattle.olap_order.specs.Arguments.{between, exactly, word}
-use Rattle.olap_order.specs.Order.{Done, Order, Told, and_then}
-use Rattle.olap_order.specs.declared.status.Status.TheVariants.{Yes}
 use Rattle.olap_order.proofs.Coming.{Comes, MayCome, asked, may_between, may_either, may_exactly, no_order, pass, then_comes, told}
-use Rattle.olap_order.proofs.ComingSteps.{under_schema}
+use Rattle.olap_order.{proofs.ComingSteps.under_schema, specs.Arguments.{between, exactly, word}}
+use Rattle.olap_order.specs.{Order.{Done, Order, Told}, declared.status.Status.TheVariants.Yes}
 use Rattle.olap_schema_text.specs.Laws.{ReadSchemasAreReadable}
 
 -- the schemas are valid
@@ -32,18 +25,9 @@ of_cubeview k words =
     let instances = take k (drop (k + 1) words) in
     let facts = word (2 * k + 3) words in
     let target = word (2 * k + 4) words in
-    pass IsAsked (schema_files schemas) (λ ss.
-    and_then (tuple_word ss (2 * k + 4) target) (λ c.
-    and_then (legal_files ss instances) (λ is.
-    and_then (cube_facts_file ss is facts) (λ table.
-    Told Yes (cube_view_text is (direct_view (tuples is) table c)))))) (λ ss.
-    pass IsAsked (tuple_word ss (2 * k + 4) target) (λ c.
-    and_then (legal_files ss instances) (λ is.
-    and_then (cube_facts_file ss is facts) (λ table.
-    Told Yes (cube_view_text is (direct_view (tuples is) table c))))) (λ c.
-    pass IsAsked (legal_files ss instances) (λ is.
-    and_then (cube_facts_file ss is facts) (λ table.
-    Told Yes (cube_view_text is (direct_view (tuples is) table c)))) (λ is.
+    pass IsAsked (schema_files schemas) _ (λ ss.
+    pass IsAsked (tuple_word ss (2 * k + 4) target) _ (λ c.
+    pass IsAsked (legal_files ss instances) _ (λ is.
     pass IsAsked (cube_facts_file ss is facts) (λ table.
     Told Yes (cube_view_text is (direct_view (tuples is) table c)))
     (λ table. told IsAsked Yes (cube_view_text is (direct_view (tuples is) table c))))))
@@ -71,13 +55,8 @@ module _ (readable : ReadSchemasAreReadable) where
   of_cube k words =
       let schemas = take k (drop 1 words) in
       let target = word (k + 3) words in
-      then_comes AreValid IsAsked (schema_files schemas) (λ ss.
-      and_then (tuple_word ss (k + 3) target) (λ c.
-      and_then (different_tuples ss (k + 4) words) (λ cs.
-      Done (ByCube ss c cs)))) (schemas_come 1 [] schemas (All-nil IsValidSchema)) (λ ss v.
-      pass IsAsked (tuple_word ss (k + 3) target) (λ c.
-      and_then (different_tuples ss (k + 4) words) (λ cs.
-      Done (ByCube ss c cs))) (λ c.
+      then_comes AreValid IsAsked (schema_files schemas) _ (schemas_come 1 [] schemas (All-nil IsValidSchema)) (λ ss v.
+      pass IsAsked (tuple_word ss (k + 3) target) _ (λ c.
       pass IsAsked (different_tuples ss (k + 4) words) (λ cs.
       Done (ByCube ss c cs)) (λ cs. asked IsAsked (ByCube ss c cs) v)))
 

@@ -1,21 +1,15 @@
 -- The words of a command over several dimensions, cut as the code takes them, are the words by their numbers.
 use Rattle.std.proofs.Common.{◌≡◌, ◌<◌, ◌≤◌, ◌+◌, ◌-◌, ◌*◌, ◌&&◌, ◌==◌, ℕ, suc, List, [], ◌∷◌, Bool, true, false, cond, Option, None, Some, drop, get_or, length, nat_le, take, ap, refl, sym, arith, ◌∙◌}
-use Rattle.std.proofs.lemmas.Bool.Decides.{nat_tests}
-use Rattle.std.proofs.lemmas.List.{drop-drop, get_or-drop, length-drop, length-take-le}
-use Rattle.std.specs.Prelude.{codes, option_and_then}
-use Rattle.std.specs.Str.{bytes_eq}
-use Rattle.olap_base.specs.Limits.{most_views}
-use Rattle.olap_base.specs.Views.{direct_view}
+use Rattle.std.proofs.lemmas.{Bool.Decides.nat_tests, List.{drop-drop, get_or-drop, length-drop, length-take-le}}
+use Rattle.std.specs.{Prelude.{codes, option_and_then}, Str.bytes_eq}
+use Rattle.olap_base.specs.{Limits.most_views, Views.direct_view}
 use Rattle.olap_cube.specs.CubeViews.{tuples}
 use Rattle.olap_cube_views.specs.CubeViewText.{cube_view_text}
-use Rattle.olap_order.specs.Arguments.{between, exactly}
-use Rattle.olap_order.specs.Behind.{by_two}
-use Rattle.olap_order.specs.Order.{Done, Order, Told, and_then}
+use Rattle.olap_order.specs.{Arguments.{between, exactly}, Behind.by_two, Order.{Done, Order, Told, and_then}}
 use Rattle.olap_order.specs.declared.status.Status.TheVariants.{Yes}
 use Rattle.olap_cubes.specs.Commands.{by_dimensions, cube_order, cubeview_order, dimensions_said, order_named}
 use Rattle.olap_cubes.specs.Cut.{by_count, by_target, cube_by, cube_of, cubeview_by, cubeview_of, cut_named, different_tuples_from, legal_files_from, schema_files_from}
-use Rattle.olap_cubes.specs.Questions.{ByCube, Question}
-use Rattle.olap_cubes.specs.Steps.{cube_facts_file, tuple_word}
+use Rattle.olap_cubes.specs.{Questions.{ByCube, Question}, Steps.{cube_facts_file, tuple_word}}
 
 -- an order that there is by a test, or none
 abbrev by_test : Bool → Order Question → Option (Order Question)

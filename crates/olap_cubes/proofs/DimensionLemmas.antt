@@ -1,45 +1,46 @@
 -- One dimension after the other.
 use Rattle.std.proofs.Common.{◌≡◌, ◌+◌, ◌<◌, ◌≤◌, ℕ, zero, suc, List, [], ◌∷◌, ◌++◌, length, get_or, drop, take, ap, refl, subst, sym, arith, ◌∙◌}
-use Rattle.std.specs.Prelude.{codes}
 use Rattle.std.proofs.lemmas.List.{drop_all, drop_more, get_or-map, length-map, map-append, take_all, take_more}
-use Rattle.olap_base.specs.Graph.{Graph}
-use Rattle.olap_base.specs.Instance.{Instance}
-use Rattle.olap_ast.specs.Schema.{Schema}
+use Rattle.std.specs.{Prelude.codes, String.string_bytes, declared.alloc.Global.Global, declared.string.String.String}
+use Rattle.olap_base.specs.{Graph.Graph, Instance.Instance, declared.ids.CatId.CatId}
+use Rattle.olap_ast.specs.{Schema.Schema, Trees.numbers_of}
 use Rattle.olap_cube.specs.CubeSummarizable.{graphs_of}
-use Rattle.olap_cube_views.specs.Dimensions.{AreMadeFor}
-use Rattle.olap_base.specs.declared.ids.CatId.{CatId}
+use Rattle.olap_cube_views.specs.Dimensions.{AreMadeFor, categories_in}
 use Rattle.olap_cube_summ.specs.Dimensions.{AreCategoriesOf, no_schema}
 use Rattle.olap_instance.specs.Made.{IsMadeFor}
-use Rattle.olap_order.specs.Order.{Done, and_then}
-use Rattle.olap_order.specs.Steps.{schema_file}
-use Rattle.olap_ast.specs.Trees.{numbers_of}
+use Rattle.olap_order.specs.{Order.{Done, and_then}, Steps.schema_file, Words.texts}
 use Rattle.olap_reading.specs.Steps.{legal_file}
-use Rattle.olap_view.specs.Seen.{ids}
-use Rattle.olap_cubes.specs.Cut.{legal_files_from, schema_files_from}
-use Rattle.olap_cubes.specs.Steps.{numbered}
+use Rattle.olap_view.specs.{Columns.Ascent, Seen.ids}
+use Rattle.olap_cubes.specs.{Cut.{legal_files_from, schema_files_from}, Steps.numbered}
 
 -- the schemas from a file on: this one, and those of the files after it
-pub schemas_from : (files : List (List ℕ)) (k : ℕ) (read : List Schema) → k < length files
-    → schema_files_from (k + 1) read (drop k files)
+pub schemas_from : (words : List (String Global)) (k : ℕ) (read : List Schema) → k < length words
+    → let files = texts words in schema_files_from (k + 1) read (drop k files)
     ≡ and_then (schema_file (numbered (codes "schema") (k + 1)) (get_or files k []))
     (λ s. schema_files_from (k + 1 + 1) (read ++ s ∷ []) (drop (k + 1) files))
-schemas_from files k read h =
+schemas_from words k read l =
+    let files = texts words in
+    let h : k < length files = omega (arith, length-map words string_bytes) in
     let next : suc (k + 1) ≡ k + 1 + 1 = omega arith in
     ap (schema_files_from (k + 1) read) (drop_more files k [] h)
     ∙ ap (λ n. and_then (schema_file (numbered (codes "schema") (k + 1)) (get_or files k []))
     (λ s. schema_files_from n (read ++ s ∷ []) (drop (k + 1) files))) next
 
 -- no schema is left
-pub schemas_end : (files : List (List ℕ)) (k : ℕ) (read : List Schema) → length files ≤ k
-    → schema_files_from (k + 1) read (drop k files) ≡ Done read
-schemas_end files k read h = ap (schema_files_from (k + 1) read) (drop_all k files h)
+pub schemas_end : (words : List (String Global)) (k : ℕ) (read : List Schema) → length words ≤ k
+    → schema_files_from (k + 1) read (drop k (texts words)) ≡ Done read
+schemas_end words k read h = ap (schema_files_from (k + 1) read)
+    (drop_all k (texts words) (omega (arith, length-map words string_bytes)))
 
 -- the instances from a file on: this one, and those of the files after it
-pub legals_from : (schemas : List Schema) (files : List (List ℕ)) (k : ℕ) (read : List Instance) → k < length schemas
-    → k < length files → legal_files_from (k + 1) read (drop k schemas) (drop k files)
+pub legals_from : (schemas : List Schema) (words : List (String Global)) (k : ℕ) (read : List Instance)
+    → k < length schemas → k < length words
+    → let files = texts words in legal_files_from (k + 1) read (drop k schemas) (drop k files)
     ≡ and_then (legal_file (get_or schemas k no_schema) (numbered (codes "instance") (k + 1)) (get_or files k []))
     (λ i. legal_files_from (k + 1 + 1) (read ++ i ∷ []) (drop (k + 1) schemas) (drop (k + 1) files))
-legals_from schemas files k read l h =
+legals_from schemas words k read l w =
+    let files = texts words in
+    let h : k < length files = omega (arith, length-map words string_bytes) in
     let next : suc (k + 1) ≡ k + 1 + 1 = omega arith in
     ap (λ ss. legal_files_from (k + 1) read ss (drop k files)) (drop_more schemas k no_schema l)
     ∙ ap (legal_files_from (k + 1) read (get_or schemas k no_schema ∷ drop (k + 1) schemas)) (drop_more files k [] h)
@@ -106,9 +107,10 @@ target_fits [] (c ∷ target) a = absurd a
 target_fits (s ∷ schemas) [] a = absurd a
 target_fits (s ∷ schemas) (c ∷ target) a = ap suc (target_fits schemas target a.1)
 
--- the numbers of one category more
-pub ids_more : (target : List CatId) (k : ℕ) (c : CatId) → k < length target → c ≡ get_or target k c
-    → ids (take (k + 1) target) ≡ ids (take k target) ++ c.0 ∷ []
-ids_more target k c h e =
-    ap ids (take_more target k c h) ∙ map-append (λ (d : CatId). d.0) (take k target) (get_or target k c ∷ [])
-    ∙ ap (λ (d : CatId). ids (take k target) ++ d.0 ∷ []) (sym e)
+-- the categories of one column more
+pub columns_more : (target : List CatId) (k : ℕ) (d : CatId) (old new : List Ascent) (a : Ascent) → k < length target
+    → new ≡ old ++ a ∷ [] → categories_in old ≡ ids (take k target) → a.category ≡ (get_or target k d).0
+    → categories_in new ≡ ids (take (k + 1) target)
+columns_more target k d old new a h is so e =
+    ap categories_in is ∙ map-append (λ (a : Ascent). a.category) old (a ∷ []) ∙ rw (so, e) refl
+    ∙ sym (ap ids (take_more target k d h) ∙ map-append (λ (c : CatId). c.0) (take k target) (get_or target k d ∷ []))

@@ -1,19 +1,13 @@
 -- Files that are read in a loop: a step and what comes after it are a step.
 use Rattle.std.proofs.Common.{◌≡◌, ◌+◌, ℕ, List, [], ◌∷◌, ◌++◌, Option, None, Some, Result, Ok, Err, MatchOption, ap, subst, sym, refl, ◌∙◌}
-use Rattle.std.specs.Prelude.{IfOk}
-use Rattle.std.specs.Result.{IsErrAnd}
+use Rattle.std.specs.{Prelude.IfOk, Result.IsErrAnd}
 use Rattle.olap_base.specs.declared.ids.Memory.{Memory}
-use Rattle.olap_outside.specs.Files.{Files}
-use Rattle.olap_outside.specs.declared.outside.Library.{Ghosts as Library}
-use Rattle.olap_order.specs.Judged.{IsLater, Judged}
-use Rattle.olap_order.specs.Order.{Order, Done, Told, Read, ReadsNoFile, and_then}
-use Rattle.olap_order.specs.Refusals.{IsOutOfMemory}
-use Rattle.olap_order.specs.Taken.{ComesOut, ComesOutTold, FileStep, NoAnswer}
-use Rattle.olap_order.specs.declared.replies.Reply.{Reply}
-use Rattle.olap_order.specs.declared.replies.Stop.{Stop}
-use Rattle.olap_order.specs.declared.replies.Stop.TheVariants as stops
-use Rattle.olap_order.specs.declared.status.Status.{Status}
+use Rattle.olap_outside.specs.{Files.Files, declared.outside.Library.{Ghosts as Library}}
 use Rattle.olap_order.proofs.Stepping.{ended, followed, step_reads_none, same_state, after}
+use Rattle.olap_order.specs.{Judged.{IsLater, Judged}, Order.{Order, Done, Told, Read, ReadsNoFile, and_then}}
+use Rattle.olap_order.specs.{Refusals.IsOutOfMemory, Taken.{ComesOut, ComesOutTold, FileStep, NoAnswer}}
+use Rattle.olap_order.specs.declared.{replies.Reply.Reply, replies.Stop.Stop, status.Status.Status}
+use Rattle.olap_order.specs.declared.replies.Stop.TheVariants as stops
 
 module _ {T Q : Type 0} (next : T → Order Q) where
   -- what a step comes to, and then what the step after it comes to
@@ -147,12 +141,15 @@ module _ {D T : Type 0} (L : Library D) (start : D) (order : Order (List T))
     later = same_state;
   }
 
+-- what follows from what was read so far
+module _ {D T X : Type 0} {L : Library D} {start now : D} {order : Order (List T)}
+    {behind : ℕ → List T → Order (List T)} {k : ℕ} {read : List T} (r : AreReadTo L start order behind k now read)
+    {new : D} {step : Order T} {meaning : X → T} where
   -- one file more
-  pub read_more : {X : Type 0} (k : ℕ) (now new : D) (read all : List T) (step : Order T) (meaning : X → T) (x : X)
-      → AreReadTo k now read
-      → behind k read ≡ and_then step (λ t. behind (k + 1) (read ++ t ∷ []))
-      → FileStep L now new step meaning (Ok x) → all ≡ read ++ meaning x ∷ [] → AreReadTo (k + 1) new all
-  read_more k now new read all step meaning x r e s is = subst (AreReadTo (k + 1) new) (sym is) (record {
+  pub read_more : {x : X} {all : List T} → behind k read ≡ and_then step (λ t. behind (k + 1) (read ++ t ∷ []))
+      → FileStep L now new step meaning (Ok x) → all ≡ read ++ meaning x ∷ []
+      → AreReadTo L start order behind (k + 1) new all
+  read_more e s is = subst (AreReadTo L start order behind (k + 1) new) (sym is) (record {
     rest = λ last result t. r.rest last result (subst (λ o. FileStep L now last o (λ x. x) result) (sym e)
         (file_followed s (λ t. behind (k + 1) (read ++ t ∷ [])) result t));
     same = s.same ∙ r.same;
@@ -160,26 +157,25 @@ module _ {D T : Type 0} (L : Library D) (start : D) (order : Order (List T))
   })
 
   -- where a file isn't taken, the order ends as it does there
-  pub read_ends : {X : Type 0} (k : ℕ) (now new : D) (read : List T) (step : Order T) (meaning : X → T) (stop : Stop)
-      → AreReadTo k now read
-      → behind k read ≡ and_then step (λ t. behind (k + 1) (read ++ t ∷ []))
-      → FileStep L now new step meaning (Err stop)
-      → FileStep {T = List T} {X = List T} L start new order (λ x. x) (Err stop)
-  read_ends k now new read step meaning stop r e s = r.rest new (Err stop)
+  pub read_ends : {Y : Type 0} {other : Y → List T} (result : Result Y Stop) (stop : Stop)
+      → IsErrAnd result (λ e. e ≡ stop) → behind k read ≡ and_then step (λ t. behind (k + 1) (read ++ t ∷ []))
+      → FileStep L now new step meaning (Err stop) → FileStep L start new order other result
+  read_ends result stop is e s = as_ended result stop is (ended_so (r.rest new (Err stop)
       (subst (λ o. FileStep {T = List T} {X = List T} L now new o (λ x. x) (Err stop)) (sym e)
-      (file_ended s (λ t. behind (k + 1) (read ++ t ∷ []))))
+      (file_ended s (λ t. behind (k + 1) (read ++ t ∷ []))))))
 
   -- a file was taken, and then memory ran out
-  pub read_wants : {X Y : Type 0} {other : Y → List T} (k : ℕ) (now new : D) (read : List T) (step : Order T)
-      (meaning : X → T) (x : X) (result : Result Y Stop)
-      → AreReadTo k now read → FileStep L now new step meaning (Ok x) → IsErrAnd result IsOutOfMemory
+  pub read_wants : {Y : Type 0} {other : Y → List T} {x : X} (result : Result Y Stop)
+      → FileStep L now new step meaning (Ok x) → IsErrAnd result IsOutOfMemory
       → FileStep L start new order other result
-  read_wants k now new read step meaning x result r s is = ran_out result is (after r.later s.later) (s.same ∙ r.same)
+  read_wants result s is = ran_out result is (after r.later s.later) (s.same ∙ r.same)
 
-  -- all are read
-  pub read_all : (k : ℕ) (now : D) (read : List T) → AreReadTo k now read → behind k read ≡ Done read
+-- all are read
+module _ {D T : Type 0} {L : Library D} {start now : D} {order : Order (List T)}
+    {behind : ℕ → List T → Order (List T)} {k : ℕ} {read : List T} where
+  pub read_all : AreReadTo L start order behind k now read → behind k read ≡ Done read
       → FileStep L start now order (λ x. x) (Ok read)
-  read_all k now read r e = r.rest now (Ok read) (record {
+  read_all r e = r.rest now (Ok read) (record {
     comes_out = out (L.contents now);
     ends = tt;
     same = refl;

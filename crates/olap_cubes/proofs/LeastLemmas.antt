@@ -1,16 +1,14 @@
 -- The least of the elements of a list that have a property, in a total cases_order; and that lists of numbers have one.
 --     not_after_itself, total, not_after_again   of lists of numbers
 --     least_of                  the least of a list, or none has the property
-use Rattle.std.proofs.Common.{◌≡◌, ℕ, ◌<◌, List, [], ◌∷◌, sym, subst, ◌∙◌, inl, inr}
+use Rattle.std.proofs.{Common.{◌≡◌, ℕ, ◌<◌, List, [], ◌∷◌, sym, subst, ◌∙◌, inl, inr}, lemmas.Bool.cases_order}
 use Rattle.std.specs.Prelude.{◌⊎◌, Contains}
+use Rattle.olap_base.proofs.ListLemmas.{Contains-nil, contains_head}
+use Rattle.olap_base.proofs.RankLemmas.{not_after_itself, not_after_both, not_after_again}
+use Rattle.olap_base.specs.{Deciding.{contains_cases, contains_cons}, Ranks.IsNotAfter}
+use Rattle.olap_cube.specs.Codes.{AreNotAfter}
 use native.Mathlib.Decide.{ℕ_discrete}
 use mathlib.Core.List.{List-discrete}
-use Rattle.olap_base.specs.Deciding.{contains_cases, contains_cons}
-use Rattle.olap_base.proofs.ListLemmas.{Contains-nil, contains_head}
-use Rattle.olap_base.specs.Ranks.{IsNotAfter}
-use Rattle.olap_cube.specs.Codes.{AreNotAfter}
-use Rattle.olap_base.proofs.RankLemmas.{not_after_itself, not_after_both, not_after_again}
-use Rattle.std.proofs.lemmas.Bool.{cases_order}
 
 -- ---- lists of numbers
 
@@ -70,38 +68,17 @@ module _ {X : Type 0} (R : X → X → Type 0) (tot : (x y : X) → R x y ⊎ R 
   least_of [] d = inr (λ y c p. Contains-nil y c)
   least_of (x ∷ xs) d = go (d x (contains_head x xs)) (least_of xs (λ y c. d y (contains_cons y xs x c)))
     where
+      each : (Q : X → Type 0) → Q x → ((y : X) → Contains xs y → Q y) → (y : X) → Contains (x ∷ xs) y → Q y
+      each Q q f y c = elim (contains_cases y x xs c) [ inl e ↦ subst Q e q | inr h ↦ f y h ]
+
       here : P x → ((y : X) → Contains xs y → P y → R x y) → LeastOf (x ∷ xs)
-      here p f = inl (
-        x,
-        p,
-        λ y c q. elim (contains_cases y x xs c) [
-          | inl e ↦ subst (λ w. R x w) e (itself x)
-          | inr h ↦ f y h q
-        ],
-      )
+      here p f = inl (x, p, each (λ y. P y → R x y) (λ q. itself x) f)
 
       go : Dec (P x) → LeastOf xs → LeastOf (x ∷ xs)
       go (yes p) (inr f) = here p (λ y c q. absurd (f y c q))
-      go (no n) (inr f) = inr (λ y c q. elim (contains_cases y x xs c) [
-        | inl e ↦ n (subst P (sym e) q)
-        | inr h ↦ f y h q
-      ])
-      go (no n) (inl t) = inl (
-        t.0,
-        t.1,
-        λ y c q. elim (contains_cases y x xs c) [
-          | inl e ↦ absurd (n (subst P (sym e) q))
-          | inr h ↦ t.2 y h q
-        ],
-      )
+      go (no n) (inr f) = inr (each (λ y. P y → ⊥) n f)
+      go (no n) (inl t) = inl (t.0, t.1, each (λ y. P y → R t.0 y) (λ q. absurd (n q)) t.2)
       go (yes p) (inl t) = elim (tot x t.0) [
         | inl a ↦ here p (λ y c q. tra x t.0 y a (t.2 y c q))
-        | inr b ↦ inl (
-          t.0,
-          t.1,
-          λ y c q. elim (contains_cases y x xs c) [
-            | inl e ↦ subst (λ w. R t.0 w) e b
-            | inr h ↦ t.2 y h q
-          ],
-        )
+        | inr b ↦ inl (t.0, t.1, each (λ y. P y → R t.0 y) (λ q. b) t.2)
       ]

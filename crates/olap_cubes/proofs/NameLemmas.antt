@@ -1,17 +1,14 @@
 -- Names of categories that are looked up, one dimension after the other.
 use Rattle.std.proofs.Common.{◌≡◌, ◌+◌, ◌<◌, ◌≤◌, ℕ, zero, suc, List, [], ◌∷◌, ◌++◌, Option, None, Some, T, Bool, true, false, length, get_or, drop, take, ap, subst, sym, refl, arith, ◌∙◌, append-nil, append_assoc}
+use Rattle.std.proofs.{Math.Facts.yes_eqb, lemmas.List.{drop_all, drop_more, take_all}}
 use Rattle.std.specs.Prelude.{◌==◌, codes, if◌then◌else◌, option_and_then, option_map, zip}
-use Rattle.std.proofs.Math.Facts.{yes_eqb}
-use Rattle.std.proofs.lemmas.List.{drop_all, drop_more, take_all}
 use Rattle.olap_base.specs.Graph.{IsCategory}
 use Rattle.olap_ast.specs.Schema.{Schema}
 use Rattle.olap_cube_summ.specs.Dimensions.{AreCategoriesOf, no_schema}
 use Rattle.olap_graph.specs.Lookups.{category_named}
 use Rattle.olap_grammar.specs.Words.{pieces_of}
-use Rattle.olap_order.specs.Order.{Done, Order, and_then, ok_or, refused}
-use Rattle.olap_order.specs.Steps.{category_word, fault_text, in_turn}
-use Rattle.olap_cubes.specs.Cut.{categories_named}
-use Rattle.olap_cubes.specs.Steps.{tuple_word}
+use Rattle.olap_order.specs.{Order.{Done, Order, and_then, ok_or, refused}, Steps.{category_word, fault_text, in_turn}}
+use Rattle.olap_cubes.specs.{Cut.categories_named, Steps.tuple_word}
 
 -- what is so, as a value
 so : (b : Bool) → T b → b ≡ true

@@ -1,13 +1,11 @@
 -- There is one answer at most to a question about a cube.
-use Rattle.std.proofs.Common.{◌++◌, ◌∙◌, ℕ, List, ap, sym, inl, inr}
-use Rattle.std.specs.Prelude.{codes}
+use Rattle.std.{proofs.Common.{◌++◌, ◌∙◌, ℕ, List, ap, sym, inl, inr}, specs.Prelude.codes}
 use Rattle.olap_ast.specs.Schema.{Schema}
 use Rattle.olap_base.specs.Views.{one_fact, only_sum}
 use Rattle.olap_cube.specs.CubeSummarizable.{BadChoicesHaveTwoSums, Chosen, IsCubeCounterexample, IsCubeSummarizable, TheCubeCounterexampleIsOne, instances_of}
 use Rattle.olap_cube_summ.specs.Laws.{OneChoiceHasOneText}
 use Rattle.olap_order.specs.Outputs.{line}
-use Rattle.olap_cubes.specs.Laws.{AnswersAreOne}
-use Rattle.olap_cubes.specs.Questions.{ByCube}
+use Rattle.olap_cubes.specs.{Laws.AnswersAreOne, Questions.ByCube}
 
 module _ (one : TheCubeCounterexampleIsOne) (text : OneChoiceHasOneText) (sums : BadChoicesHaveTwoSums) where
   -- a target that is summarizable has no counterexample

@@ -1,43 +1,25 @@
 -- A file of a cube's facts that is read piece by piece.
-use Rattle.std.proofs.Common.{◌≡◌, ◌≤◌, ◌∙◌, ℕ, List, Option, None, Some, Result, [], length, refl, ap}
-use Rattle.std.specs.Prelude.{IfErr, Ok, Err, codes}
-use Rattle.std.specs.Result.{IsErrAnd}
-use Rattle.std.specs.Io.KnownBytes.{Consumes}
-use Rattle.olap_base.specs.Graph.{Graph}
-use Rattle.olap_base.specs.Instance.{Instance}
-use Rattle.olap_base.specs.Limits.{most_facts}
-use Rattle.olap_base.specs.declared.ids.Memory.{Memory}
-use Rattle.olap_base.specs.declared.refusals.Fault.{Fault}
-use Rattle.olap_base.specs.declared.refusals.Refusal.TheVariants as refusal
+use Rattle.std.proofs.Common.{◌≡◌, ◌<◌, ◌≤◌, ◌++◌, ◌∙◌, ℕ, List, Option, None, Some, Result, [], inl, length, refl, ap}
+use Rattle.std.specs.{Io.KnownBytes.Consumes, Prelude.{IfErr, Ok, Err, codes}, Result.IsErrAnd}
+use Rattle.olap_base.specs.{Graph.Graph, Instance.Instance, Limits.most_facts, Refusing.IsRefusedBy, Views.View}
+use Rattle.olap_base.specs.declared.{ids.Memory.Memory, refusals.Fault.Fault, refusals.Refusal.Refusal}
 use Rattle.olap_ast.specs.Schema.{Schema}
-use Rattle.olap_records.specs.Records.{records_of}
-use Rattle.olap_records.specs.Standing.{unmarked}
-use Rattle.olap_records.specs.Tables.{named}
+use Rattle.olap_records.specs.{Pieces.RecordsAtEnd, Records.records_of, Standing.{records_fed, unmarked}, Tables.named}
 use Rattle.olap_cube.specs.CubeSummarizable.{graphs_of}
-use Rattle.olap_base.specs.Views.{View}
-use Rattle.olap_cube_views.specs.CubeFactMeaning.{cube_facts_meant}
-use Rattle.olap_cube_views.specs.CubeFactText.{cube_facts_read_within}
-use Rattle.olap_cube_views.specs.CubeFeeding.{CubeRolling, HasTakenFacts}
-use Rattle.olap_cube_views.specs.CubeRollingUp.{IsCubeRolledUp}
-use Rattle.olap_cube_views.specs.Dimensions.{AreMadeFor}
 use Rattle.olap_cube_views.proofs.CubeMeaningLemmas.{cube-facts-named, meant-cube-facts}
-use Rattle.olap_cube_views.proofs.CubeReadingLemmas.{made_length}
-use Rattle.olap_facts.specs.Kinds.{name_of_kind}
-use Rattle.olap_facts.specs.declared.kinds.FactKind.{FactKind}
-use Rattle.olap_outside.specs.Files.{Opens}
-use Rattle.olap_outside.specs.declared.outside.Library.{Ghosts as Library}
-use Rattle.olap_order.specs.Judged.{IsLater}
-use Rattle.olap_order.specs.Refusals.{IsRefusal, part_text}
-use Rattle.olap_order.specs.Steps.{meaning_or_fault}
-use Rattle.olap_order.specs.Taken.{FileStep}
+use Rattle.olap_cube_views.{proofs.CubeReadingLemmas.made_length, specs.CubeFactMeaning.cube_facts_meant}
+use Rattle.olap_cube_views.specs.{CubeFactText.cube_facts_read_within, CubeFeeding.{CubeRolling, HasTakenFacts}}
+use Rattle.olap_cube_views.specs.{CubeRollingUp.IsCubeRolledUp, Dimensions.AreMadeFor}
+use Rattle.olap_facts.specs.{Kinds.name_of_kind, declared.kinds.FactKind.FactKind}
+use Rattle.olap_outside.specs.{Files.Opens, Pieces.EndsTold, declared.outside.Library.{Ghosts as Library}}
+use Rattle.olap_order.specs.{Judged.IsLater, Refusals.{IsRefusal, part_text}, Steps.meaning_or_fault, Taken.FileStep}
 use Rattle.olap_order.specs.declared.replies.Stop.{Stop}
-use Rattle.olap_reading.specs.Rest.{IsOfRest}
 use Rattle.olap_reading.proofs.ReadingLemmas.{content_read, fault_read}
-use Rattle.olap_reading.proofs.RollingLemmas.{content}
-use Rattle.olap_cubes.specs.OfFacts.{IsOfFacts}
-use Rattle.olap_cubes.specs.Rest.{IsOutOfMemory, IsWhyUnrolled}
-use Rattle.olap_cubes.specs.Steps.{cube_facts_file}
+use Rattle.olap_reading.proofs.RollingLemmas.{content, long-or-end, longer, mark-joined, parts-more, told-fault}
+use Rattle.olap_reading.specs.Rest.{IsOfRest}
+use Rattle.olap_cubes.specs.{OfFacts.IsOfFacts, Rest.{IsOutOfMemory, IsWhyUnrolled}, Steps.cube_facts_file}
 use Rattle.olap_cubes.specs.declared.rolling.Unrolled.{Unrolled}
+use Rattle.olap_base.specs.declared.refusals.Refusal.TheVariants as refusal
 use Rattle.olap_cubes.specs.declared.rolling.Unrolled.TheVariants as unrolled
 
 -- these bytes were taken off the front of what was left, the last this many at once, and the roller has taken them
@@ -47,6 +29,39 @@ pub record IsSoFar (old new : Option (List ℕ)) (count : ℕ) (gs : List Graph)
   pub parts : Consumes old new text
   pub long : count ≡ 65536 → 3 ≤ length text
   pub taken : HasTakenFacts gs is target (unmarked text) r
+
+-- a fault in the first piece is one of the file
+pub fault-first : (law : RecordsAtEnd) (old new : Option (List ℕ)) (gs : List Graph) (is : List Instance) (n : ℕ)
+    (piece : List ℕ) (e : Refusal (Fault FactKind)) → length piece ≡ n → Consumes old new piece
+    → (n < 65536 → EndsTold old new) → ((more : List ℕ)
+    → IsRefusedBy e (cube_facts_read_within most_facts gs is (records_fed (unmarked piece ++ more))))
+    → IsWhyUnrolled gs is old (unrolled.Refused e)
+fault-first law old new gs is n piece e size parts end says =
+    told-fault law (λ rs. IsRefusedBy e (cube_facts_read_within most_facts gs is rs)) old new piece parts
+    (long-or-end old new piece n size end) says
+
+-- what follows a piece that was whole
+module _ {old mid : Option (List ℕ)} {count : ℕ} {gs : List Graph} {is : List Instance} {target : List ℕ}
+    {r : CubeRolling} (s : IsSoFar old mid count gs is target r) (whole : count ≡ 65536) (new : Option (List ℕ))
+    (piece : List ℕ) (parts : Consumes mid new piece) where
+  -- a piece more is taken
+  pub so-far-more : (n : ℕ) (q : CubeRolling) → HasTakenFacts gs is target (unmarked s.text ++ piece) q
+      → IsSoFar old new n gs is target q
+  so-far-more n q taken = record {
+    text = s.text ++ piece;
+    parts = parts-more old mid new s.text piece s.parts parts;
+    long = λ e. longer s.text piece (s.long whole);
+    taken = rw (mark-joined s.text piece (s.long whole)) at taken;
+  }
+
+  -- a fault in a piece more is one of the file
+  pub fault-more : (law : RecordsAtEnd) (e : Refusal (Fault FactKind)) → ((more : List ℕ) → IsRefusedBy e
+      (cube_facts_read_within most_facts gs is (records_fed ((unmarked s.text ++ piece) ++ more))))
+      → IsWhyUnrolled gs is old (unrolled.Refused e)
+  fault-more law e says =
+      told-fault law (λ rs. IsRefusedBy e (cube_facts_read_within most_facts gs is rs)) old new (s.text ++ piece)
+      (parts-more old mid new s.text piece s.parts parts) (inl (longer s.text piece (s.long whole)))
+      (λ more. rw (mark-joined s.text piece (s.long whole)) at (says more))
 
 -- out of memory tells nothing of the file
 memory-at : (gs : List Graph) (is : List Instance) (rest : Option (List ℕ)) (m : Memory)

@@ -1,32 +1,21 @@
 -- A cube's target is summarizable, or there is a counterexample.
 use Rattle.std.proofs.Common.{◌≡◌, ℕ, List, [], ◌∷◌, ◌++◌, refl, sym, subst, ◌∙◌, inl, inr}
-use Rattle.std.specs.Prelude.{◌⊎◌, All, Contains, codes}
-use Rattle.std.proofs.lemmas.List.Elements.{All-map}
-use native.Mathlib.Decide.{ℕ_discrete}
-use mathlib.Core.List.{List-discrete}
-use Rattle.olap_base.specs.Graph.{IsHierarchy}
-use Rattle.olap_base.specs.Instance.{Instance}
-use Rattle.olap_base.specs.Ranks.{IsNotAfter}
-use Rattle.olap_base.specs.Views.{ExactlyOne}
-use Rattle.olap_ast.specs.Frozen.{CandidatesExist}
-use Rattle.olap_ast.specs.Schema.{Schema}
-use Rattle.olap_ast.specs.Valid.{IsValidSchema}
-use Rattle.olap_cube.specs.Tuples.{AllZip3, IsTupleOf, TupleReachesVia}
-use Rattle.olap_cube.proofs.RankLemmas.{from_least}
+use Rattle.std.{proofs.lemmas.List.Elements.All-map, specs.Prelude.{◌⊎◌, All, Contains, codes}}
+use Rattle.olap_base.{proofs.RankLemmas.{not_after_itself, not_after_both, not_after_again}, specs.Graph.IsHierarchy}
+use Rattle.olap_base.specs.{Instance.Instance, Ranks.IsNotAfter, Views.ExactlyOne}
+use Rattle.olap_ast.specs.{Frozen.CandidatesExist, Schema.Schema, Valid.IsValidSchema}
+use Rattle.olap_cube.proofs.{ChoiceLemmas.{dec_one, dec_tuple_via}, RankLemmas.from_least}
 use Rattle.olap_cube.specs.Codes.{AreNotAfter, codes_of}
 use Rattle.olap_cube.specs.CubeSummarizable.{Chosen, CubeSummarizableExactlyIfNoneBad, IsBadChoice, IsChosen, bottoms_of, instances_of}
-use Rattle.olap_cube.proofs.ChoiceLemmas.{dec_one, dec_tuple_via}
+use Rattle.olap_cube.specs.Tuples.{AllZip3, IsTupleOf, TupleReachesVia}
 use Rattle.olap_cube_summ.specs.CubeCexText.{cube_counterexample_text}
-use Rattle.olap_cubes.specs.Existing.{AnswersExist}
+use Rattle.olap_cubes.proofs.AllChoicesLemmas.{AreAll, AreSame, all_choices, all_same}
+use Rattle.olap_cubes.{proofs.LeastLemmas.{all_after, all_total, least_of, total}, specs.Existing.AnswersExist}
 use Rattle.olap_cubes.specs.Questions.{ByCube, IsAnswer}
-use Rattle.olap_cubes.proofs.AllChoicesLemmas.{AreAll, AreSame, all_choices, same_bottoms, same_codes, same_instances}
-use Rattle.olap_cubes.proofs.LeastLemmas.{all_after, all_total, least_of, total}
-use Rattle.olap_exists.specs.Existing.{FrozenAreListed}
-use Rattle.olap_exists.proofs.FindingsListed.{truth_kinds}
-use Rattle.olap_order.specs.Outputs.{line}
-use Rattle.olap_order.specs.declared.status.Status.{Status}
-use Rattle.olap_order.specs.declared.status.Status.TheVariants.{Yes, No}
-use Rattle.olap_base.proofs.RankLemmas.{not_after_itself, not_after_both, not_after_again}
+use Rattle.olap_exists.{proofs.FindingsListed.truth_kinds, specs.Existing.FrozenAreListed}
+use Rattle.olap_order.specs.{Outputs.line, declared.status.Status.Status, declared.status.Status.TheVariants.{Yes, No}}
+use native.Mathlib.Decide.{ℕ_discrete}
+use mathlib.Core.List.{List-discrete}
 
 -- ---- roots
 
@@ -78,8 +67,8 @@ module _ (lists : FrozenAreListed) (exist : CandidatesExist) (summarizable : Cub
     bad_too : (ps qs : List Chosen) → AllZip3 IsChosen ss c ps → AreSame ss ps qs → IsBadChoice ss c sources qs
         → IsBadChoice ss c sources ps
     bad_too ps qs a e b =
-        let i = sym (same_instances ss ps qs e) in
-        let m = sym (same_bottoms ss ps qs e) in record {
+        let i = sym (all_same ss ps qs e).2 in
+        let m = sym (all_same ss ps qs e).0 in record {
           chosen = a;
           roots = b.roots;
           roots_are = subst (λ (is : List Instance). IsTupleOf is (bottoms_of ps) b.roots) i
@@ -162,10 +151,10 @@ module _ (lists : FrozenAreListed) (exist : CandidatesExist) (summarizable : Cub
                 → (other : List Chosen) → IsBadChoice ss c sources other → Before best other
             before_other best f other b =
                 let w = t.1.complete other b.chosen in
-                let z = f w.0 w.1 (bad_too w.0 other (t.1.sound w.0 w.1) w.2 b) in (
-                  subst (λ x. IsNotAfter (bottoms_of best) x) (same_bottoms ss w.0 other w.2) z.0,
-                  λ e. subst (λ x. AreNotAfter (codes_of best) x) (same_codes ss w.0 other w.2)
-                      (z.1 (same_bottoms ss w.0 other w.2 ∙ e)),
+                let z = f w.0 w.1 (bad_too w.0 other (t.1.sound w.0 w.1) w.2 b) in
+                let s = all_same ss w.0 other w.2 in (
+                  subst (λ x. IsNotAfter (bottoms_of best) x) s.0 z.0,
+                  λ e. subst (λ x. AreNotAfter (codes_of best) x) s.1 (z.1 (s.0 ∙ e)),
                 )
 
             none : ((y : List Chosen) → Contains t.0 y → IsBadChoice ss c sources y → ⊥) → (other : List Chosen)

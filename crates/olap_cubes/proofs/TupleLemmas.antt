@@ -1,30 +1,17 @@
 -- Tuples of categories that are read from words, one after the other.
 --     numbers_compared categories are compared as their numbers are
 use Rattle.std.proofs.Common.{◌≡◌, ◌+◌, ◌<◌, ℕ, suc, Bool, List, [], ◌∷◌, ◌++◌, Result, Ok, Err, length, get_or, drop, true, false, ap, refl, subst, sym, arith, ◌∙◌}
-use Rattle.std.specs.Cmp.Lexicographic.{pointwise}
-use Rattle.std.specs.List.{list_any}
-use Rattle.std.specs.Prelude.{◌&&◌, All, Contains, codes, if◌then◌else◌, nat_eq}
-use Rattle.std.specs.Result.{IsErrAnd}
-use Rattle.std.proofs.lemmas.List.{drop_more, length_push}
-use Rattle.std.proofs.lemmas.List.Elements.{All-append, All-cons}
-use Rattle.std.proofs.lemmas.Slice.Eq.{bytes_eq-Decides}
-use Rattle.olap_ast.specs.Schema.{Schema}
-use Rattle.olap_ast.proofs.Shape.{Distinct-push}
-use Rattle.olap_base.specs.declared.ids.CatId.{CatId}
-use Rattle.olap_base.proofs.ListLemmas.{Distinct, list_any_is}
+use Rattle.std.proofs.lemmas.List.{drop_more, length_push, Elements.{All-append, All-cons}}
+use Rattle.std.{proofs.lemmas.Slice.Eq.bytes_eq-Decides, specs.Cmp.Lexicographic.pointwise, specs.List.list_any}
+use Rattle.std.specs.{Prelude.{◌&&◌, All, Contains, codes, if◌then◌else◌, nat_eq}, Result.IsErrAnd}
+use Rattle.olap_ast.{proofs.Shape.Distinct-push, specs.Schema.Schema, specs.Trees.numbers_of}
+use Rattle.olap_base.{proofs.ListLemmas.{Distinct, list_any_is}, specs.declared.ids.CatId.CatId}
 use Rattle.olap_cube_summ.specs.Dimensions.{AreCategoriesOf}
-use Rattle.olap_order.specs.Judged.{Replies}
-use Rattle.olap_order.specs.Order.{Order, Done, and_then, refused}
-use Rattle.olap_order.specs.Refusals.{IsOutOfMemory, IsRefusal}
-use Rattle.olap_order.specs.Steps.{fault_text}
-use Rattle.olap_order.specs.Taken.{NoAnswer, PlainStep}
-use Rattle.olap_ast.specs.Trees.{numbers_of}
-use Rattle.olap_order.specs.declared.replies.Stop.{Stop}
+use Rattle.olap_order.{proofs.Replying.replies_no_memory, proofs.Stepping.ends_both, specs.Judged.Replies}
+use Rattle.olap_order.specs.{Order.{Order, Done, and_then, refused}, Refusals.{IsOutOfMemory, IsRefusal}}
+use Rattle.olap_order.specs.{Steps.fault_text, Taken.{NoAnswer, PlainStep}, declared.replies.Stop.Stop}
+use Rattle.olap_cubes.specs.{Cut.{another_tuple, different_tuples_from}, Steps.tuple_word}
 use Rattle.olap_order.specs.declared.replies.Stop.TheVariants as stops
-use Rattle.olap_order.proofs.Replying.{replies_no_memory}
-use Rattle.olap_order.proofs.Stepping.{ends_both}
-use Rattle.olap_cubes.specs.Cut.{another_tuple, different_tuples_from}
-use Rattle.olap_cubes.specs.Steps.{tuple_word}
 
 -- categories are compared as their numbers are
 pub numbers_compared : (xs ys : List CatId) → pointwise (λ (a b : CatId). nat_eq a.0 b.0) xs ys

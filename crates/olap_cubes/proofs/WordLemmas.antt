@@ -1,16 +1,10 @@
 -- The words of a command over several dimensions.
 use Rattle.std.proofs.Common.{◌≡◌, ◌<◌, ℕ, List, [], ◌∷◌, length, drop, take, ap, sym, arith, ◌∙◌}
-use Rattle.std.proofs.lemmas.List.{drop-map, take-map}
-use Rattle.std.specs.String.{string_bytes}
+use Rattle.std.{proofs.lemmas.List.{drop-map, take-map}, specs.String.string_bytes, specs.declared.alloc.Global.Global}
 use Rattle.std.specs.declared.string.String.{String}
-use Rattle.std.specs.declared.alloc.Global.{Global}
-use Rattle.olap_order.specs.Behind.{by_two}
-use Rattle.olap_order.specs.Families.{IsNoUsage}
-use Rattle.olap_order.specs.Order.{Told}
-use Rattle.olap_order.specs.Words.{texts}
+use Rattle.olap_order.specs.{Behind.by_two, Families.IsNoUsage, Order.Told, Words.texts}
 use Rattle.olap_order.specs.declared.status.Status.TheVariants.{Usage}
-use Rattle.olap_cubes.specs.Cut.{by_target, cube_by, cube_of, cubeview_by, cubeview_of}
-use Rattle.olap_cubes.specs.Seen.{HasFiles, seen}
+use Rattle.olap_cubes.specs.{Cut.{by_target, cube_by, cube_of, cubeview_by, cubeview_of}, Seen.{HasFiles, seen}}
 use Rattle.olap_cubes.specs.declared.words.Command.{Command}
 use Rattle.olap_cubes.specs.declared.words.Command.TheVariants as code
 

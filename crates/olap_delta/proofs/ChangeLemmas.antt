@@ -1,24 +1,16 @@
 -- Views whose summaries a function of members gives, after a fact.
 use Rattle.std.proofs.Common.{◌≡◌, ℕ, List, [], ◌∷◌, map, Bool, true, false, cond, refl, sym, ap, subst, ◌∙◌, inl, inr, ℤ, Option, Some, None, IfSome, arith}
+use Rattle.std.proofs.lemmas.Bool.{false_from_ne_true, eqb-true, eq-eqb, Decides.nat_tests}
+use Rattle.std.specs.{List.cons_option, Option.option_map}
 use Rattle.std.specs.Prelude.{Contains, filter, find, ◌==◌, MatchResult, Result, Ok, Err}
-use Rattle.std.specs.List.{cons_option}
-use Rattle.std.specs.Option.{option_map}
-use Rattle.std.proofs.lemmas.Bool.Decides.{nat_tests}
-use Rattle.olap_base.specs.Deciding.{contains_cases, contains_cons}
-use Rattle.olap_base.specs.Graph.{Graph}
-use Rattle.olap_base.specs.Instance.{Instance, IsLawful}
-use Rattle.olap_base.specs.Reaching.{reaches}
-use Rattle.olap_base.specs.Summaries.{Summary}
-use Rattle.olap_base.specs.Views.{Fact, Row, View, members_of, row_at}
 use Rattle.olap_base.proofs.ListLemmas.{Contains-filter, Contains-from_filter, Contains-nil, Distinct, contains_head}
 use Rattle.olap_base.proofs.ViewLemmas.{Distinct-members_of, members_once}
-use Rattle.olap_view.specs.Stores.{summary_in}
-use Rattle.olap_view.proofs.FileOrderLemmas.{rows_by, view_by}
-use Rattle.olap_delta.specs.Changes.{Step, view_with}
+use Rattle.olap_base.specs.{Deciding.{contains_cases, contains_cons}, Graph.Graph, Instance.{Instance, IsLawful}}
+use Rattle.olap_base.specs.{Reaching.reaches, Summaries.Summary, Views.{Fact, Row, View, members_of, row_at}}
+use Rattle.olap_view.{proofs.FileOrderLemmas.{rows_by, view_by}, specs.Stores.summary_in}
+use Rattle.olap_delta.{proofs.RowLemmas.IsSmall, specs.Changes.{Step, view_with}}
 use Rattle.olap_delta.specs.FactByFact.{view_after_at, view_after_fact, views_after_fact}
 use Rattle.olap_delta.specs.declared.kinds.DeltaKind.{DeltaKind}
-use Rattle.olap_delta.proofs.RowLemmas.{IsSmall}
-use Rattle.std.proofs.lemmas.Bool.{false_from_ne_true, eqb-true, eq-eqb}
 
 -- ---- a row
 
@@ -69,8 +61,7 @@ pub rows_alike : (h k : ℕ → Option Summary) (ys : List ℕ) → ((y : ℕ) �
     → rows_by h ys ≡ rows_by k ys
 rows_alike h k [] f = refl
 rows_alike h k (y ∷ ys) f =
-    ap (λ o. cons_option (row_at y o) (rows_by h ys)) (f y (contains_head y ys))
-    ∙ ap (cons_option (row_at y (k y))) (rows_alike h k ys (λ z c. f z (contains_cons z ys y c)))
+    grind (arith, rows_by, contains_head, rows_alike h k ys (λ z c. f z (contains_cons z ys y c)))
 
 -- and the same view
 pub view_alike : (i : Instance) (h k : ℕ → Option Summary) (c : ℕ) → ((y : ℕ) → Contains (members_of i c) y → h y ≡ k y)

@@ -2,27 +2,21 @@
 --     view_put, view_refused, view_left, view_kept   the views after it
 --     so_far_first, so_far_next, so_far_refused, so_far_all   category by category
 --     fact_behind, facts_behind, taken_ok, taken_err   fact by fact
-use Rattle.std.proofs.Common.{◌≡◌, ◌≢◌, ◌+◌, ◌<◌, ◌≤◌, ℕ, suc, List, [], ◌∷◌, ◌++◌, length, get_or, take, drop, map, Bool, true, false, cond, refl, sym, ap, subst, ◌∙◌, inl, inr, Option, Some, IfSome, arith, drop-cons, length-drop}
-use Rattle.std.specs.Prelude.{◌==◌, ◌⊎◌, AllPairs, Contains, Result, Ok, Err}
-use Rattle.std.proofs.Math.Seq.{take_all}
+use Rattle.std.proofs.Common.{rules, ◌≡◌, ◌≢◌, ◌+◌, ◌<◌, ◌≤◌, ℕ, suc, List, [], ◌∷◌, ◌++◌, length, get_or, take, drop, map, Bool, true, false, cond, refl, sym, ap, subst, ◌∙◌, inl, inr, Option, Some, IfSome, arith, drop-cons, length-drop}
+use Rattle.std.proofs.{Math.Seq.take_all, lemmas.Bool.{cases_lt, ne_eqb}}
 use Rattle.std.proofs.lemmas.List.{append-nil, append_assoc, drop_all, get_or-drop, get_or-take, get_or_default, length-take-le, map-append, take_more}
 use Rattle.std.proofs.lemmas.List.Elements.{Contains-get_or}
-use Rattle.olap_base.specs.Instance.{Instance, ReachesCategory, category_of}
-use Rattle.olap_base.specs.declared.refusals.Fault.{Fault}
-use Rattle.olap_base.specs.Reaching.{reaches_is}
-use Rattle.olap_base.specs.Summaries.{Summary}
-use Rattle.olap_base.specs.Views.{Fact, View, members_of}
+use Rattle.std.specs.Prelude.{◌==◌, ◌⊎◌, AllPairs, Contains, Result, Ok, Err}
 use Rattle.olap_base.proofs.ViewLemmas.{is_member_of, members_of_is}
+use Rattle.olap_base.specs.{Instance.{Instance, ReachesCategory, category_of}, Reaching.reaches_is, Summaries.Summary}
+use Rattle.olap_base.specs.{Views.{Fact, View, members_of}, declared.refusals.Fault.Fault}
 use Rattle.olap_legal.specs.Ancestors.{IsAncestor}
-use Rattle.olap_view.specs.SummaryTables.{Summarized, stands_at, view_at, views_at}
+use Rattle.olap_view.{proofs.FileOrderLemmas.view_by, specs.SummaryTables.{Summarized, stands_at, view_at, views_at}}
 use Rattle.olap_view.specs.Tables.{IsAmong}
-use Rattle.olap_view.proofs.FileOrderLemmas.{view_by}
-use Rattle.olap_delta.specs.Changes.{Step}
-use Rattle.olap_delta.specs.FactByFact.{fact_after, store_after_facts, view_after_fact, views_after_fact}
-use Rattle.olap_delta.specs.Changing.{AreStorable, IsStorable}
-use Rattle.olap_delta.specs.declared.kinds.DeltaKind.{DeltaKind}
 use Rattle.olap_delta.proofs.ChangeLemmas.{stepped, view_alike, view_reached, view_unreached, with_at}
-use Rattle.std.proofs.lemmas.Bool.{cases_lt, ne_eqb}
+use Rattle.olap_delta.specs.{Changes.Step, Changing.{AreStorable, IsStorable}}
+use Rattle.olap_delta.specs.FactByFact.{fact_after, store_after_facts, view_after_fact, views_after_fact}
+use Rattle.olap_delta.specs.declared.kinds.DeltaKind.{DeltaKind}
 
 -- a summary was put at y
 pub record IsPut (y : ℕ) (s : Summary) (old new : Summarized) : Type 0 where
@@ -216,13 +210,7 @@ module _ (step : Step) (f : Fact ℕ) (k : ℕ) (old now : Summarized) (so : IsS
 -- all categories are changed, so all views are
 pub so_far_all : (step : Step) (f : Fact ℕ) (k : ℕ) (old now : Summarized) → IsSoFar step f k old now
     → length old.categories ≤ k → views_after_fact step old.instance (views_at old) f ≡ Ok (views_at now)
-so_far_all step f k old now so h =
-    so.views
-    ∙ ap (λ cs. behind (map (view_at now) (take k old.categories))
-    (views_after_fact step old.instance (map (view_at now) cs) f))
-    (drop_all k old.categories h)
-    ∙ ap Ok (append-nil (map (view_at now) (take k old.categories)))
-    ∙ ap (λ cs. Ok (map (view_at now) cs)) (take_all k old.categories h ∙ sym so.categories)
+so_far_all step f k old now so h = grind (arith, drop_all, append-nil, take_all)
 
 -- ---- fact by fact
 
@@ -233,10 +221,7 @@ pub fact_behind : (step : Step) (i : Instance) (r : Result (List (View ℕ ℕ))
     → store_after_facts step i r at (facts ++ f ∷ [])
     ≡ fact_after step i (at + length facts) f (store_after_facts step i r at facts)
 fact_behind step i r at [] f = let e : at ≡ at + 0 = omega arith in ap (λ n. fact_after step i n f r) e
-fact_behind step i r at (g ∷ facts) f =
-    let e : (at + 1) + length facts ≡ at + suc (length facts) = omega arith in
-    fact_behind step i (fact_after step i at g r) (at + 1) facts f
-    ∙ ap (λ n. fact_after step i n f (store_after_facts step i (fact_after step i at g r) (at + 1) facts)) e
+fact_behind step i r at (g ∷ facts) f = grind (arith, fact_behind step i (fact_after step i at g r) (at + 1) facts f)
 
 -- some facts after the others
 pub facts_behind : (step : Step) (i : Instance) (r : Result (List (View ℕ ℕ)) (Fault DeltaKind)) (at : ℕ)
@@ -246,15 +231,9 @@ pub facts_behind : (step : Step) (i : Instance) (r : Result (List (View ℕ ℕ)
 facts_behind step i r at [] more =
     let e : at ≡ at + 0 = omega arith in ap (λ n. store_after_facts step i r n more) e
 facts_behind step i r at (g ∷ facts) more =
-    let e : (at + 1) + length facts ≡ at + suc (length facts) = omega arith in
-    facts_behind step i (fact_after step i at g r) (at + 1) facts more
-    ∙ ap (λ n. store_after_facts step i (store_after_facts step i (fact_after step i at g r) (at + 1) facts) n more) e
+    grind (arith, facts_behind step i (fact_after step i at g r) (at + 1) facts more)
 
 -- the views of a table, or its fault, after a fact
 pub taken_ok : (step : Step) (i : Instance) (at : ℕ) (f : Fact ℕ) (before after : List (View ℕ ℕ))
     → views_after_fact step i before f ≡ Ok after → Ok after ≡ fact_after step i at f (Ok before)
-taken_ok step i at f before after e =
-    sym (ap (λ (r : Result (List (View ℕ ℕ)) DeltaKind). elim r [
-      | Ok changed ↦ Ok changed
-      | Err k ↦ Err (record { at = at; kind = k })
-    ]) e)
+taken_ok step i at f before after e = search rules

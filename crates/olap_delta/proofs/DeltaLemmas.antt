@@ -1,29 +1,17 @@
 -- Stored views that are changed fact by fact.
 --     handed_out_after, after_text  what is handed out, and what comes of a text
-use Rattle.std.proofs.Common.{◌≡◌, ◌+◌, ◌∷◌, ◌++◌, [], List, length, refl, sym, ap, subst, ◌∙◌, arith, length-append}
-use Rattle.std.specs.Prelude.{ℕ, All, IfErr, IfOk, Result, Ok, Err}
-use Rattle.olap_base.specs.Graph.{Graph}
-use Rattle.olap_base.specs.Instance.{Instance}
-use Rattle.olap_base.specs.Refusing.{IsRefusedBy}
-use Rattle.olap_base.specs.Views.{Fact, View}
-use Rattle.olap_base.specs.declared.refusals.Fault.{Fault}
-use Rattle.olap_base.specs.declared.refusals.Refusal.{Refusal}
-use Rattle.olap_view.specs.Seen.{views_of}
-use Rattle.olap_view.specs.Stores.{IsInFileOrder, IsSoundStore}
-use Rattle.olap_view.specs.SummaryTables.{categories_in}
+use Rattle.std.proofs.Common.{rules, ◌≡◌, ◌+◌, ◌∷◌, ◌++◌, [], List, length, refl, sym, ap, subst, ◌∙◌, arith, length-append}
+use Rattle.std.specs.{Prelude.{ℕ, All, IfErr, IfOk, Result, Ok, Err}, Result.result_map_both}
+use Rattle.olap_base.specs.{Graph.Graph, Instance.Instance, Refusing.IsRefusedBy, Views.{Fact, View}}
+use Rattle.olap_base.specs.declared.refusals.{Fault.Fault, Refusal.Refusal}
+use Rattle.olap_view.specs.{Seen.views_of, Stores.{IsInFileOrder, IsSoundStore}, SummaryTables.categories_in}
 use Rattle.olap_view.specs.declared.views.Store.{Store}
-use Rattle.olap_delta.specs.FactByFact.{fact_after, facts_changed, store_after_facts}
-use Rattle.olap_delta.specs.Changing.{Delta, step_of}
-use Rattle.olap_delta.specs.declared.changes.Change.{Change}
-use Rattle.olap_delta.specs.Reading.{views_changed}
-use Rattle.olap_delta.specs.Taking.{AreTaken, HasTaken, IsStoreAfter, IsStoreAfterAll}
-use Rattle.std.specs.Result.{result_map_both}
-use Rattle.olap_delta.specs.declared.kinds.ChangeKind.{ChangeKind}
-use Rattle.olap_delta.specs.declared.kinds.ChangeKind.TheVariants as change
-use Rattle.olap_delta.specs.declared.kinds.DeltaKind.{DeltaKind}
+use Rattle.olap_delta.proofs.{ChangingLemmas.{fact_behind, facts_behind}, StoreChangedLemmas.store_is}
+use Rattle.olap_delta.specs.{Changing.{Delta, step_of}, FactByFact.{fact_after, facts_changed, store_after_facts}}
+use Rattle.olap_delta.specs.{Reading.views_changed, Taking.{AreTaken, HasTaken, IsStoreAfter, IsStoreAfterAll}}
+use Rattle.olap_delta.specs.declared.{changes.Change.Change, kinds.ChangeKind.ChangeKind, kinds.DeltaKind.DeltaKind}
 use Rattle.olap_facts.specs.declared.kinds.FactKind.{FactKind}
-use Rattle.olap_delta.proofs.ChangingLemmas.{fact_behind, facts_behind}
-use Rattle.olap_delta.proofs.StoreChangedLemmas.{store_is}
+use Rattle.olap_delta.specs.declared.kinds.ChangeKind.TheVariants as change
 
 -- one fact more was taken
 pub taken_more : (by : Change) (i : Instance) (views : List (View ℕ ℕ)) (facts : List (Fact ℕ)) (f : Fact ℕ)
@@ -31,21 +19,7 @@ pub taken_more : (by : Change) (i : Instance) (views : List (View ℕ ℕ)) (fac
     → HasTaken by i views facts d → e.change ≡ d.change → e.instance ≡ d.instance → e.categories ≡ d.categories
     → e.taken ≡ d.taken + 1 → e.views ≡ fact_after (step_of d.change) d.instance (d.taken + 2) f d.views
     → HasTaken by i views (facts ++ f ∷ []) e
-taken_more by i views facts f d e h s j c t v = record {
-  change = s ∙ h.change;
-  instance = j ∙ h.instance;
-  categories = c ∙ h.categories;
-  taken = let a = h.taken in omega (arith, length-append {A = Fact ℕ});
-  views = v
-      ∙ ap (λ p. fact_after (step_of p) d.instance (d.taken + 2) f d.views) h.change
-      ∙ ap (λ k. fact_after (step_of by) k (d.taken + 2) f d.views) h.instance
-      ∙ ap (λ n. fact_after (step_of by) i n f d.views) at
-      ∙ ap (fact_after (step_of by) i (2 + length facts) f) h.views
-      ∙ sym (fact_behind (step_of by) i (Ok views) 2 facts f);
-}
-  where
-    at : d.taken + 2 ≡ 2 + length facts
-    at = let a = h.taken in omega arith
+taken_more by i views facts f d e h s j c t v = grind (arith, length-append, fact_behind)
 
 -- no fact was taken yet
 pub taken_none : (by : Change) (i : Instance) (views : List (View ℕ ℕ)) (d : Delta) → d.change ≡ by → d.instance ≡ i
@@ -62,21 +36,7 @@ are_taken_none d = record { change = refl; instance = refl; categories = refl; t
 pub are_taken_more : (facts : List (Fact ℕ)) (f : Fact ℕ) (old d e : Delta) → AreTaken facts old d → e.change ≡ d.change
     → e.instance ≡ d.instance → e.categories ≡ d.categories → e.taken ≡ d.taken + 1
     → e.views ≡ fact_after (step_of d.change) d.instance (d.taken + 2) f d.views → AreTaken (facts ++ f ∷ []) old e
-are_taken_more facts f old d e h s j c t v = record {
-  change = s ∙ h.change;
-  instance = j ∙ h.instance;
-  categories = c ∙ h.categories;
-  taken = let a = h.taken in omega (arith, length-append {A = Fact ℕ});
-  views = v
-      ∙ ap (λ p. fact_after (step_of p) d.instance (d.taken + 2) f d.views) h.change
-      ∙ ap (λ k. fact_after (step_of old.change) k (d.taken + 2) f d.views) h.instance
-      ∙ ap (λ n. fact_after (step_of old.change) old.instance n f d.views) at
-      ∙ ap (fact_after (step_of old.change) old.instance ((old.taken + 2) + length facts) f) h.views
-      ∙ sym (fact_behind (step_of old.change) old.instance old.views (old.taken + 2) facts f);
-}
-  where
-    at : d.taken + 2 ≡ (old.taken + 2) + length facts
-    at = let a = h.taken in omega arith
+are_taken_more facts f old d e h s j c t v = grind (arith, length-append, fact_behind)
 
 -- some facts more
 pub taken_since : (by : Change) (i : Instance) (views : List (View ℕ ℕ)) (before facts : List (Fact ℕ)) (old d : Delta)
@@ -114,9 +74,7 @@ handed_out_after by i views facts d h (Ok s) ok sound order err = record {
   order = subst (λ (j : Instance). All (IsInFileOrder j) (views_of s)) h.instance order;
   err = tt;
 }
-handed_out_after by i views facts d h (Err e) ok sound order err =
-    let same = h.views ∙ sym (store_is (step_of by) i views facts) in
-    record { ok = tt; sound = tt; order = tt; err = subst (IsRefusedBy e) same err }
+handed_out_after by i views facts d h (Err e) ok sound order err = grind (arith, store_is)
 
 -- ---- all that were read
 
@@ -134,9 +92,4 @@ or_refused r = result_map_both (λ vs. vs) (λ f. record { at = f.at; kind = cha
 pub after_all : (by : Change) (i : Instance) (views : List (View ℕ ℕ)) (all : Result (List (Fact ℕ)) (Fault FactKind))
     (facts : List (Fact ℕ)) → all ≡ Ok facts → (s : Store) → IsStoreAfter by i views facts (Ok s)
     → IsStoreAfterAll by i views all (Ok s)
-after_all by i views all facts e s a = record {
-  ok = ap (views_changed (step_of by) i views) e ∙ ap or_refused a.ok;
-  sound = a.sound;
-  order = a.order;
-  err = tt;
-}
+after_all by i views all facts e s a = search rules

@@ -1,24 +1,16 @@
 -- A row after values all at once, and one after another.
 use Rattle.std.proofs.Common.{◌≡◌, ℕ, ◌+◌, ◌-◌, ◌<◌, ◌≤◌, Bool, true, false, cond, ◌||◌, refl, sym, ap, ℤ, ◌+ℤ◌, ◌-ℤ◌, ◌<ℤ◌, Option, Some, None, w64, arith}
-use Rattle.std.specs.Prelude.{◌==◌, int_lt, nat_le, not, Result, Ok, Err}
-use Rattle.std.specs.Int.{int_min, int_max}
-use Rattle.std.specs.Ordering.{int_eq}
-use mir.Val.{SFits}
-use Rattle.std.proofs.lemmas.Bool.Decides.{Decides-int_eq, nat_tests}
-use Rattle.std.proofs.lemmas.Int.{ints}
-use Rattle.olap_base.specs.Limits.{most_count}
+use Rattle.std.proofs.lemmas.{Bool.or_from, Bool.Decides.{Decides-int_eq, nat_tests}, Int.ints}
+use Rattle.std.specs.{Int.{int_min, int_max}, Ordering.int_eq, Prelude.{◌==◌, int_lt, nat_le, not, Result, Ok, Err}}
+use Rattle.olap_base.{proofs.TotalLemmas.{joined_assoc, ⊕_none}, specs.Limits.most_count}
 use Rattle.olap_base.specs.Summaries.{Summary, joined, of_value, ◌⊕◌}
-use Rattle.olap_base.proofs.TotalLemmas.{joined_assoc, ⊕_none}
-use Rattle.olap_view.specs.StoredNumbers.{is_sum}
-use Rattle.olap_delta.specs.Changes.{appended, retracted}
-use Rattle.olap_delta.specs.Changing.{step_of}
-use Rattle.olap_delta.specs.Joining.{Admits, AdmitsLess, AdmitsNew, changed_by, less}
-use Rattle.olap_delta.specs.declared.changes.Change.{Change}
-use Rattle.olap_delta.specs.declared.changes.Change.TheVariants as by
+use Rattle.olap_view.{proofs.StoreLawLemmas.in-bounds, specs.StoredNumbers.is_sum}
+use Rattle.olap_delta.specs.{Changes.{appended, retracted}, Changing.step_of}
+use Rattle.olap_delta.specs.{Joining.{Admits, AdmitsLess, AdmitsNew, changed_by, less}, declared.changes.Change.Change}
 use Rattle.olap_delta.specs.declared.kinds.DeltaKind.{DeltaKind}
+use mir.Val.{SFits}
+use Rattle.olap_delta.specs.declared.changes.Change.TheVariants as by
 use Rattle.olap_delta.specs.declared.kinds.DeltaKind.TheVariants as kind
-use Rattle.olap_view.proofs.StoreLawLemmas.{in-bounds}
-use Rattle.std.proofs.lemmas.Bool.{or_from}
 
 -- a value at the row may come or go, and the row is then as this says
 pub record IsFirst (change : Change) (there : Option Summary) (v : ℤ) (lot : Option Summary) : Type 0 where

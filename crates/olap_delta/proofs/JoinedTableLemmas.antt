@@ -1,32 +1,20 @@
 -- A table to which lots are joined.
 use Rattle.std.proofs.Common.{◌≡◌, ◌≢◌, ◌+◌, ◌<◌, ◌≤◌, ℕ, List, [], ◌∷◌, ◌++◌, length, get_or, take, map, Bool, true, false, cond, refl, sym, ap, subst, ◌∙◌, inl, inr, Option, Some, None, arith}
+use Rattle.std.proofs.lemmas.Bool.{false_from_ne_true, eqb-true, ne_eqb, Decides.nat_tests}
+use Rattle.std.proofs.lemmas.List.{get_or_default, take_more, Elements.{All-contains, All-map, All-weaker}}
 use Rattle.std.specs.Prelude.{All, AllPairs, Contains, ◌==◌, Ok}
-use Rattle.std.proofs.lemmas.Bool.Decides.{nat_tests}
-use Rattle.std.proofs.lemmas.List.{get_or_default, take_more}
-use Rattle.std.proofs.lemmas.List.Elements.{All-contains, All-map, All-weaker}
-use Rattle.olap_base.specs.Instance.{Instance, ReachesCategory, category_of}
-use Rattle.olap_base.specs.Reaching.{reaches, reaches_is}
-use Rattle.olap_base.specs.Summaries.{Summary, ◌⊕◌}
-use Rattle.olap_base.specs.Views.{Fact, total_of_facts, members}
-use Rattle.olap_base.proofs.ViewLemmas.{members_of_is}
+use Rattle.olap_base.proofs.{GeneralLemmas.below_or_same, ViewLemmas.members_of_is}
+use Rattle.olap_base.specs.{Instance.{Instance, ReachesCategory, category_of}, Reaching.{reaches, reaches_is}}
+use Rattle.olap_base.specs.{Summaries.{Summary, ◌⊕◌}, Views.{Fact, total_of_facts, members}}
 use Rattle.olap_legal.specs.Ancestors.{IsAncestor}
-use Rattle.olap_view.specs.Seen.{summary_of}
-use Rattle.olap_view.specs.SummaryTables.{Summarized, stands_at, view_at, views_at}
-use Rattle.olap_view.specs.Tables.{IsAmong, when}
-use Rattle.olap_view.proofs.FileOrderLemmas.{view_by}
-use Rattle.olap_delta.specs.FactByFact.{facts_changed}
-use Rattle.olap_delta.specs.Changing.{AreStorable, step_of}
+use Rattle.olap_view.{proofs.FileOrderLemmas.view_by, specs.Seen.summary_of}
+use Rattle.olap_view.specs.{SummaryTables.{Summarized, stands_at, view_at, views_at}, Tables.{IsAmong, when}}
+use Rattle.olap_delta.proofs.{ChangingLemmas.{IsPut, among}, JoinedRowLemmas.{admits_nothing, nothing_more, together}}
+use Rattle.olap_delta.proofs.{JoiningLemmas.{all_taken, views_alike}, LotLemmas.{lots_at-append, members_in}}
+use Rattle.olap_delta.specs.{Changing.{AreStorable, step_of}, FactByFact.facts_changed}
 use Rattle.olap_delta.specs.Joining.{Admits, AreJoined, IsJoined, IsJoinedIn, IsOnce, changed_by}
-use Rattle.olap_delta.specs.Lots.{StandFor, lots_at}
-use Rattle.olap_delta.specs.declared.changes.Change.{Change}
-use Rattle.olap_delta.specs.declared.lots.Lot.{Lot}
+use Rattle.olap_delta.specs.{Lots.{StandFor, lots_at}, declared.changes.Change.Change, declared.lots.Lot.Lot}
 use Rattle.olap_delta.specs.declared.lots.Lots.{Lots}
-use Rattle.olap_delta.proofs.ChangingLemmas.{IsPut, among}
-use Rattle.olap_delta.proofs.JoinedRowLemmas.{admits_nothing, nothing_more, together}
-use Rattle.olap_delta.proofs.JoiningLemmas.{all_taken, views_alike}
-use Rattle.olap_delta.proofs.LotLemmas.{lots_at-append, members_in}
-use Rattle.std.proofs.lemmas.Bool.{false_from_ne_true, eqb-true, ne_eqb}
-use Rattle.olap_base.proofs.GeneralLemmas.{below_or_same}
 
 -- ---- one lot in one category
 

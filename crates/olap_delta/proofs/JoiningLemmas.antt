@@ -1,26 +1,18 @@
 -- What lots make of the views of a table.
 use Rattle.std.proofs.Common.{◌≡◌, ℕ, ◌+◌, List, [], ◌∷◌, map, Bool, true, false, cond, refl, sym, ap, subst, ◌∙◌, Option, Some, None, w64}
+use Rattle.std.proofs.lemmas.{Bool.{false_from_ne_true, eqb-true, eq-eqb}, List.Elements.{All-head, All-tail}}
 use Rattle.std.specs.Prelude.{All, Contains, filter, ◌==◌, Result, Ok, Err}
-use mir.Val.{SFits}
-use Rattle.std.proofs.lemmas.List.Elements.{All-head, All-tail}
-use Rattle.olap_base.specs.Deciding.{contains_cons}
-use Rattle.olap_base.specs.Instance.{Instance}
-use Rattle.olap_base.specs.Reaching.{reaches}
-use Rattle.olap_base.specs.Summaries.{Summary, of_value, ◌⊕◌}
-use Rattle.olap_base.specs.Views.{Fact, View, members, members_of, total_of_facts}
 use Rattle.olap_base.proofs.ListLemmas.{Contains-filter, Contains-from_filter, Contains-nil, contains_head}
+use Rattle.olap_base.specs.{Deciding.contains_cons, Instance.Instance, Reaching.reaches}
+use Rattle.olap_base.specs.{Summaries.{Summary, of_value, ◌⊕◌}, Views.{Fact, View, members, members_of, total_of_facts}}
 use Rattle.olap_view.proofs.FileOrderLemmas.{view_by}
-use Rattle.olap_delta.specs.Changes.{Step}
-use Rattle.olap_delta.specs.FactByFact.{store_after_facts, view_after_fact, views_after_fact}
-use Rattle.olap_delta.specs.Changing.{step_of}
-use Rattle.olap_delta.specs.Joining.{Admits, IsOnce, changed_by}
-use Rattle.olap_delta.specs.declared.changes.Change.{Change}
-use Rattle.olap_delta.specs.declared.kinds.DeltaKind.{DeltaKind}
 use Rattle.olap_delta.proofs.ChangeLemmas.{stepped, view_alike, view_reached, view_unreached, with_at}
-use Rattle.olap_delta.proofs.ChangingLemmas.{taken_ok}
-use Rattle.olap_delta.proofs.JoinedRowLemmas.{IsFirst, first_of, nothing_more}
-use Rattle.olap_delta.proofs.PermutedLemmas.{added, fact_among}
-use Rattle.std.proofs.lemmas.Bool.{false_from_ne_true, eqb-true, eq-eqb}
+use Rattle.olap_delta.proofs.{ChangingLemmas.taken_ok, JoinedRowLemmas.{IsFirst, first_of, nothing_more}}
+use Rattle.olap_delta.{proofs.PermutedLemmas.{added, fact_among}, specs.Changes.Step, specs.Changing.step_of}
+use Rattle.olap_delta.specs.FactByFact.{store_after_facts, view_after_fact, views_after_fact}
+use Rattle.olap_delta.specs.{Joining.{Admits, IsOnce, changed_by}, declared.changes.Change.Change}
+use Rattle.olap_delta.specs.declared.kinds.DeltaKind.{DeltaKind}
+use mir.Val.{SFits}
 
 -- ---- one fact
 

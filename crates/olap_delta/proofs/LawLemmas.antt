@@ -1,30 +1,20 @@
 -- Direct views, fact by fact.
-use Rattle.std.proofs.Common.{◌≡◌, ◌+◌, ℕ, List, [], ◌∷◌, ◌++◌, map, true, false, cond, refl, sym, ap, subst, ◌∙◌, Option, Some, None, IfSome, w64}
+use Rattle.std.proofs.Common.{arith, ◌≡◌, ◌+◌, ℕ, List, [], ◌∷◌, ◌++◌, map, true, false, cond, refl, sym, ap, subst, ◌∙◌, Option, Some, None, IfSome, w64}
+use Rattle.std.proofs.lemmas.List.{append-nil, append_assoc, Elements.{All-contains, All-head, All-tail}}
 use Rattle.std.specs.Prelude.{All, Contains, MatchResult, Result, Ok, Err}
-use mir.Val.{SFits}
-use Rattle.std.proofs.lemmas.List.{append-nil, append_assoc}
-use Rattle.std.proofs.lemmas.List.Elements.{All-contains, All-head, All-tail}
-use Rattle.olap_base.specs.Graph.{Graph}
-use Rattle.olap_base.specs.Instance.{Instance, IsLawful}
-use Rattle.olap_base.specs.declared.refusals.Fault.{Fault}
-use Rattle.olap_base.specs.Reaching.{reaches}
-use Rattle.olap_base.specs.Summaries.{Summary, of_value, ◌⊕◌}
+use Rattle.olap_base.{proofs.ListLemmas.Contains-map, proofs.TotalLemmas.⊕_none, specs.Graph.Graph}
+use Rattle.olap_base.specs.{Instance.{Instance, IsLawful}, Reaching.reaches, Summaries.{Summary, of_value, ◌⊕◌}}
 use Rattle.olap_base.specs.Views.{Fact, View, direct_view, direct_views, members, members_of, total_of_facts, values_at}
-use Rattle.olap_base.proofs.ListLemmas.{Contains-map}
-use Rattle.olap_base.proofs.TotalLemmas.{⊕_none}
-use Rattle.olap_view.specs.StoreReading.{IsStoredAt}
-use Rattle.olap_view.specs.Stores.{Fits}
-use Rattle.olap_delta.specs.Changes.{Step, appended, retracted}
-use Rattle.olap_delta.specs.FactByFact.{store_after_facts, views_after_fact}
-use Rattle.olap_delta.specs.Laws.{AppendGivesDirectViews, RetractGivesDirectViews}
-use Rattle.olap_delta.specs.declared.kinds.DeltaKind.{DeltaKind}
-use Rattle.olap_delta.specs.declared.kinds.DeltaKind.TheVariants as kind
-use Rattle.olap_view.proofs.FileOrderLemmas.{view_by}
-use Rattle.olap_delta.proofs.StoreChangedLemmas.{stays, store_is}
+use Rattle.olap_base.specs.declared.refusals.Fault.{Fault}
+use Rattle.olap_view.{proofs.FileOrderLemmas.view_by, specs.StoreReading.IsStoredAt, specs.Stores.Fits}
 use Rattle.olap_delta.proofs.ChangeLemmas.{AreSmall, Makes, view_alike, views_step}
-use Rattle.olap_delta.proofs.StorableLemmas.{rows_stored}
 use Rattle.olap_delta.proofs.PermutedLemmas.{fact_among, fact_behind, facts_permuted}
-use Rattle.olap_delta.proofs.RowLemmas.{IsSmall, appended_total, retracted_total}
+use Rattle.olap_delta.proofs.{RowLemmas.{IsSmall, appended_total, retracted_total}, StorableLemmas.rows_stored}
+use Rattle.olap_delta.{proofs.StoreChangedLemmas.{stays, store_is}, specs.Changes.{Step, appended, retracted}}
+use Rattle.olap_delta.specs.FactByFact.{store_after_facts, views_after_fact}
+use Rattle.olap_delta.specs.{Laws.{AppendGivesDirectViews, RetractGivesDirectViews}, declared.kinds.DeltaKind.DeltaKind}
+use mir.Val.{SFits}
+use Rattle.olap_delta.specs.declared.kinds.DeltaKind.TheVariants as kind
 
 -- a stored summary is small
 stored_small : (y : ℕ) (o : Option Summary) → IfSome o (IsStoredAt y) → IfSome o IsSmall
@@ -44,19 +34,7 @@ then : (step : Step) (i : Instance) (views : List (View ℕ ℕ)) (at : ℕ) (f 
     → MatchResult (views_after_fact step i views f)
     (λ views. MatchResult (store_after_facts step i (Ok views) (at + 1) facts) P (λ fault. fault.kind ≡ k)) (λ j. j ≡ k)
     → MatchResult (store_after_facts step i (Ok views) at (f ∷ facts)) P (λ fault. fault.kind ≡ k)
-then step i views at f facts P k = go (views_after_fact step i views f)
-  where
-    go : (r : Result (List (View ℕ ℕ)) DeltaKind)
-        → MatchResult r
-        (λ views. MatchResult (store_after_facts step i (Ok views) (at + 1) facts) P (λ fault. fault.kind ≡ k))
-        (λ j. j ≡ k)
-        → MatchResult (store_after_facts step i (elim r [
-          | Ok changed ↦ Ok changed
-          | Err j ↦ Err (record { at = at; kind = j })
-        ]) (at + 1) facts) P (λ fault. fault.kind ≡ k)
-    go (Ok vs) h = h
-    go (Err j) h = subst (λ (r : Result (List (View ℕ ℕ)) (Fault DeltaKind)). MatchResult r P (λ fault. fault.kind ≡ k))
-        (sym (stays step i (record { at = at; kind = j }) (at + 1) facts)) h
+then step i views at f facts P k = grind (arith, stays)
 
 -- what follows of a value follows of a result
 weaker : {A B : Type 0} (r : Result A B) (P Q : A → Type 0) (R : B → Type 0) → ((a : A) → P a → Q a) → MatchResult r P R

@@ -1,26 +1,15 @@
 -- Lots of facts.
 use Rattle.std.proofs.Common.{◌≡◌, ℕ, zero, suc, ◌+◌, ◌<◌, ◌≤◌, List, [], ◌∷◌, ◌++◌, length, get_or, set, map, Bool, true, false, sym, ap, subst, ◌∙◌, ℤ, Option, Some, w64, arith, length-append}
-use Rattle.std.specs.Prelude.{All, Contains, int_lt}
-use mir.Val.{SFits}
-use Rattle.std.proofs.lemmas.Int.{ints}
-use Rattle.std.proofs.Math.Seq.{map-set_same}
-use Rattle.std.proofs.lemmas.List.{length-set, map-append}
+use Rattle.std.proofs.{Math.Seq.map-set_same, lemmas.Int.ints, lemmas.List.{length-set, map-append}}
 use Rattle.std.proofs.lemmas.List.Elements.{All-push, All-set, All-weaker, Contains-append_left, Contains-append_right, Contains-get_or}
-use Rattle.olap_base.specs.Instance.{Instance}
-use Rattle.olap_base.specs.Reaching.{reaches}
-use Rattle.olap_base.specs.Summaries.{Summary, joined, of_value, ◌⊕◌}
-use Rattle.olap_base.specs.Views.{Fact}
-use Rattle.olap_base.proofs.ListLemmas.{Contains-map, contains_head}
-use Rattle.olap_base.proofs.TotalLemmas.{⊕_assoc, ⊕_comm, ⊕_none}
-use Rattle.olap_view.specs.Bounds.{IsOfValues}
-use Rattle.olap_view.specs.Seen.{summary_of}
-use Rattle.olap_view.specs.Tables.{when}
-use Rattle.olap_delta.specs.Lots.{AreLots, AreMore, IsLot, StandFor, lots_at}
-use Rattle.olap_delta.specs.declared.lots.Lot.{Lot}
-use Rattle.olap_delta.specs.declared.lots.Lots.{Lots}
-use Rattle.olap_delta.proofs.PermutedLemmas.{fact_behind}
-use Rattle.olap_view.proofs.SummaryLemmas.{value_is}
-use Rattle.olap_base.proofs.GeneralLemmas.{either_fits}
+use Rattle.std.specs.Prelude.{All, Contains}
+use Rattle.olap_base.proofs.{GeneralLemmas.either_fits, ListLemmas.{Contains-map, contains_head}}
+use Rattle.olap_base.{proofs.TotalLemmas.{⊕_assoc, ⊕_comm, ⊕_none}, specs.Instance.Instance, specs.Reaching.reaches}
+use Rattle.olap_base.specs.{Summaries.{Summary, joined, of_value, ◌⊕◌}, Views.Fact}
+use Rattle.olap_view.{proofs.SummaryLemmas.value_is, specs.Bounds.IsOfValues, specs.Seen.summary_of, specs.Tables.when}
+use Rattle.olap_delta.{proofs.PermutedLemmas.fact_behind, specs.Lots.{AreLots, AreMore, IsLot, StandFor, lots_at}}
+use Rattle.olap_delta.specs.declared.lots.{Lot.Lot, Lots.Lots}
+use mir.Val.{SFits}
 
 -- ---- what lots come to at a member
 
@@ -67,14 +56,7 @@ lot_more n k members h l q = let f = q.few in record { member = q.member; few = 
 -- one value more of 64 bits
 value_joined : (s : Summary) (v : ℤ) → SFits w64 v → IsOfValues s.count s
     → IsOfValues (s.count + 1) (joined s (of_value v))
-value_joined s v f q =
-    let a = q.up_to.sum_from in let b = q.up_to.sum_to in
-    record {
-      some = omega arith;
-      up_to = record { count = omega arith; sum_from = omega (arith, ints); sum_to = omega (arith, ints) };
-      least = either_fits (int_lt v s.least) v s.least f q.least;
-      greatest = either_fits (int_lt v s.greatest) s.greatest v q.greatest f;
-    }
+value_joined s v f q = grind (arith, ints, either_fits)
 
 -- ---- for which facts they stand
 

@@ -1,22 +1,13 @@
 -- Steps and changes by the names of their faults.
-use Rattle.std.proofs.Common.{◌≡◌, ◌∙◌, ◌+◌, ◌∷◌, ◌++◌, ap, ℕ, ℤ, Bool, true, false, cond, List, [], length, Option, Some, None, Result, Ok, Err, refl}
-use Rattle.std.specs.Prelude.{◌==◌, ◌||◌, ◌+ℤ◌, ◌-ℤ◌, find, int_lt, nat_le, not}
-use Rattle.std.specs.Ordering.{int_eq}
-use Rattle.std.specs.Result.{result_map_both}
-use Rattle.olap_base.specs.Instance.{Instance}
-use Rattle.olap_base.specs.Limits.{most_count}
-use Rattle.olap_base.specs.Reaching.{reaches}
-use Rattle.olap_base.specs.Summaries.{Summary, joined, of_value}
-use Rattle.olap_base.specs.Views.{Fact, View, members_of}
+use Rattle.std.proofs.Common.{arith, ◌≡◌, ◌∙◌, ◌+◌, ◌∷◌, ◌++◌, ap, ℕ, ℤ, Bool, true, false, cond, List, [], length, Option, Some, None, Result, Ok, Err, refl}
+use Rattle.std.specs.{Prelude.find, Result.result_map_both}
+use Rattle.olap_base.specs.{Instance.Instance, Reaching.reaches, Summaries.Summary, Views.{Fact, View, members_of}}
 use Rattle.olap_records.specs.Tables.{all_read, and_others, named}
-use Rattle.olap_view.specs.StoredNumbers.{is_sum}
 use Rattle.olap_view.specs.Stores.{summary_in}
-use Rattle.olap_delta.specs.Changes.{Step, StepOr, append, appended, retract, retracted, store_after, view_after, view_with, without}
-use Rattle.olap_delta.specs.Changing.{step_named, step_of}
-use Rattle.olap_delta.specs.Kinds.{name_of_kind}
-use Rattle.olap_delta.specs.declared.changes.Change.{Change}
-use Rattle.olap_delta.specs.declared.changes.Change.TheVariants as by
+use Rattle.olap_delta.specs.Changes.{Step, StepOr, append, appended, retract, retracted, store_after, view_after, view_with}
+use Rattle.olap_delta.specs.{Changing.{step_named, step_of}, Kinds.name_of_kind, declared.changes.Change.Change}
 use Rattle.olap_delta.specs.declared.kinds.DeltaKind.{DeltaKind}
+use Rattle.olap_delta.specs.declared.changes.Change.TheVariants as by
 use Rattle.olap_delta.specs.declared.kinds.DeltaKind.TheVariants as kind
 
 -- a result by the name of its fault
@@ -35,18 +26,12 @@ check false k meant is e = e
 -- a value that comes
 append-named : (o : Option Summary) (v : ℤ) → append o v ≡ by_name (appended o v)
 append-named None v = refl
-append-named (Some s) v =
-    check (s.count == most_count) kind.Full _ _
-    (check (not (is_sum (s.sum +ℤ v))) kind.Bound (Ok (joined s (of_value v))) (Ok (joined s (of_value v))) refl)
+append-named (Some s) v = grind (arith, check)
 
 -- a value that is withdrawn
 retract-named : (o : Option Summary) (v : ℤ) → retract o v ≡ by_name (retracted o v)
 retract-named None v = refl
-retract-named (Some s) v =
-    check (int_lt v s.least || int_lt s.greatest v) kind.Outside _ _
-    (check (int_eq v s.least || int_eq v s.greatest) kind.Extreme _ _
-    (check (nat_le s.count 2) kind.Short _ _
-    (check (not (is_sum (s.sum -ℤ v))) kind.Bound (Ok (without s v)) (Ok (without s v)) refl)))
+retract-named (Some s) v = grind (arith, check)
 
 -- the step of a change
 step-named : (change : Change) (o : Option Summary) (v : ℤ) → step_named change o v ≡ by_name (step_of change o v)

@@ -1,15 +1,10 @@
 -- Totals of the same facts in another order.
 use Rattle.std.proofs.Common.{◌≡◌, ℕ, zero, suc, ◌<◌, List, [], ◌∷◌, ◌++◌, length, get_or, set, cond, refl, sym, ap, ◌∙◌, Option, Some, None, arith}
-use Rattle.std.specs.Prelude.{filter}
-use Rattle.std.specs.List.{swap}
+use Rattle.std.{proofs.lemmas.List.Edits.swap_is, proofs.lemmas.List.Sorted.IsPermutation-keeps, specs.List.swap}
 use Rattle.std.specs.List.Sorted.{IsPermutation}
-use Rattle.std.proofs.lemmas.List.Edits.{swap_is}
-use Rattle.std.proofs.lemmas.List.Sorted.{IsPermutation-keeps}
-use Rattle.olap_base.specs.Instance.{Instance}
-use Rattle.olap_base.specs.Reaching.{reaches}
-use Rattle.olap_base.specs.Summaries.{Summary, of_value, ◌⊕◌}
-use Rattle.olap_base.specs.Views.{Fact, total_of_facts, values_at, members}
-use Rattle.olap_base.proofs.TotalLemmas.{total-append, total-filter, total-map, total_by, total_is, ⊕_assoc, ⊕_comm, ⊕_none, totals_exchanged}
+use Rattle.olap_base.proofs.TotalLemmas.{total-append, total-filter, total-map, total_by, total_is, ⊕_none, totals_exchanged}
+use Rattle.olap_base.specs.{Instance.Instance, Reaching.reaches, Summaries.{Summary, of_value, ◌⊕◌}}
+use Rattle.olap_base.specs.Views.{Fact, total_of_facts, members}
 
 module _ {A : Type 0} (f : A → Option Summary) where
   -- the item at j before the list that has another in its place
@@ -47,10 +42,7 @@ added i y f = cond (reaches i f.at y) (Some (of_value f.value)) None
 -- the total at a member as a sum over all facts
 pub facts_total : (i : Instance) (facts : List (Fact ℕ)) (y : ℕ) → total_of_facts (members i) facts y
     ≡ total_by (added i y) facts
-facts_total i facts y =
-    total_is of_value (values_at (members i) facts y)
-    ∙ total-map (λ v. Some (of_value v)) (λ (f : Fact ℕ). f.value) (filter (λ f. reaches i f.at y) facts)
-    ∙ total-filter (λ (f : Fact ℕ). Some (of_value f.value)) (λ f. reaches i f.at y) facts
+facts_total i facts y = search (total_is, total-map, total-filter)
 
 module _ (i : Instance) (y : ℕ) where
   -- so it is of the facts at a member

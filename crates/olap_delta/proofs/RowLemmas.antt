@@ -1,22 +1,14 @@
 -- What a value makes of the total of some values.
 use Rattle.std.proofs.Common.{◌≡◌, ◌≢◌, ℕ, ◌+◌, ◌-◌, ◌*◌, ◌^◌, ◌<◌, ◌≤◌, List, [], ◌∷◌, length, map, Bool, true, false, cond, ◌||◌, refl, sym, ap, subst, ◌∙◌, ℤ, pos, neg_ℤ, ◌+ℤ◌, ◌-ℤ◌, ◌≤ℤ◌, ◌<ℤ◌, Option, Some, None, IfSome, w64, arith}
-use Rattle.std.specs.Prelude.{All, ◌==◌, int_lt, nat_le, not, MatchResult, Ok, Err}
-use Rattle.std.specs.Int.{int_min, int_max}
-use Rattle.std.specs.Ordering.{int_eq}
-use mir.Val.{SFits}
-use Rattle.std.proofs.lemmas.Bool.Decides.{Decides-int_eq, nat_tests, not_from_Decides}
-use Rattle.std.proofs.lemmas.Int.{ints}
-use Rattle.std.proofs.lemmas.List.Elements.{All-cons, All-head, All-nil, All-tail}
-use Rattle.olap_base.specs.Limits.{most_count}
+use Rattle.std.proofs.lemmas.{Bool.or_parts, Bool.Decides.{Decides-int_eq, nat_tests, not_from_Decides}, Int.ints}
+use Rattle.std.{proofs.lemmas.List.Elements.{All-cons, All-head, All-nil, All-tail}, specs.Int.{int_min, int_max}}
+use Rattle.std.specs.{Ordering.int_eq, Prelude.{All, ◌==◌, int_lt, nat_le, not, MatchResult, Ok, Err}}
+use Rattle.olap_base.{proofs.GeneralLemmas.either_fits, proofs.TotalLemmas.totals_of_values, specs.Limits.most_count}
 use Rattle.olap_base.specs.Summaries.{Summary, joined, of_value, total, ◌⊕◌}
-use Rattle.olap_base.proofs.TotalLemmas.{totals_of_values}
-use Rattle.olap_view.specs.StoredNumbers.{is_sum}
-use Rattle.olap_delta.specs.Changes.{appended, retracted}
-use Rattle.olap_delta.specs.declared.kinds.DeltaKind.{DeltaKind}
+use Rattle.olap_view.{proofs.StoreLawLemmas.in-bounds, specs.StoredNumbers.is_sum}
+use Rattle.olap_delta.specs.{Changes.{appended, retracted}, declared.kinds.DeltaKind.DeltaKind}
+use mir.Val.{SFits}
 use Rattle.olap_delta.specs.declared.kinds.DeltaKind.TheVariants as kind
-use Rattle.olap_view.proofs.StoreLawLemmas.{in-bounds}
-use Rattle.std.proofs.lemmas.Bool.{or_parts}
-use Rattle.olap_base.proofs.GeneralLemmas.{either_fits}
 
 -- what stands at a row that may be stored, but for its sum
 pub record IsSmall (s : Summary) : Type 0 where
@@ -104,25 +96,15 @@ count_or d (Some t) = t.count
 -- two values at least, where some are less than others
 pub two_at_least : (vs : List ℤ) (s : Summary) → total (map of_value vs) ≡ Some s → s.least <ℤ s.greatest → 2 ≤ s.count
 two_at_least [] s e l = absurd (cc)
-two_at_least (v ∷ []) s e l =
-    let q = some_same (of_value v) s e in
-    let h : v <ℤ v = subst (λ (t : Summary). t.least <ℤ t.greatest) (sym q) l in
-    absurd (omega (arith, ints))
-two_at_least (v ∷ w ∷ vs) s e l =
-    let q = sym (totals_of_values v (w ∷ vs)) ∙ e in
-    let n : length (v ∷ w ∷ vs) ≡ s.count = ap (count_or 0) q in
-    omega arith
+two_at_least (v ∷ []) s e l = grind (arith, some_same, ints)
+two_at_least (v ∷ w ∷ vs) s e l = grind (arith, totals_of_values)
 
 -- ---- one value more
 
 -- a small row with one value more is small
 pub joined_small : (s : Summary) (v : ℤ) → s.count < most_count → SFits w64 v → IsSmall s
     → IsSmall (joined s (of_value v))
-joined_small s v l f q = record {
-  few = omega arith;
-  least = either_fits (int_lt v s.least) v s.least f q.least;
-  greatest = either_fits (int_lt v s.greatest) s.greatest v q.greatest f;
-}
+joined_small s v l f q = grind (arith, either_fits)
 
 -- what appending a value gives, or it is `Full`
 abbrev pub Appends : Option Summary → ℤ → Option Summary → Type 0
@@ -171,27 +153,7 @@ outside v a b = grind (arith, ints)
 -- what lies strictly between a least and a greatest that it is counted in
 between : (v a b : ℤ) → int_eq v (int_min v a) ≡ false → int_eq v (int_max v b) ≡ false
     → (a <ℤ v) × (v <ℤ b) × (int_min v a ≡ a) × (int_max v b ≡ b)
-between v a b e f =
-    let p = not_from_Decides (int_eq v (int_min v a)) (Decides-int_eq v (int_min v a)) e in
-    let q = not_from_Decides (int_eq v (int_max v b)) (Decides-int_eq v (int_max v b)) f in
-    let l = below v a p in let g = above v b q in (l.0, g.0, l.1, g.1)
-  where
-    below : (v a : ℤ) → (v ≡ int_min v a → ⊥) → (a <ℤ v) × (int_min v a ≡ a)
-    below v a n = by (int_lt a v) refl n
-      where
-        by : (b : Bool) → int_lt a v ≡ b → (v ≡ cond b a v → ⊥) → (a <ℤ v) × (cond b a v ≡ a)
-        by true e m = (grind (arith, ints), refl)
-        by false e m = absurd (m refl)
-
-    above : (v b : ℤ) → (v ≡ int_max v b → ⊥) → (v <ℤ b) × (int_max v b ≡ b)
-    above v b n = by (int_lt b v) refl n
-      where
-        by : (t : Bool) → int_lt b v ≡ t → (v ≡ cond t v b → ⊥) → (v <ℤ b) × (cond t v b ≡ b)
-        by true e m = absurd (m refl)
-        by false e m = (order b v e m, refl)
-          where
-            order : (b v : ℤ) → int_lt b v ≡ false → (v ≡ b → ⊥) → v <ℤ b
-            order b v e m = grind (arith, ints)
+between v a b e f = grind (arith, not_from_Decides, Decides-int_eq, ints)
 
 -- retracting a value from a total that has it gives the total of the others, or is `Extreme`
 pub retracted_total : (vs : List ℤ) (v : ℤ) → IfSome (Some (of_value v) ⊕ total (map of_value vs)) IsSmall

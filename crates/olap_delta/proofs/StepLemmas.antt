@@ -1,21 +1,14 @@
 -- A step at a row that may be stored.
 --     lot_small, lot_storable             a lot of values alone
 use Rattle.std.proofs.Common.{◌≡◌, ◌≢◌, ◌+◌, ◌-◌, ◌≤◌, true, subst, ℤ, ◌+ℤ◌, ◌-ℤ◌, Option, Some, IfSome, w64, arith}
-use Rattle.std.specs.Prelude.{int_lt}
-use Rattle.std.specs.Option.{option_map}
-use mir.Val.{SFits}
-use Rattle.std.proofs.lemmas.Int.{ints}
-use Rattle.olap_base.specs.Limits.{most_count}
+use Rattle.std.{proofs.lemmas.Int.ints, specs.Option.option_map, specs.Prelude.int_lt}
+use Rattle.olap_base.{proofs.GeneralLemmas.either_fits, specs.Limits.most_count}
 use Rattle.olap_base.specs.Summaries.{Summary, joined, of_value}
-use Rattle.olap_view.specs.Bounds.{IsJoinable, IsOfValues}
-use Rattle.olap_view.specs.Seen.{summary_of}
+use Rattle.olap_view.{proofs.ReadStoreLemmas.is-sum-fits, specs.Bounds.{IsJoinable, IsOfValues}, specs.Seen.summary_of}
 use Rattle.olap_view.specs.StoredNumbers.{is_sum}
+use Rattle.olap_delta.specs.{Changes.without, Changing.IsStorable, Joining.{HasRoom, less}}
+use mir.Val.{SFits}
 use Rattle.olap_view.specs.declared.summaries.Summary as told
-use Rattle.olap_delta.specs.Changes.{without}
-use Rattle.olap_delta.specs.Changing.{IsStorable}
-use Rattle.olap_delta.specs.Joining.{HasRoom, less}
-use Rattle.olap_view.proofs.ReadStoreLemmas.{is-sum-fits}
-use Rattle.olap_base.proofs.GeneralLemmas.{either_fits}
 
 -- the row that is there may be stored, as what stands there may
 pub kept : (there : Option told.Summary) (row : told.Summary) → there ≡ Some row

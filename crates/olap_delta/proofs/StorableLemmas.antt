@@ -1,20 +1,13 @@
 -- What stands at rows that may be stored.
 use Rattle.std.proofs.Common.{◌≡◌, ◌≢◌, ◌<◌, ℕ, List, [], ◌∷◌, length, get_or, refl, sym, ap, subst, ◌∙◌, inl, inr, Option, Some, None, IfSome, arith}
-use Rattle.std.specs.Prelude.{All, AllPairs, Contains}
-use Rattle.std.specs.List.{cons_option}
-use Rattle.std.proofs.lemmas.List.{length-map}
-use Rattle.std.proofs.lemmas.List.Elements.{All-contains, All-head, All-map, All-tail, Contains-get_or}
-use Rattle.olap_base.specs.Deciding.{contains_cases}
-use Rattle.olap_base.specs.Graph.{Graph, IsCategory}
-use Rattle.olap_base.specs.Instance.{category_of}
-use Rattle.olap_base.specs.Summaries.{Summary}
+use Rattle.std.proofs.lemmas.List.{length-map, Elements.{All-contains, All-head, All-map, All-tail, Contains-get_or}}
+use Rattle.std.specs.{List.cons_option, Prelude.{All, AllPairs, Contains}}
+use Rattle.olap_base.proofs.{ListLemmas.{Contains-map, Contains-nil}, ViewLemmas.{is_member_of, members_of_is}}
+use Rattle.olap_base.specs.{Deciding.contains_cases, Graph.{Graph, IsCategory}, Instance.category_of, Summaries.Summary}
 use Rattle.olap_base.specs.Views.{Row, View, members_of, row_at}
-use Rattle.olap_base.proofs.ListLemmas.{Contains-map, Contains-nil}
-use Rattle.olap_base.proofs.ViewLemmas.{is_member_of, members_of_is}
-use Rattle.olap_view.specs.StoreReading.{IsStoredAt}
-use Rattle.olap_view.specs.Stores.{Fits, IsInFileOrder, IsSoundStore, IsStored}
-use Rattle.olap_view.specs.SummaryTables.{Summarized, categories_in, stands_at, view_at, views_at}
 use Rattle.olap_view.proofs.FileOrderLemmas.{all-rows, each-in-order, rows_by, store-of}
+use Rattle.olap_view.specs.{StoreReading.IsStoredAt, Stores.{Fits, IsInFileOrder, IsSoundStore, IsStored}}
+use Rattle.olap_view.specs.SummaryTables.{Summarized, categories_in, stands_at, view_at, views_at}
 use Rattle.olap_delta.specs.Changing.{AreStorable, IsStorable}
 
 -- each row of these members may be stored, so what stands at one of them may

@@ -1,13 +1,9 @@
 -- What facts make of stored views by the definition is what is made fact by fact.
 use Rattle.std.proofs.Common.{◌≡◌, ◌+◌, ◌∷◌, ◌++◌, ◌∙◌, [], ℕ, List, Bool, true, false, cond, length, refl, ap, sym, Option, Some, None, Result, Ok, Err}
-use Rattle.std.specs.Prelude.{filter, find}
-use Rattle.olap_base.specs.Instance.{Instance}
-use Rattle.olap_base.specs.Reaching.{reaches}
-use Rattle.olap_base.specs.Summaries.{Summary}
-use Rattle.olap_base.specs.Views.{Fact, View, members_of}
+use Rattle.std.specs.{Prelude.{filter, find}, Result.result_map_both}
+use Rattle.olap_base.specs.{Instance.Instance, Reaching.reaches, Summaries.Summary, Views.{Fact, View, members_of}}
 use Rattle.olap_base.specs.declared.refusals.Fault.{Fault}
 use Rattle.olap_records.specs.Tables.{all_read, and_others}
-use Rattle.std.specs.Result.{result_map_both}
 use Rattle.olap_view.specs.Stores.{summary_in}
 use Rattle.olap_delta.specs.Changes.{Step, store_after, store_changed, view_after, view_with, views_after}
 use Rattle.olap_delta.specs.FactByFact.{facts_changed, store_after_facts, view_after_at, view_after_fact, views_after_fact}

@@ -1,26 +1,16 @@
 -- Stored views that change by the facts of a text that comes in pieces.
-use Rattle.std.proofs.Common.{◌≡◌, ◌++◌, ◌∙◌, ℕ, List, ap, subst, sym}
-use Rattle.std.specs.Prelude.{Ok, Err, Result}
-use Rattle.olap_base.specs.Graph.{Graph}
-use Rattle.olap_base.specs.Instance.{Instance}
-use Rattle.olap_base.specs.Refusing.{IsRefusedBy}
-use Rattle.olap_base.specs.Views.{Fact, View}
-use Rattle.olap_base.specs.declared.refusals.Fault.{Fault}
-use Rattle.olap_base.specs.declared.refusals.Refusal.{Refusal}
+use Rattle.std.{proofs.Common.{◌≡◌, ◌++◌, ◌∙◌, ℕ, List, ap, subst, sym}, specs.Prelude.{Ok, Err, Result}}
+use Rattle.olap_base.specs.{Graph.Graph, Instance.Instance, Refusing.IsRefusedBy, Views.{Fact, View}}
+use Rattle.olap_base.specs.declared.refusals.{Fault.Fault, Refusal.Refusal}
 use Rattle.olap_records.specs.Standing.{records_fed}
-use Rattle.olap_facts.specs.FactText.{facts_read_within}
-use Rattle.olap_facts.specs.Feeding.{Fed, Feeding, IsSameSetting, fed_read}
+use Rattle.olap_facts.specs.{FactText.facts_read_within, Feeding.{Fed, Feeding, IsSameSetting, fed_read}}
 use Rattle.olap_facts.specs.declared.kinds.FactKind.{FactKind}
 use Rattle.olap_view.specs.declared.views.Store.{Store}
-use Rattle.olap_delta.specs.Changes.{store_changed}
-use Rattle.olap_delta.specs.Changing.{step_of}
+use Rattle.olap_delta.{proofs.DeltaLemmas.{after_all, refused_all}, specs.Changes.store_changed, specs.Changing.step_of}
 use Rattle.olap_delta.specs.Reading.{views_changed}
 use Rattle.olap_delta.specs.Taking.{AreAllIn, AreIn, HasTakenText, IsChanger, IsStoreAfter, IsStoreAfterAll, TextChange}
-use Rattle.olap_delta.specs.declared.changes.Change.{Change}
-use Rattle.olap_delta.specs.declared.kinds.ChangeKind.{ChangeKind}
-use Rattle.olap_delta.specs.declared.kinds.DeltaKind.{DeltaKind}
+use Rattle.olap_delta.specs.declared.{changes.Change.Change, kinds.ChangeKind.ChangeKind, kinds.DeltaKind.DeltaKind}
 use Rattle.olap_delta.specs.declared.taking.Taken.{Taken}
-use Rattle.olap_delta.proofs.DeltaLemmas.{after_all, refused_all}
 
 -- the changer after a piece
 abbrev pub with-taken : TextChange → Feeding → Taken → TextChange

@@ -1,21 +1,17 @@
 -- The places at which there may be more.
 use Rattle.std.proofs.Common.{◌≡◌, ℕ, zero, suc, ◌+◌, ◌<◌, ◌≤◌, List, [], ◌∷◌, ◌++◌, length, get_or, take, refl, ap, sym, subst, ◌∙◌, ◌⊎◌, inl, inr, arith, length-append}
-use Rattle.std.specs.Prelude.{All, AllPairs, Contains, MatchOption, None, Option, Some, slice_index}
 use Rattle.std.proofs.lemmas.List.{get_or_append_left, length-take-le, take-append-le, take_all}
 use Rattle.std.proofs.lemmas.List.Elements.{All-append, Contains-append_left, Contains-push, Contains-push_cases}
 use Rattle.std.proofs.lemmas.List.Quantifiers.{all_pairs_push}
+use Rattle.std.specs.Prelude.{All, AllPairs, Contains, MatchOption, None, Option, Some, slice_index}
 use Rattle.olap_ast.specs.Frozen.{Frozen, code}
-use Rattle.olap_clauses.specs.declared.engine.Engine.{Engine}
-use Rattle.olap_clauses.specs.declared.trails.Step.{Step}
+use Rattle.olap_clauses.specs.{Engines.trail_of, declared.engine.Engine.Engine, declared.trails.Step.Step}
 use Rattle.olap_clauses.specs.declared.trails.Trail.{Trail}
-use Rattle.olap_clauses.specs.Engines.{trail_of}
-use Rattle.olap_dimsat.specs.declared.branching.Branch.{Branch}
+use Rattle.olap_dimsat.proofs.{FollowingLemmas.{in_range, next_of, none_beyond}, SettleLemmas.{agreeing, pinned_other}}
 use Rattle.olap_dimsat.specs.Branches.{AreBranches, IsBehind, IsBranch, IsOpen, IsRefuted, IsTopped}
 use Rattle.olap_dimsat.specs.Following.{IsNext, IsRisen, NoneBeyond, NoneMore}
-use Rattle.olap_dimsat.specs.Pinned.{InRange, IsLonger, IsPinned, IsPlace, IsReady, IsSame}
-use Rattle.olap_dimsat.specs.Tasks.{Task, IsOne}
-use Rattle.olap_dimsat.proofs.FollowingLemmas.{in_range, next_of, none_beyond}
-use Rattle.olap_dimsat.proofs.SettleLemmas.{agreeing, pinned_other}
+use Rattle.olap_dimsat.specs.{Pinned.{InRange, IsLonger, IsPinned, IsPlace, IsReady, IsSame}, Tasks.{Task, IsOne}}
+use Rattle.olap_dimsat.specs.declared.branching.Branch.{Branch}
 use Rattle.olap_base.proofs.GeneralLemmas.{below_or_same}
 
 -- ---- no more at a place
@@ -96,17 +92,13 @@ pairs_before : (xs : List Branch) (y : Branch) → AllPairs IsBehind (xs ++ y �
 pairs_before xs y a i j d l h =
     let e = get_or_append_left xs (y ∷ []) d i (omega arith) in
     let f = get_or_append_left xs (y ∷ []) d j h in
-    subst (λ b. IsBehind (get_or xs i d) b) f
-    (subst (λ b. IsBehind b (get_or (xs ++ y ∷ []) j d)) e
-    (a i j d l (let n = length-append xs (y ∷ []) in omega arith)))
+    rw (← f) (rw (← e) (a i j d l (let n = length-append xs (y ∷ []) in omega arith)))
 
 -- and the last is after each
 pairs_last : (xs : List Branch) (y : Branch) → AllPairs IsBehind (xs ++ y ∷ []) → All (λ b. IsBehind b y) xs
 pairs_last xs y a k d h =
     let e = get_or_append_left xs (y ∷ []) d k h in
-    subst (λ b. IsBehind (get_or xs k d) b) (at_last xs y d)
-    (subst (λ b. IsBehind b (get_or (xs ++ y ∷ []) (length xs) d)) e
-    (a k (length xs) d h (let n = length-append xs (y ∷ []) in omega arith)))
+    rw (← (at_last xs y d)) (rw (← e) (a k (length xs) d h (let n = length-append xs (y ∷ []) in omega arith)))
 
 -- ---- branches come
 
@@ -146,7 +138,7 @@ branches_past t p w ss ts bs b longer none = record {
   each = λ k d h. branch_still t p w ss ts (get_or bs k d) longer (b.each k d h);
   rest = λ q h not. elim (below_or_same q p h) [
     | inl l ↦ b.rest q l not
-    | inr e ↦ subst (λ m. NoneMore t m w) (sym e) none
+    | inr e ↦ rw e none
   ];
 }
 
@@ -161,8 +153,7 @@ branches_more t p w ss ts bs b old longer pinned place mark = record {
       (λ k d h. branch_still t p w ss ts (get_or bs k d) longer (old.each k d h)) (record {
         place = omega arith;
         mark = longer_mark ss ts b.mark longer (omega arith);
-        pinned = subst (λ m. IsPinned t m w (take b.mark ts)) (sym place)
-            (subst (IsPinned t p w)
+        pinned = rw place (subst (IsPinned t p w)
             (sym (front_still ss ts b.mark longer (omega arith) ∙ take_all b.mark ss (omega arith))) pinned);
       });
   rest = λ q h not. elim (below_or_same q p h) [

@@ -1,24 +1,15 @@
 -- The clauses of a task are the encoder's.
-use Rattle.std.proofs.Common.{◌≡◌, ℕ, zero, suc, ◌≤◌, ◌<◌, List, length, Bool, refl, sym, subst, ◌∙◌, ◌^◌, arith}
-use Rattle.std.specs.Prelude.{◌↔◌, IsTrue}
-use Rattle.std.proofs.lemmas.Bool.{eqb-true, eq-eqb}
-use Rattle.olap_ast.specs.Frozen.{Frozen}
+use Rattle.std.proofs.Common.{◌≡◌, ℕ, zero, suc, ◌≤◌, ◌<◌, List, length, Bool, refl, sym, ◌∙◌, ◌^◌, arith}
+use Rattle.std.{proofs.lemmas.Bool.{eqb-true, eq-eqb}, specs.Prelude.{◌↔◌, IsTrue}}
+use Rattle.olap_ast.{proofs.ConstantLemmas.{constant_in_constraint, constant_in_question}, specs.Frozen.Frozen}
 use Rattle.olap_ast.specs.Valid.{IsFormulaAt, IsValidSchema}
-use Rattle.olap_ast.proofs.ConstantLemmas.{constant_in_constraint, constant_in_question}
 use Rattle.olap_pool.specs.declared.pools.Pool.{Pool}
-use Rattle.olap_pool.specs.Pools.{AreTrue}
-use Rattle.olap_encoding.specs.Layouts.{on_variable, present_variable, name_variable}
-use Rattle.olap_encoding.specs.Meanings.{Fits, Means, index_of, meaning_at}
-use Rattle.olap_encoding.specs.declared.meanings.Meaning.{Meaning}
-use Rattle.olap_encoding.specs.declared.meanings.Meaning.TheVariants.{Named, On, Present}
-use Rattle.olap_encoding.specs.Encoding.{Encoding, IsLaid as IsLaidOut}
-use Rattle.olap_encoding.specs.Formulas.{IsSpokenQuestion}
-use Rattle.olap_encoding.specs.Meeting.{AreMetBy, valuation_in}
-use Rattle.olap_encoding.proofs.SpokenLemmas.{spoken}
+use Rattle.olap_encoding.{proofs.SpokenLemmas.spoken, specs.Encoding.{Encoding, IsLaid as IsLaidOut}}
+use Rattle.olap_encoding.specs.{Formulas.IsSpokenQuestion, Layouts.{on_variable, present_variable, name_variable}}
+use Rattle.olap_encoding.specs.{Meanings.{Fits, Means, index_of, meaning_at}, Meeting.{AreMetBy, valuation_in}}
+use Rattle.olap_encoding.specs.declared.meanings.Meaning.{Meaning, TheVariants.{Named, On, Present}}
 use Rattle.olap_names.specs.Questions.{IsQuestion, Question}
-use Rattle.olap_dimsat.specs.Tasks.{IsLaid, Task, schema_of}
-use Rattle.olap_dimsat.specs.Reads.{Reads, index_in}
-use Rattle.olap_dimsat.specs.Pinned.{IsEncoded}
+use Rattle.olap_dimsat.specs.{Pinned.IsEncoded, Reads.{Reads, index_in}, Tasks.{IsLaid, Task, schema_of}}
 use Rattle.olap_base.proofs.ListLemmas.{same_truth}
 
 -- a question of a valid schema's graph can be encoded
@@ -41,7 +32,7 @@ index_same f (suc c) = refl
 at_meaning : (t : Task) (f : Frozen) (ms : List Meaning) (v : ℕ → Bool) (x : ℕ) (m : Meaning) → x < length ms
     → meaning_at ms x ≡ m
     → Fits (schema_of t) t.question.root f ms v → IsTrue (v x) ↔ Means (schema_of t) t.question.root f v m
-at_meaning t f ms v x m h e fits = subst (λ n. IsTrue (v x) ↔ Means (schema_of t) t.question.root f v n) e (fits.at x h)
+at_meaning t f ms v x m h e fits = rw (← e) (fits.at x h)
 
 -- a valuation that fits meanings laid out so reads the frozen dimension
 reads : (t : Task) (f : Frozen) (ms : List Meaning) (v : ℕ → Bool) → IsLaidOut t.question ms t.layout
@@ -81,5 +72,5 @@ encoded t e pool is laid few variables met same = record {
   each = λ f one.
       let v = valuation_in t.question e f in
       let m = met f one in
-      (v, reads t f e.meanings v laid m.0, subst (λ p. AreTrue v p) (sym same) m.1);
+      (v, reads t f e.meanings v laid m.0, rw same m.1);
 }

@@ -1,14 +1,10 @@
 -- What a search found, or didn't, once its names are there.
 use Rattle.std.proofs.Common.{◌≡◌, ℕ, refl, subst, sym, ◌∙◌}
 use Rattle.std.specs.Prelude.{Option, Some, None, Result, Ok, Err, IfOk, IfSome, IsNone}
-use Rattle.olap_ast.specs.Formula.{Formula}
-use Rattle.olap_ast.specs.Questions.{NoneFrozen}
-use Rattle.olap_ast.specs.Schema.{Schema}
+use Rattle.olap_ast.specs.{Formula.Formula, Questions.NoneFrozen, Schema.Schema}
+use Rattle.olap_dimsat.specs.{Finding.HasNone, Searches.{IsMadeWith, candidates_in, found_in, named_in, root_of}}
 use Rattle.olap_dimsat.specs.declared.searching.Search.{Search}
-use Rattle.olap_dimsat.specs.Finding.{HasNone}
-use Rattle.olap_dimsat.specs.Searches.{IsMadeWith, candidates_in, found_in, named_in, root_of}
-use Rattle.olap_frozen.specs.declared.founding.Found.{Found}
-use Rattle.olap_frozen.specs.declared.frozen.Frozen.{Frozen}
+use Rattle.olap_frozen.specs.declared.{founding.Found.Found, frozen.Frozen.Frozen}
 use Rattle.olap_names.specs.Names.{Named}
 
 -- what a search at r found is found at r, once it has the search's names
@@ -33,8 +29,7 @@ pub none_named : {E : Type 0} (s : Schema) (q : Formula) (search : Search) (r : 
 none_named {E = E} s q search r frozen (Ok o) made at none is = λ e. (
   candidates_in search,
   made.task.question.candidates,
-  subst (λ x. NoneFrozen s q x (candidates_in search)) at
-      (subst (λ (w : Result (Option Frozen) E). IfOk w (λ v. IsNone v
+  rw (← at) (subst (λ (w : Result (Option Frozen) E). IfOk w (λ v. IsNone v
       → NoneFrozen s q (root_of search) (candidates_in search))) (is e) none refl),
 )
 none_named s q search r frozen (Err f) made at none is = tt

@@ -1,18 +1,13 @@
 -- The frozen dimension that comes next by its code.
-use Rattle.std.proofs.Common.{◌≡◌, ℕ, zero, suc, ◌+◌, ◌-◌, ◌<◌, ◌≤◌, List, [], ◌∷◌, length, Bool, true, false, refl, ap, sym, subst, ◌∙◌, inl, inr, arith}
-use Rattle.std.specs.Prelude.{slice_index, slice_index_or}
-use Rattle.std.proofs.lemmas.List.{ext_get_or}
+use Rattle.std.proofs.Common.{◌≡◌, ℕ, zero, suc, ◌+◌, ◌-◌, ◌<◌, ◌≤◌, List, [], ◌∷◌, length, Bool, true, false, refl, ap, sym, ◌∙◌, inl, inr, arith}
+use Rattle.std.{proofs.lemmas.Bool.cases_lt, proofs.lemmas.List.ext_get_or, specs.Prelude.{slice_index, slice_index_or}}
 use Rattle.olap_ast.specs.Frozen.{Frozen, code}
-use Rattle.olap_base.specs.Ranks.{IsNotAfter}
-use Rattle.olap_dimsat.specs.Following.{IsNext, IsRaised, IsRisen, NoneBeyond, NoneMore}
-use Rattle.olap_dimsat.specs.Listed.{IsBefore}
-use Rattle.olap_clauses.specs.declared.engine.Engine.{Engine}
-use Rattle.olap_clauses.specs.declared.trails.Step.{Step}
+use Rattle.olap_base.{proofs.GeneralLemmas.less_equal_greater, specs.Ranks.IsNotAfter}
+use Rattle.olap_dimsat.proofs.SettleLemmas.{at_least, bit, code_edge, code_name, length-code, not_after, same_bit}
+use Rattle.olap_dimsat.specs.{Following.{IsNext, IsRaised, IsRisen, NoneBeyond, NoneMore}, Listed.IsBefore}
 use Rattle.olap_dimsat.specs.Pinned.{InRange, IsPinned, IsPlace, IsReady, IsReplaced, IsSame, NoneAt, NoneLess}
 use Rattle.olap_dimsat.specs.Tasks.{Task, IsOne, constant_count, graph_of}
-use Rattle.olap_dimsat.proofs.SettleLemmas.{at_least, bit, code_edge, code_name, length-code, not_after, same_bit}
-use Rattle.olap_base.proofs.GeneralLemmas.{less_equal_greater}
-use Rattle.std.proofs.lemmas.Bool.{cases_lt}
+use Rattle.olap_clauses.specs.declared.{engine.Engine.Engine, trails.Step.Step}
 
 -- ---- lists of numbers
 
@@ -221,7 +216,7 @@ in_range t f p one h = record { edge = edge; name = name }
         let e = code_name t f p c one (omega arith) in
         let r = one.in_range c (let n = one.name_count in omega arith) in
         let s : suc c ≡ c + 1 = omega arith in
-        subst (λ k. slice_index (code f) p ≤ constant_count t k) s (omega arith)
+        rw (← s) (omega arith)
 
 -- numbers above n were tried up to this one, and none that agrees has them
 abbrev pub NoneBetween : Task → ℕ → ℕ → ℕ → List Step → Type 0

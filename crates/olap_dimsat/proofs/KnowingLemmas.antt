@@ -4,50 +4,34 @@
 --     broken_none    none agrees where a constraint is broken
 --     false_none     nor where the question is false at the root
 use Rattle.std.proofs.Common.{◌≡◌, ℕ, zero, suc, ◌<◌, ◌≤◌, List, [], ◌∷◌, length, get_or, Bool, true, false, cond, Option, Some, None, refl, ap, sym, subst, ◌∙◌, ◌↔◌, inl, inr, arith}
-use Rattle.std.specs.Prelude.{Contains, IfSome, IsTrue, nat_lt}
-use Rattle.std.specs.Str.{bytes_eq}
-use Rattle.std.proofs.lemmas.Bool.Decides.{nat_tests}
-use Rattle.std.proofs.lemmas.List.Elements.{Contains-get_or}
-use Rattle.std.proofs.lemmas.Slice.Eq.{bytes_eq-Decides}
-use Rattle.std.proofs.lemmas.Bool.{cases_Bool, ltb-true, eqb-true, eq-eqb}
+use Rattle.std.proofs.lemmas.Bool.{cases_Bool, ltb-true, eqb-true, eq-eqb, Decides.nat_tests}
+use Rattle.std.proofs.lemmas.{List.Elements.Contains-get_or, Slice.Eq.bytes_eq-Decides}
+use Rattle.std.specs.{Prelude.{Contains, IfSome, IsTrue, nat_lt}, Str.bytes_eq}
+use Rattle.olap_base.proofs.{ListLemmas.same_truth, StepLemmas.wider}
 use Rattle.olap_base.specs.Graph.{CategoryReaches, Edge, Graph, HasEdge, IsCategory, IsHierarchy, category_count}
-use Rattle.olap_base.specs.Instance.{Instance}
-use Rattle.olap_base.specs.Naming.{place_of}
-use Rattle.olap_base.specs.Reaching.{category_reaches, category_reaches_is}
+use Rattle.olap_base.specs.{Instance.Instance, Naming.place_of, Reaching.{category_reaches, category_reaches_is}}
 use Rattle.olap_base.specs.Steps.{Steps, Steps-from_reaches, reaches_from_Steps}
-use Rattle.olap_ast.specs.Formula.{Formula}
-use Rattle.olap_ast.specs.Frozen.{Frozen, chosen, instance_of, is_present, name_in}
-use Rattle.olap_ast.specs.Schema.{Constraint}
-use Rattle.olap_ast.specs.declared.three_values.Truth3.{Truth3}
+use Rattle.olap_ast.specs.{Formula.Formula, Frozen.{Frozen, chosen, instance_of, is_present, name_in}}
+use Rattle.olap_ast.specs.{Schema.Constraint, declared.three_values.Truth3.Truth3}
 use Rattle.olap_ast.specs.declared.three_values.Truth3.TheVariants.{No, Yes, Unknown}
 use Rattle.olap_pool.specs.declared.literals.Lit.{Lit}
-use Rattle.olap_clauses.specs.declared.values.Value.{Value}
+use Rattle.olap_clauses.{proofs.StandingLemmas.{no_fails, yes_holds}, specs.Standing.{Agrees, value_of}}
+use Rattle.olap_clauses.specs.{Trails.{steps_of, values_of}, declared.trails.Trail.Trail, declared.values.Value.Value}
 use Rattle.olap_clauses.specs.declared.values.Value.TheVariants.{Unknown as Untold, Yes as Stands, No as Fails}
-use Rattle.olap_clauses.specs.declared.trails.Trail.{Trail}
-use Rattle.olap_clauses.specs.Standing.{Agrees, value_of}
-use Rattle.olap_clauses.specs.Trails.{steps_of, values_of}
-use Rattle.olap_clauses.proofs.StandingLemmas.{no_fails, yes_holds}
 use Rattle.olap_encoding.proofs.TruthLemmas.{name_is_constant}
-use Rattle.olap_eval.specs.Partial.{Agrees as Tells, Completes, value_at}
+use Rattle.olap_encoding.specs.Layouts.{on_variable, present_variable, name_variable}
+use Rattle.olap_eval.{proofs.PartialLemmas.values_are_truths, specs.Partial.{Agrees as Tells, Completes, value_at}}
 use Rattle.olap_eval.specs.Shapes.{HasEdgeThere, HasNameThere, ReachesThere}
-use Rattle.olap_eval.proofs.PartialLemmas.{values_are_truths}
-use Rattle.olap_frozen.specs.Chosen.{IsChoice, IsMet, Joins, place_of as place_in_choice}
-use Rattle.olap_frozen.proofs.ChosenInstance as made
 use Rattle.olap_frozen.proofs.ChosenLemmas.{bit_joins, choice_of, edge_inside, no_edge_joins}
-use Rattle.olap_graph.specs.Lookups.{edge_between, joins}
-use Rattle.olap_graph.proofs.PlaceLemmas.{found, joins-Decides}
+use Rattle.olap_frozen.specs.Chosen.{IsChoice, IsMet, Joins, place_of as place_in_choice}
+use Rattle.olap_graph.{proofs.PlaceLemmas.{found, joins-Decides}, specs.Lookups.{edge_between, joins}}
 use Rattle.olap_trail.specs.Decisions.{Decided, present_graph}
 use Rattle.olap_names.specs.Names.{candidates_of, others_of}
-use Rattle.olap_encoding.specs.Layouts.{on_variable, present_variable, name_variable}
-use Rattle.olap_dimsat.specs.Tasks.{IsOne, IsTask, Task, schema_of, graph_of}
-use Rattle.olap_dimsat.specs.Reads.{NoneAgrees, Reads, index_in}
-use Rattle.olap_dimsat.specs.Tracking.{IsTracked}
+use Rattle.olap_dimsat.proofs.{EncodeLemmas.index_same, ReadLemmas.index_absent, TrackingLemmas.present_joins}
 use Rattle.olap_dimsat.specs.Knowing.{HasMember, HoldsAt, IsBroken, IsFalseAt, both, knowledge, naming, presence, told, told_of_edge, told_of_name, truth_of, way}
-use Rattle.olap_dimsat.proofs.EncodeLemmas.{index_same}
-use Rattle.olap_dimsat.proofs.ReadLemmas.{index_absent}
-use Rattle.olap_dimsat.proofs.TrackingLemmas.{present_joins}
-use Rattle.olap_base.proofs.ListLemmas.{same_truth}
-use Rattle.olap_base.proofs.StepLemmas.{wider}
+use Rattle.olap_dimsat.specs.{Reads.{NoneAgrees, Reads, index_in}, Tasks.{IsOne, IsTask, Task, schema_of, graph_of}}
+use Rattle.olap_dimsat.specs.Tracking.{IsTracked}
+use Rattle.olap_frozen.proofs.ChosenInstance as made
 
 -- ---- values of facts
 
@@ -91,7 +75,7 @@ no_edge_past g trail hier c d h = go (edge_between g c d) refl
     go (Some i) e =
         let f = found (joins c d) (λ x. x ≡ record { child = c; parent = d }) (joins-Decides c d) g.edges 0 i e in
         let z : Edge = record { child = 0; parent = 0 } in
-        let k = (hier.categories c d (subst (λ x. Contains g.edges x) (f.3 z) (Contains-get_or g.edges f.0 z f.2))).0 in
+        let k = (hier.categories c d (rw (← (f.3 z)) (Contains-get_or g.edges f.0 z f.2))).0 in
         absurd (omega arith)
 
 -- the test of a graph has the value of another that asks the same

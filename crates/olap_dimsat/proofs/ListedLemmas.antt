@@ -1,25 +1,18 @@
 -- Lists of frozen dimensions by their codes.
 use Rattle.std.proofs.Common.{◌≡◌, ℕ, zero, suc, ◌<◌, ◌≤◌, List, [], ◌∷◌, ◌++◌, length, get_or, refl, ap, sym, subst, ◌⊎◌, inl, inr, arith, length-append}
-use Rattle.std.specs.Prelude.{All, AllPairs, Contains, IfSome, None, Option, Some, slice_index}
-use Rattle.std.proofs.lemmas.List.Elements.{All-append, Contains-append_left, Contains-append_right}
+use Rattle.std.proofs.lemmas.{Bool.cases_lt, List.Elements.{All-append, Contains-append_left, Contains-append_right}}
 use Rattle.std.proofs.lemmas.List.Quantifiers.{all_pairs_push}
+use Rattle.std.specs.Prelude.{All, AllPairs, Contains, IfSome, None, Option, Some, slice_index}
 use Rattle.olap_ast.specs.Frozen.{Frozen, code}
-use Rattle.olap_base.specs.Ranks.{IsNotAfter}
-use Rattle.olap_base.specs.Refusing.{IsFor}
-use Rattle.olap_base.specs.declared.refusals.Refusal.{Refusal}
-use Rattle.olap_base.specs.declared.refusals.Refusal.TheVariants as refusal
-use Rattle.olap_base.proofs.ListLemmas.{contains_head}
-use Rattle.olap_names.specs.Names.{candidates_of}
-use Rattle.olap_names.proofs.OrderLemmas.{compare, not_both}
-use Rattle.olap_dimsat.specs.Following.{AreFirsts, AreMoreFirsts, HasLike, IsBeyond, IsFirstOf, IsNext, NoneBeyond}
-use Rattle.olap_dimsat.specs.Listed.{AreAllFrozen, AreMoreThan, IsBefore}
-use Rattle.olap_dimsat.specs.Pinned.{IsPlace, IsSame}
-use Rattle.olap_dimsat.specs.Shapes.{AreMoreShapes, AreShapes}
-use Rattle.olap_dimsat.specs.Tasks.{IsTask, Task, IsOne, graph_of, schema_of}
+use Rattle.olap_base.proofs.{GeneralLemmas.less_equal_greater, ListLemmas.contains_head}
+use Rattle.olap_base.{proofs.RankLemmas.{not_after_itself, not_after_again}, specs.Ranks.IsNotAfter}
+use Rattle.olap_base.specs.{Refusing.IsFor, declared.refusals.Refusal.Refusal}
+use Rattle.olap_names.{proofs.OrderLemmas.{compare, not_both}, specs.Names.candidates_of}
 use Rattle.olap_dimsat.proofs.FollowingLemmas.{Differ, code_one, differ, edges_same, same_code, same_edges, same_length}
-use Rattle.olap_base.proofs.RankLemmas.{not_after_itself, not_after_again}
-use Rattle.olap_base.proofs.GeneralLemmas.{less_equal_greater}
-use Rattle.std.proofs.lemmas.Bool.{cases_lt}
+use Rattle.olap_dimsat.specs.Following.{AreFirsts, AreMoreFirsts, HasLike, IsBeyond, IsFirstOf, IsNext, NoneBeyond}
+use Rattle.olap_dimsat.specs.{Listed.{AreAllFrozen, AreMoreThan, IsBefore}, Pinned.{IsPlace, IsSame}}
+use Rattle.olap_dimsat.specs.{Shapes.{AreMoreShapes, AreShapes}, Tasks.{IsTask, Task, IsOne, graph_of, schema_of}}
+use Rattle.olap_base.specs.declared.refusals.Refusal.TheVariants as refusal
 
 -- ---- the order
 
@@ -36,14 +29,14 @@ before_again t f w y a b l m = (
   not_after_again (code f) (code w) (code y) l.0 m.0,
   λ e. l.1 (code_one t f w a b
       (both_ways (code f) (code w) (same_length t f w a b) l.0
-      (subst (λ h. IsNotAfter (code w) (code h)) (sym e) m.0))),
+      (rw e m.0))),
 )
 
 -- one that isn't before w is w, or comes after it
 same_or_after : (t : Task) (w f : Frozen) → IsOne t w → IsOne t f → IsNotAfter (code w) (code f)
     → (w ≡ f) ⊎ IsBefore w f
 same_or_after t w f a b n = elim (compare (code w) (code f) (same_length t w f a b)) [
-  | inl s ↦ inr (n, λ e. not_both (code f) (code w) (subst (λ h. IsNotAfter (code h) (code w)) e (own w)) s)
+  | inl s ↦ inr (n, λ e. not_both (code f) (code w) (rw (← e) (own w)) s)
   | inr r ↦ elim r [ inl q ↦ inl (code_one t w f a b q) | inr s ↦ absurd (not_both (code w) (code f) n s) ]
 ]
   where
@@ -56,7 +49,7 @@ same_or_after t w f a b n = elim (compare (code w) (code f) (same_length t w f a
 alike_or_beyond : (t : Task) (n : ℕ) (w f : Frozen) → IsOne t w → IsOne t f → IsNotAfter (code w) (code f)
     → IsSame n f w ⊎ IsBeyond n w f
 alike_or_beyond t n w f a b l = elim (same_or_after t w f a b l) [
-  | inl e ↦ inl (subst (λ h. IsSame n h w) e (λ k i. refl))
+  | inl e ↦ inl (rw (← e) (λ k i. refl))
   | inr m ↦ let d = differ t w f a b m in elim (cases_lt d.place n) [
     | inl h ↦ inr (m, λ s. let e = s d.place h in let g = d.more in omega arith)
     | inr h ↦ inl (λ k i. d.same k (omega arith))
@@ -203,7 +196,7 @@ all_frozen t n list k all a = (
     ordered = λ i j d l m. (a.ordered i j d l m).0;
     sound = sound;
     complete = λ f one. let c = a.complete f one in
-        subst (λ h. Contains list h) (sym (same_code t n f c.0 one (sound c.0 c.1) all c.2)) c.1;
+        rw (same_code t n f c.0 one (sound c.0 c.1) all c.2) c.1;
   },
 )
   where

@@ -1,34 +1,21 @@
 -- What a search keeps from call to call.
 use Rattle.std.proofs.Common.{◌≡◌, ℕ, zero, suc, ◌<◌, ◌≤◌, Bool, List, [], ◌∷◌, length, set, take, refl, ap, sym, subst, ◌∙◌, arith}
-use Rattle.std.specs.Prelude.{slice_index}
-use Rattle.std.proofs.lemmas.List.{length-set}
-use Rattle.olap_ast.specs.Formula.{Formula}
-use Rattle.olap_ast.specs.Frozen.{Frozen}
-use Rattle.olap_ast.specs.Schema.{Schema}
-use Rattle.olap_base.specs.Graph.{Graph, category_count}
-use Rattle.olap_clauses.specs.declared.engine.Engine.{Engine}
-use Rattle.olap_pool.specs.declared.pools.Pool.{Pool}
-use Rattle.olap_clauses.specs.declared.trails.Step.{Step}
-use Rattle.olap_clauses.specs.Engines.{admits, trail_of, variables_of}
-use Rattle.olap_pool.specs.Pools.{AreTrue}
-use Rattle.olap_clauses.specs.Standing.{AgreesDecisions}
-use Rattle.olap_dimsat.specs.declared.asker.Leaf.{Leaf}
-use Rattle.olap_base.specs.declared.ids.CatId.{CatId}
-use Rattle.olap_frozen.specs.declared.frozen.Frozen as kept
+use Rattle.std.{proofs.lemmas.List.length-set, specs.Prelude.slice_index}
+use Rattle.olap_ast.specs.{Formula.Formula, Frozen.Frozen, Schema.Schema, Valid.IsValidSchema}
+use Rattle.olap_base.specs.{Graph.{Graph, category_count}, declared.ids.CatId.CatId}
+use Rattle.olap_clauses.specs.{Engines.{admits, trail_of, variables_of}, Standing.AgreesDecisions}
+use Rattle.olap_clauses.specs.declared.{engine.Engine.Engine, trails.Step.Step}
+use Rattle.olap_pool.specs.{Pools.AreTrue, declared.pools.Pool.Pool}
+use Rattle.olap_dimsat.{proofs.WitnessLemmas.ready_still, specs.Asking.{IsFor, IsSuited}, specs.OneFound.IsOneFound}
+use Rattle.olap_dimsat.specs.{Pinned.{AreShaped, IsEncoded, IsLeast, IsReady}, Posed.IsPosed, Reads.Reads}
+use Rattle.olap_dimsat.specs.Searches.{IsMadeWith, IsSizedFor, found_in, root_of, task_in}
+use Rattle.olap_dimsat.specs.{Tasks.{IsOne, IsTask, Task, graph_of}, declared.asker.Leaf.Leaf}
+use Rattle.olap_dimsat.specs.declared.searching.Search.{Search}
 use Rattle.olap_frozen.specs.LeastFound.{IsLeastFound, frozen_of}
 use Rattle.olap_frozen.specs.Leaves.{IsSized, IsZeroAtAll, chosen_of, of_declared}
 use Rattle.olap_names.specs.Names.{others_of}
-use Rattle.olap_ast.specs.Valid.{IsValidSchema}
 use Rattle.olap_trail.specs.Decisions.{Decided}
-use Rattle.olap_dimsat.specs.Posed.{IsPosed}
-use Rattle.olap_dimsat.specs.Reads.{Reads}
-use Rattle.olap_dimsat.proofs.WitnessLemmas.{ready_still}
-use Rattle.olap_dimsat.specs.OneFound.{IsOneFound}
-use Rattle.olap_dimsat.specs.Tasks.{IsOne, IsTask, Task, graph_of}
-use Rattle.olap_dimsat.specs.declared.searching.Search.{Search}
-use Rattle.olap_dimsat.specs.Searches.{IsMadeWith, IsSizedFor, found_in, root_of, task_in}
-use Rattle.olap_dimsat.specs.Asking.{IsFor, IsSuited}
-use Rattle.olap_dimsat.specs.Pinned.{AreShaped, IsEncoded, IsLeast, IsReady}
+use Rattle.olap_frozen.specs.declared.frozen.Frozen as kept
 
 -- the first none are none
 take_none : (ss : List Step) → take 0 ss ≡ []
@@ -41,7 +28,7 @@ undone e ss q = q ∙ take_none ss
 
 -- the state is fit for an engine of as many variables
 pub suited_still : (t : Task) (leaf : Leaf) (m n : ℕ) → IsSuited t leaf m → n ≡ m → IsSuited t leaf n
-suited_still t leaf m n s q = subst (λ k. IsSuited t leaf k) (sym q) s
+suited_still t leaf m n s q = rw q s
 
 -- an engine that admits what satisfies the pool admits all frozen dimensions
 pub ready_first : (t : Task) (pool : Pool) (e : Engine) → IsEncoded t pool
@@ -96,9 +83,7 @@ pub record Keeps (t : Task) (engine : Engine) (leaf : Leaf) (value : kept.Frozen
 -- what is asked is the search's task
 pub keeps : (s : Schema) (q : Formula) (search : Search) (t : Task) → t ≡ task_in s q search → IsMadeWith s q search
     → Keeps t search.engine search.leaf search.best
-keeps s q search t same made =
-    subst (λ (u : Task). Keeps u search.engine search.leaf search.best) (sym same)
-    (record { suited = made.suited; best = made.best; ready = made.ready })
+keeps s q search t same made = rw same (record { suited = made.suited; best = made.best; ready = made.ready })
 
 -- and so it is still, after all was taken off the engine's trail
 pub made_still : (s : Schema) (q : Formula) (old new : Search) (t : Task) (e : Engine) → t ≡ task_in s q old
@@ -112,7 +97,7 @@ made_still s q old new t e same still made suited ready best variables a empty =
       best = best;
       ready = ready_still t e new.engine ready (λ v m h. a v h);
     } in
-    let n = subst (λ (u : Task). Keeps u new.engine new.leaf new.best) (same ∙ sym still) k in record {
+    let n = rw (same ∙ sym still) at k in record {
       valid = made.valid;
       task = subst IsTask (sym still) made.task;
       suited = n.suited;
@@ -123,7 +108,7 @@ made_still s q old new t e same still made suited ready best variables a empty =
 
 -- none of no literals is of another kind
 pub none_shaped : (t : Task) (ss : List Step) → ss ≡ [] → AreShaped t ss
-none_shaped t ss e = subst (λ (xs : List Step). AreShaped t xs) (sym e) (λ i s h. absurd (omega (arith, h)))
+none_shaped t ss e = rw e (λ i s h. absurd (omega (arith, h)))
 
 -- where none agrees with no literals, there is none
 pub none_found : (t : Task) (e : Engine) → IsReady t e → trail_of e ≡ []
@@ -131,7 +116,7 @@ pub none_found : (t : Task) (e : Engine) → IsReady t e → trail_of e ≡ []
     → (f : Frozen) → IsOne t f → ⊥
 none_found t e ready empty none f one =
     let w = ready f one in
-    none f w.0 one w.1 (subst (λ (ss : List Step). AgreesDecisions w.0 ss) (sym empty) tt)
+    none f w.0 one w.1 (rw empty tt)
 
 -- what was brought to be handed out has the search's sizes, and gets its root
 pub left_for : (t : Task) (search : Search) (into left : kept.Frozen) → IsFor t search.best → IsSizedFor search into

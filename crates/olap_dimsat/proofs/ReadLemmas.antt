@@ -1,26 +1,21 @@
 -- What is read off a trail.
-use Rattle.std.proofs.Common.{◌≡◌, ◌≢◌, ℕ, zero, suc, ◌<◌, ◌≤◌, List, [], length, get_or, Bool, true, false, refl, sym, subst, ◌∙◌, arith}
-use Rattle.std.specs.Prelude.{◌==◌, Contains, slice_index, slice_index_or}
-use Rattle.std.proofs.lemmas.List.{ext_get_or}
-use Rattle.std.proofs.lemmas.Bool.{false_from_ne_true, eqb-true}
+use Rattle.std.proofs.Common.{◌≡◌, ◌≢◌, ℕ, zero, suc, ◌<◌, ◌≤◌, List, length, get_or, Bool, true, false, refl, sym, ◌∙◌, arith}
+use Rattle.std.proofs.lemmas.{Bool.{false_from_ne_true, eqb-true}, List.ext_get_or}
+use Rattle.std.specs.Prelude.{◌==◌, slice_index, slice_index_or}
 use Rattle.olap_base.specs.Graph.{Graph, category_count}
 use Rattle.olap_ast.specs.Frozen.{Frozen, chosen, is_present}
-use Rattle.olap_frozen.specs.Leaves.{chosen_of, of_declared}
+use Rattle.olap_frozen.{proofs.LeafLemmas.{declared_length, declared_at}, specs.Leaves.{chosen_of, of_declared}}
 use Rattle.olap_graph.specs.Lookups.{edge_at}
-use Rattle.olap_encoding.proofs.ChosenEdges.{child_present}
-use Rattle.olap_encoding.proofs.EdgeBits.{bit_chosen}
+use Rattle.olap_encoding.proofs.{ChosenEdges.child_present, EdgeBits.bit_chosen}
+use Rattle.olap_dimsat.{proofs.Truths.none_is_zero, specs.Reads.index_in}
 use Rattle.olap_dimsat.specs.Tasks.{Task, IsOne, constant_count, graph_of}
-use Rattle.olap_dimsat.specs.Reads.{index_in}
-use Rattle.olap_dimsat.proofs.Truths.{none_is_zero}
-use Rattle.olap_frozen.proofs.LeafLemmas.{declared_length, declared_at}
 
 -- the child of a present edge is present
 pub bit_present : (g : Graph) (r : ℕ) (bits : List Bool) (e c d : ℕ) → e < length g.edges
     → edge_at g e ≡ record { child = c; parent = d } → get_or bits e false ≡ true
     → is_present r (chosen g.edges bits) c ≡ true
 bit_present g r bits e c d l q b = child_present r (chosen g.edges bits) c d
-    (subst (λ x. Contains (chosen g.edges bits) x) q
-    (bit_chosen g.edges bits e (record { child = 0; parent = 0 }) l b))
+    (rw (← q) (bit_chosen g.edges bits e (record { child = 0; parent = 0 }) l b))
 
 -- an index is none past the constants
 pub index_small : (t : Task) (f : Frozen) (c : ℕ) → IsOne t f → c < category_count (graph_of t)

@@ -1,27 +1,20 @@
 -- The least, place by place.
 use Rattle.std.proofs.Common.{◌≡◌, ◌≢◌, ℕ, zero, suc, ◌+◌, ◌-◌, ◌<◌, ◌≤◌, List, [], ◌∷◌, ◌++◌, length, map, Bool, true, false, cond, refl, ap, sym, subst, ◌∙◌, ◌⊎◌, inl, inr, arith, length-append, append_assoc}
-use Rattle.std.specs.Prelude.{◌==◌, slice_index, slice_index_or}
-use Rattle.std.proofs.lemmas.List.{get_or-map, get_or_append_left, get_or-append_right, length-map}
-use Rattle.std.proofs.lemmas.List.Elements.{All-append}
 use Rattle.std.proofs.lemmas.Bool.{cases_Bool, false_from_ne_true, eqb-true, eq-eqb}
-use Rattle.olap_base.specs.Graph.{category_count}
+use Rattle.std.proofs.lemmas.List.{get_or-map, get_or_append_left, get_or-append_right, length-map, Elements.All-append}
+use Rattle.std.specs.Prelude.{◌==◌, slice_index, slice_index_or}
+use Rattle.olap_base.{proofs.GeneralLemmas.below_or_same, specs.Graph.category_count, specs.Ranks.IsNotAfter}
 use Rattle.olap_ast.specs.Frozen.{Frozen, code}
-use Rattle.olap_base.specs.Ranks.{IsNotAfter}
-use Rattle.olap_clauses.specs.declared.engine.Engine.{Engine}
-use Rattle.olap_pool.specs.declared.literals.Lit.{Lit}
+use Rattle.olap_clauses.specs.{Admits.{AreForced, Grown}, Engines.trail_of}
+use Rattle.olap_clauses.specs.{Standing.{Agrees, AgreesDecisions, is_decision}, declared.engine.Engine.Engine}
 use Rattle.olap_clauses.specs.declared.trails.Step.{Step}
-use Rattle.olap_clauses.specs.Admits.{AreForced, Grown}
-use Rattle.olap_clauses.specs.Engines.{trail_of}
-use Rattle.olap_clauses.specs.Standing.{Agrees, AgreesDecisions, is_decision}
+use Rattle.olap_pool.specs.declared.literals.Lit.{Lit}
 use Rattle.olap_encoding.specs.Layouts.{name_variable, on_variable}
-use Rattle.olap_dimsat.specs.Tasks.{IsTask, Task, IsOne, constant_count, graph_of}
-use Rattle.olap_dimsat.specs.Reads.{Reads, IsShaped, index_in}
-use Rattle.olap_dimsat.specs.Pinned.{AreShaped, IsLeast, IsLonger, IsPinned, IsPlace, IsProbed, IsReady, IsReplaced, IsSame, IsSettled, NoneAt, NoneLess, SayAt, SaysAt}
-use Rattle.olap_dimsat.proofs.Truths.{holds_at, none_is_zero}
 use Rattle.olap_dimsat.proofs.ReadLemmas.{index_small}
 use Rattle.olap_dimsat.proofs.StepLemmas.{agrees_both, agrees_front, forced_agree, not_decided}
-use Rattle.olap_dimsat.proofs.WitnessLemmas.{whole}
-use Rattle.olap_base.proofs.GeneralLemmas.{below_or_same}
+use Rattle.olap_dimsat.proofs.{Truths.{holds_at, none_is_zero}, WitnessLemmas.whole}
+use Rattle.olap_dimsat.specs.Pinned.{AreShaped, IsLeast, IsLonger, IsPinned, IsPlace, IsProbed, IsReady, IsReplaced, IsSame, IsSettled, NoneAt, NoneLess, SayAt, SaysAt}
+use Rattle.olap_dimsat.specs.{Reads.{Reads, IsShaped, index_in}, Tasks.{IsTask, Task, IsOne, constant_count, graph_of}}
 
 -- ---- codes
 
@@ -96,7 +89,7 @@ pub named_more : (t : Task) (v : ℕ → Bool) (c i n : ℕ) → NamedSo t v c i
     → NamedSo t v c i (n + 1)
 named_more t v c i n s e k h = elim (below_or_same k n h) [
   | inl l ↦ s k l
-  | inr q ↦ subst (λ m. v (name_variable t.layout c m) ≡ (suc m == i)) (sym q) e
+  | inr q ↦ rw q e
 ]
 
 -- the test of two numbers, either way
@@ -134,7 +127,7 @@ named_of_index t f v c i r h e k b = r.named c k h b ∙ eq_sym (index_in f c) (
 same_more : (p : ℕ) (f w : Frozen) → IsSame p f w → slice_index (code f) p ≡ slice_index (code w) p → IsSame (p + 1) f w
 same_more p f w s e q h = elim (below_or_same q p h) [
   | inl l ↦ s q l
-  | inr z ↦ subst (λ m. slice_index (code f) m ≡ slice_index (code w) m) (sym z) e
+  | inr z ↦ rw z e
 ]
 
 -- one place less
@@ -183,13 +176,11 @@ low t p x w old e ready i none f one same =
 pub none_less : (t : Task) (p x : ℕ) (w y : Frozen) (old : List Step) (e : Engine) → IsReady t e → IsPinned t p w old
     → ((k : ℕ) → k < x → NoneAt t p k old) → IsSame p y w → slice_index (code y) p ≡ x → NoneLess t p y
 none_less t p x w y old e ready i none same q f one s =
-    subst (λ n. n ≤ slice_index (code f) p) (sym q)
-    (low t p x w old e ready i none f one (λ k h. s k h ∙ same k h))
+    rw q (low t p x w old e ready i none f one (λ k h. s k h ∙ same k h))
 
 -- places before p stay as they were
 pub none_less_still : (t : Task) (p q : ℕ) (w y : Frozen) → q < p → IsSame p y w → NoneLess t q w → NoneLess t q y
-none_less_still t p q w y l same less f one s =
-    subst (λ n. n ≤ slice_index (code f) q) (sym (same q l)) (less f one (λ k h. s k h ∙ same k (omega arith)))
+none_less_still t p q w y l same less f one s = rw (same q l) (less f one (λ k h. s k h ∙ same k (omega arith)))
 
 -- a witness of a number at this place takes the place of the best
 pub replaced : (t : Task) (p x : ℕ) (w y : Frozen) (old new : List Step) (e : Engine) → IsReady t e → IsPinned t p w old
@@ -199,7 +190,7 @@ replaced t p x w y old new e ready i shaped b =
     let s = (b.say y v.0 b.one v.1).0 (b.agrees v.0 v.1) in
     let same = (i.exactly y v.0 b.one v.1).0 s.0 in record {
       pinned = pinned_more t p y old new (pinned_other t p w y old i b.one same)
-          (subst (λ n. SayAt t p n old new) (sym s.1) b.say) shaped;
+          (rw s.1 b.say) shaped;
       same = same;
       number = s.1;
     }
@@ -207,7 +198,7 @@ replaced t p x w y old new e ready i shaped b =
 -- w itself is what is left
 pub kept : (t : Task) (p x : ℕ) (w : Frozen) (old new : List Step) → IsPinned t p w old → x ≡ slice_index (code w) p
     → AreShaped t new → SayAt t p x old new → IsPinned t (p + 1) w new
-kept t p x w old new i q shaped say = pinned_more t p w old new i (subst (λ n. SayAt t p n old new) q say) shaped
+kept t p x w old new i q shaped say = pinned_more t p w old new i (rw (← q) say) shaped
 
 -- w has what stands there, so that literals may say so
 pub has_its_own : (t : Task) (p x : ℕ) (w : Frozen) (old : List Step) (e : Engine) → IsReady t e → IsPinned t p w old
@@ -217,7 +208,7 @@ has_its_own t p x w old e ready i q none =
 
 -- without literals no place is pinned
 pub pinned_start : (t : Task) (w : Frozen) (steps : List Step) → steps ≡ [] → IsOne t w → IsPinned t 0 w steps
-pinned_start t w steps e one = subst (λ ss. IsPinned t 0 w ss) (sym e) (record {
+pinned_start t w steps e one = rw e (record {
   one = one;
   shaped = λ k d h. absurd (omega arith);
   exactly = λ f v o r. (λ a q h. absurd (omega arith), λ s. tt);

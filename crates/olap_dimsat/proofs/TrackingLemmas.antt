@@ -3,29 +3,21 @@
 --     cycle_none              so none agrees where they close a cycle
 --     shortcut_none           or make a shortcut
 use Rattle.std.proofs.Common.{not, refl, ◌≡◌, ℕ, zero, suc, ◌+◌, ◌<◌, List, [], ◌∷◌, ◌++◌, length, get_or, Bool, true, false, ap, sym, subst, ◌∙◌, inl, inr, arith}
-use Rattle.std.specs.Prelude.{Contains, filter, map}
-use Rattle.std.proofs.lemmas.List.{get_or-map, length-map}
+use Rattle.std.proofs.lemmas.{Bool.cases_order, List.{get_or-map, length-map}}
 use Rattle.std.proofs.lemmas.List.Elements.{All-append, All-cons, All-nil, Contains-append_cases}
-use Rattle.olap_base.specs.Deciding.{contains_cases}
-use Rattle.olap_base.specs.Graph.{Edge, Graph, HasEdge}
-use Rattle.olap_base.proofs.ListLemmas.{Contains-from_filter, Contains-from_map, Contains-nil}
+use Rattle.std.specs.Prelude.{Contains, filter, map}
+use Rattle.olap_base.proofs.{ListLemmas.{Contains-from_filter, Contains-from_map, Contains-nil}, StepLemmas.wider_climb}
+use Rattle.olap_base.specs.{Deciding.contains_cases, Graph.{Edge, Graph, HasEdge}}
 use Rattle.olap_ast.specs.Frozen.{Frozen, chosen, name_in}
-use Rattle.olap_clauses.specs.declared.trails.Trail.{Trail}
-use Rattle.olap_clauses.specs.Standing.{Agrees}
-use Rattle.olap_clauses.specs.Trails.{steps_of}
-use Rattle.olap_frozen.specs.Chosen.{IsSound, Joins}
-use Rattle.olap_frozen.proofs.ChosenInstance as made
-use Rattle.olap_frozen.proofs.ChosenLemmas.{choice_of, place_chosen}
+use Rattle.olap_clauses.specs.{Standing.Agrees, Trails.steps_of, declared.trails.Trail.Trail}
+use Rattle.olap_frozen.{proofs.ChosenLemmas.{choice_of, place_chosen}, specs.Chosen.{IsSound, Joins}}
 use Rattle.olap_graph.specs.Lookups.{edge_at}
 use Rattle.olap_names.specs.Names.{candidates_of}
-use Rattle.olap_trail.specs.Trails.{decision_of, decisions_of}
-use Rattle.olap_trail.specs.declared.decisions.Decision.{Decision as OneDecision}
 use Rattle.olap_trail.specs.Decisions.{AreDecisions, Decided, Decision, HoldsCycle, HoldsShortcut, present_graph, present_with}
-use Rattle.olap_dimsat.specs.Tasks.{IsOne, IsTask, Task, schema_of, graph_of}
-use Rattle.olap_dimsat.specs.Reads.{EdgeReads, NoneAgrees, Reads}
+use Rattle.olap_trail.specs.{Trails.{decision_of, decisions_of}, declared.decisions.Decision.{Decision as OneDecision}}
+use Rattle.olap_dimsat.specs.{Reads.{EdgeReads, NoneAgrees, Reads}, Tasks.{IsOne, IsTask, Task, schema_of, graph_of}}
 use Rattle.olap_dimsat.specs.Tracking.{AreRead, IsOf}
-use Rattle.std.proofs.lemmas.Bool.{cases_order}
-use Rattle.olap_base.proofs.StepLemmas.{wider_climb}
+use Rattle.olap_frozen.proofs.ChosenInstance as made
 
 -- ---- decisions that come one by one
 
@@ -67,7 +59,7 @@ pub read_next : (t : Task) (trail : Trail) (ds : List Decision) (k : ℕ)
     → (x : Decision) → ((d : Decision) → x ≡ get_or ds k d) → EdgeReads t trail x.edge x.present
     → (i : ℕ) (d : Decision) → i < k + 1 → EdgeReads t trail (get_or ds i d).edge (get_or ds i d).present
 read_next t trail ds k before x is reads i d h = elim (cases_order i k) [
-  | inl q ↦ subst (λ (w : Decision). EdgeReads t trail w.edge w.present) (is d ∙ ap (λ m. get_or ds m d) (sym q)) reads
+  | inl q ↦ rw (← (is d ∙ ap (λ m. get_or ds m d) (sym q))) reads
   | inr s ↦ elim s [ inl l ↦ before i d l | inr g ↦ absurd (omega arith) ]
 ]
 

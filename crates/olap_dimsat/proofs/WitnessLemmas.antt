@@ -1,22 +1,15 @@
 -- Witnesses, and what the engine admits.
-use Rattle.std.proofs.Common.{◌≡◌, ℕ, List, ◌++◌, Bool, get_or, ap, sym, subst, ◌∙◌, inl, inr, arith}
-use Rattle.std.specs.Prelude.{◌==◌}
-use Rattle.std.proofs.Common.{suc}
-use Rattle.std.proofs.lemmas.List.{length-append, get_or_append_left}
+use Rattle.std.proofs.Common.{◌≡◌, ℕ, List, ◌++◌, Bool, get_or, ap, sym, ◌∙◌, inl, inr, arith, suc}
+use Rattle.std.{proofs.lemmas.List.{length-append, get_or_append_left}, specs.Prelude.◌==◌}
 use Rattle.olap_ast.specs.Frozen.{Frozen}
-use Rattle.olap_clauses.specs.declared.engine.Engine.{Engine}
-use Rattle.olap_pool.specs.declared.literals.Lit.{Lit}
+use Rattle.olap_clauses.{proofs.AdmitsLemmas.agrees_decisions, specs.Engines.{admits, trail_of}}
+use Rattle.olap_clauses.specs.{Standing.{Agrees, AgreesDecisions}, declared.engine.Engine.Engine}
 use Rattle.olap_clauses.specs.declared.trails.Step.{Step}
-use Rattle.olap_pool.specs.Literals.{Holds}
-use Rattle.olap_clauses.specs.Standing.{Agrees, AgreesDecisions}
-use Rattle.olap_clauses.specs.Engines.{admits, trail_of}
-use Rattle.olap_clauses.proofs.AdmitsLemmas.{agrees_decisions}
+use Rattle.olap_pool.specs.{Literals.Holds, declared.literals.Lit.Lit}
 use Rattle.olap_frozen.specs.Leaves.{chosen_of}
+use Rattle.olap_dimsat.proofs.{ReadLemmas.index_of_choice, StepLemmas.{all_agree, decided_at}}
+use Rattle.olap_dimsat.specs.{Pinned.{AreShaped, IsReady}, Reads.{Reads, IsMeant, IsShaped, IsTaken, Suits}}
 use Rattle.olap_dimsat.specs.Tasks.{Task, IsOne}
-use Rattle.olap_dimsat.specs.Reads.{Reads, IsMeant, IsShaped, IsTaken, Suits}
-use Rattle.olap_dimsat.specs.Pinned.{AreShaped, IsReady}
-use Rattle.olap_dimsat.proofs.StepLemmas.{all_agree, decided_at}
-use Rattle.olap_dimsat.proofs.ReadLemmas.{index_of_choice}
 
 -- a choice that agrees with a literal of an edge or a name makes it true
 suits_holds : (t : Task) (edges : List Bool) (names : List ℕ) (v : ℕ → Bool) (l : Lit) → Suits t edges names l
@@ -34,7 +27,7 @@ pub taken_agrees : (t : Task) (edges : List Bool) (names : List ℕ) (v : ℕ �
     → IsTaken t edges names (ss ++ ts) → AreShaped t ss → Reads t (chosen_of edges names) v → AgreesDecisions v ss
 taken_agrees t edges names v ss ts k shaped r = all_agree v ss (λ i d h e.
     suits_holds t edges names v (get_or ss i d).lit
-    (subst (λ (s : Step). Suits t edges names s.lit) (get_or_append_left ss ts d i h)
+    (rw (← (get_or_append_left ss ts d i h))
     (k.suits i d (let l = length-append ss ts in omega arith))) (shaped i d h e) r)
 
 -- an engine that admits what was meant still admits all frozen dimensions

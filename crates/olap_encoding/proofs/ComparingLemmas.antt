@@ -1,19 +1,15 @@
 -- When a literal says that the number of a category's name compares so.
 --     number_by_rung     where the first names do and no others, a rung of its ladder
 --     number_by_names    else the names that do, or that don't
-use Rattle.std.proofs.Common.{◌≡◌, ◌↔◌, ◌<◌, ℕ, ℤ, Bool, cond, not, length, sym, subst}
-use Rattle.std.specs.Prelude.{IsTrue}
-use Rattle.olap_ast.specs.Formula.{IsNumbered}
-use Rattle.olap_ast.specs.Frozen.{Candidates}
+use Rattle.std.{proofs.Common.{◌≡◌, ◌↔◌, ◌<◌, ℕ, ℤ, Bool, cond, not, length, sym, subst}, specs.Prelude.IsTrue}
+use Rattle.olap_ast.specs.{Formula.IsNumbered, Frozen.Candidates}
 use Rattle.olap_numerals.specs.Comparing.{Op}
-use Rattle.olap_pool.specs.declared.literals.Lit.{Lit}
-use Rattle.olap_pool.specs.Literals.{Holds, negation}
+use Rattle.olap_pool.specs.{Literals.{Holds, negation}, declared.literals.Lit.Lit}
 use Rattle.olap_names.specs.Names.{candidates_of}
-use Rattle.olap_encoding.specs.Encoding.{Encoding, IsSound, Says, UpToIs, categories_of}
-use Rattle.olap_encoding.specs.Formulas.{AmongIs, IsLeading, NumberIs}
-use Rattle.olap_encoding.specs.Meanings.{index_of}
 use Rattle.olap_encoding.proofs.LadderLemmas.{index_in_range}
 use Rattle.olap_encoding.proofs.NumberLemmas.{known_turned, number_leading, number_told, turned_is}
+use Rattle.olap_encoding.specs.Encoding.{Encoding, IsSound, Says, UpToIs, categories_of}
+use Rattle.olap_encoding.specs.{Formulas.{AmongIs, IsLeading, NumberIs}, Meanings.index_of}
 
 module _ (e : Encoding) (t : IsSound e) (d : ℕ) (op : Op) (n : ℤ) (u : d < categories_of e.question) where
   abbrev k : Candidates

@@ -1,14 +1,10 @@
 -- Two formulas that are joined, by each connective.
-use Rattle.std.proofs.Common.{◌≡◌, Result, sym, subst}
-use Rattle.std.specs.Prelude.{IfOk}
-use Rattle.olap_pool.specs.declared.literals.Lit.{Lit}
-use Rattle.olap_pool.specs.Literals.{negation}
-use Rattle.olap_encoding.specs.Encoding.{Encoding, IsNext, Says, BothAre, EitherIs}
-use Rattle.olap_encoding.specs.Formulas.{AnyIs, TellsAt}
-use Rattle.olap_encoding.specs.Joining.{Joins, joined}
-use Rattle.olap_encoding.specs.declared.formulas.Connective.{Connective}
-use Rattle.olap_encoding.specs.declared.formulas.Connective.TheVariants.{Conjunction, Disjunction, Implication, Equivalence, Exclusion}
+use Rattle.std.{proofs.Common.{◌≡◌, Result, sym, subst}, specs.Prelude.IfOk}
+use Rattle.olap_pool.specs.{Literals.negation, declared.literals.Lit.Lit}
 use Rattle.olap_encoding.proofs.TellingLemmas.{tell_and, tell_or, tell_implies, tell_xor, tell_iff}
+use Rattle.olap_encoding.specs.{Encoding.{Encoding, IsNext, Says, BothAre, EitherIs}, Formulas.{AnyIs, TellsAt}}
+use Rattle.olap_encoding.specs.{Joining.{Joins, joined}, declared.formulas.Connective.Connective}
+use Rattle.olap_encoding.specs.declared.formulas.Connective.TheVariants.{Conjunction, Disjunction, Implication, Equivalence, Exclusion}
 use Rattle.olap_base.proofs.GeneralLemmas.{both_ok}
 
 -- what joins by one connective joins by the same under another name
@@ -18,7 +14,7 @@ joins_as {e} {k} {m} {a} {b} {l} q j = λ c x y u w. subst (λ i. TellsAt e c l 
 module _ {E : Type 0} (d e : Encoding) (a b : Lit) (r : Result Lit E) where
   joins_by : (k : Connective) (P : Lit → Type 0) → ((l : Lit) → IsNext d e → P l → Joins e k a b l)
       → IfOk r (λ _. IsNext d e) → IfOk r P → IfOk r (λ l. Joins e k a b l)
-  joins_by k P f n s = both_ok r (λ _. IsNext d e) P (λ l. Joins e k a b l) f n s
+  joins_by k P f n s = both_ok r _ _ _ f n s
 
   pub joins_both : {k : Connective} → k ≡ Conjunction → IfOk r (λ _. IsNext d e) → IfOk r (λ l. Says e l (BothAre a b))
       → IfOk r (λ l. Joins e k a b l)

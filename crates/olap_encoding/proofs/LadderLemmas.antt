@@ -1,28 +1,17 @@
 -- The ladder of a category's names: rung j says that the index is at most j.
 use Rattle.std.proofs.Common.{◌≡◌, ℕ, zero, suc, ◌+◌, ◌<◌, ◌≤◌, [], ◌∷◌, length, refl, sym, subst, arith}
 use Rattle.olap_ast.specs.Frozen.{Frozen}
-use Rattle.olap_pool.specs.declared.literals.Lit.{Lit}
-use Rattle.olap_pool.specs.Literals.{Holds, Satisfies, negation}
-use Rattle.olap_names.specs.Names.{candidates_of, others_of}
-use Rattle.olap_names.specs.Questions.{Question}
-use Rattle.olap_encoding.specs.Literals.{Valuation}
-use Rattle.olap_encoding.specs.Meanings.{index_of}
+use Rattle.olap_pool.specs.{Literals.{Holds, negation}, declared.literals.Lit.Lit}
+use Rattle.olap_names.specs.{Names.{candidates_of, others_of}, Questions.Question}
+use Rattle.olap_encoding.proofs.{ClauseLemmas.named_present, GivenLemmas.given_implies}
+use Rattle.olap_encoding.proofs.LiteralLemmas.{met_first, where_true, where_false, negated_as}
 use Rattle.olap_encoding.specs.Encoding.{Encoding, Stands, IsSound, IsNext, IsGiven, Says, PresentIs, NameIs, UpToIs, categories_of}
-use Rattle.olap_encoding.proofs.LiteralLemmas.{met_first, where_true, where_false, negated_is}
-use Rattle.olap_encoding.proofs.ClauseLemmas.{named_present}
+use Rattle.olap_encoding.specs.{Literals.Valuation, Meanings.index_of}
 
 -- the rung that was made last
 pub record IsRung (e0 e : Encoding) (c : ℕ) (l : Lit) (j : ℕ) : Type 0 where
   pub next : IsNext e0 e
   pub says : Says e l (UpToIs c j)
-
--- where one literal is true the other is
-pub given_implies : (e : Encoding) (n a b : Lit) → n ≡ negation a
-    → ((f : Frozen) (v : Valuation) → Stands e f v → Holds v a → Holds v b) → IsGiven e (n ∷ b ∷ [])
-given_implies e n a b q w = record {
-  met = λ f v h. subst (λ i. Satisfies v (i ∷ b ∷ [])) (sym q)
-      (where_true v a (b ∷ []) (λ k. met_first v b [] (w f v h k)));
-}
 
 -- at most j + 1 and not at most j is j + 1
 at_next : (i j : ℕ) → i ≤ j + 1 → (i ≤ j → ⊥) → i ≡ j + 1
@@ -43,17 +32,14 @@ module _ (e : Encoding) (c j : ℕ) (x u l : Lit) (a : Says e x (UpToIs c j)) (b
       (λ f v h k. (b.exactly f v h).1 (let i = (n.exactly f v h).0 k in omega arith))
 
   pub given_above : (m k : Lit) → m ≡ negation l → k ≡ negation x → IsGiven e (m ∷ k ∷ [])
-  given_above m k q r = given_implies e m l k q
-      (λ f v h y. subst (λ i. Holds v i) (sym r) ((negated_is v x).1
-      (λ z. not_both (index_of f c) j ((n.exactly f v h).0 y) ((a.exactly f v h).0 z))))
+  given_above m k q r = given_implies e m l k q (λ f v h y. (negated_as v k x r).1
+      (λ z. not_both (index_of f c) j ((n.exactly f v h).0 y) ((a.exactly f v h).0 z)))
 
   pub given_between : (m : Lit) → m ≡ negation u → IsGiven e (l ∷ x ∷ m ∷ [])
   given_between m q = record {
-    met = λ f v h. subst (λ i. Satisfies v (l ∷ x ∷ i ∷ [])) (sym q)
-        (where_false v l (x ∷ negation u ∷ [])
-        (λ y. where_false v x (negation u ∷ [])
-        (λ z. where_true v u [] (λ k. absurd (y ((n.exactly f v h).1
-        (at_next (index_of f c) j ((b.exactly f v h).0 k) (λ w. z ((a.exactly f v h).1 w)))))))));
+    met = λ f v h. where_false v l (x ∷ m ∷ []) (λ y. where_false v x (m ∷ []) (λ z. where_true v m u [] q
+        (λ k. absurd (y ((n.exactly f v h).1
+        (at_next (index_of f c) j ((b.exactly f v h).0 k) (λ w. z ((a.exactly f v h).1 w))))))));
   }
 
 -- ---- the ends

@@ -1,22 +1,15 @@
 -- A comparison with the name of an index, by the names of all indexes.
-use mathlib.Core.Bool.{beq}
 use Rattle.std.proofs.Common.{◌≡◌, ◌↔◌, ◌⊎◌, ◌∙◌, ℕ, ℤ, zero, suc, ◌+◌, ◌<◌, ◌≤◌, List, [], Bool, true, false, cond, not, length, get_or, refl, sym, ap, subst, inl, inr, arith}
-use Rattle.std.specs.Prelude.{IsTrue}
-use Rattle.std.proofs.lemmas.List.{get_or_default}
+use Rattle.std.{proofs.lemmas.List.get_or_default, specs.Prelude.IsTrue}
 use Rattle.olap_numerals.specs.Comparing.{Op}
-use Rattle.olap_ast.specs.Formula.{IsNumbered}
-use Rattle.olap_ast.specs.Frozen.{text_of_index}
-use Rattle.olap_ast.proofs.Decided.{dec_number}
-use Rattle.olap_pool.specs.declared.literals.Lit.{Lit}
-use Rattle.olap_pool.specs.Literals.{Holds, negation}
+use Rattle.olap_ast.{proofs.Decided.dec_number, specs.Formula.IsNumbered, specs.Frozen.text_of_index}
+use Rattle.olap_pool.specs.{Literals.{Holds, negation}, declared.literals.Lit.Lit}
 use Rattle.olap_names.specs.Names.{others_of}
-use Rattle.olap_encoding.specs.Literals.{Valuation, never}
-use Rattle.olap_encoding.specs.Meanings.{index_of}
-use Rattle.olap_encoding.specs.Encoding.{Encoding, IsKnown, NameIs, Says}
-use Rattle.olap_encoding.proofs.GivenLemmas.{known_negated}
-use Rattle.olap_encoding.specs.Formulas.{AmongIs, AnyIs, IsLeading, Wants}
-use Rattle.olap_encoding.proofs.LiteralLemmas.{negated_is}
-use Rattle.olap_base.proofs.GeneralLemmas.{below_or_same}
+use Rattle.olap_encoding.proofs.{GivenLemmas.{known_negated, says_as}, LiteralLemmas.negated_is, TruthLemmas.any_iff}
+use Rattle.olap_encoding.specs.{Encoding.{Encoding, IsKnown, NameIs, Says}, Formulas.{AmongIs, AnyIs, IsLeading, Wants}}
+use Rattle.olap_encoding.specs.{Literals.{Valuation, never}, Meanings.index_of}
+use Rattle.olap_base.proofs.GeneralLemmas.{below_or_same, iff_trans}
+use mathlib.Core.Bool.{beq}
 
 -- the index is that of one of the first k constants, which compares as it should
 abbrev pub AmongAt : List (List ℕ) → ℕ → ℕ → Op → ℤ → Bool → Type 0
@@ -157,37 +150,20 @@ wanted_is name op n false false t = (λ z p. let y : false ≡ true = t.1 p in c
 
 module _ (e : Encoding) (d j : ℕ) (op : Op) (n : ℤ) (want : Bool) where
   pub says_none : Says e never (λ p f v. ⊥) → Says e never (AmongIs d 0 op n want)
-  says_none x = record {
-    known = x.known;
-    exactly = λ f v h. (
-      λ k. absurd ((x.exactly f v h).0 k),
-      λ a. absurd (among_none (others_of e.question.candidates d) (index_of f d) op n want a),
-    );
-  }
+  says_none x = says_as e never x (λ f v h. (
+    λ k. absurd k,
+    λ a. absurd (among_none (others_of e.question.candidates d) (index_of f d) op n want a),
+  ))
 
   pub says_other : (l : Lit) → Says e l (AmongIs d j op n want)
       → (Wants op n want (get_or (others_of e.question.candidates d) j []) → ⊥) → Says e l (AmongIs d (j + 1) op n want)
-  says_other l x w = record {
-    known = x.known;
-    exactly = λ f v h.
-        let t = among_other (others_of e.question.candidates d) (index_of f d) j op n want w in
-        let y = x.exactly f v h in
-        (λ k. t.0 (y.0 k), λ a. y.1 (t.1 a));
-  }
+  says_other l x w = says_as e l x
+      (λ f v h. among_other (others_of e.question.candidates d) (index_of f d) j op n want w)
 
   pub says_more : (l b o : Lit) → Says e l (AmongIs d j op n want) → Says e b (NameIs d (j + 1)) → Says e o (AnyIs l b)
       → Wants op n want (get_or (others_of e.question.candidates d) j []) → Says e o (AmongIs d (j + 1) op n want)
-  says_more l b o x y z w = record {
-    known = z.known;
-    exactly = λ f v h.
-        let t = among_more (others_of e.question.candidates d) (index_of f d) j op n want w in
-        let a = x.exactly f v h in
-        let c = y.exactly f v h in
-        let u = z.exactly f v h in (
-          λ k. t.0 (elim (u.0 k) [ inl i ↦ inl (a.0 i) | inr i ↦ inr (c.0 i) ]),
-          λ k. u.1 (elim (t.1 k) [ inl i ↦ inl (a.1 i) | inr i ↦ inr (c.1 i) ]),
-        );
-  }
+  says_more l b o x y z w = says_as e o z (λ f v h. iff_trans (any_iff (x.exactly f v h) (y.exactly f v h))
+      (among_more (others_of e.question.candidates d) (index_of f d) j op n want w))
 
 -- a literal that is turned is known
 pub known_turned : (e : Encoding) (l k : Lit) (b : Bool) → k ≡ cond b (negation l) l → IsKnown e l → IsKnown e k

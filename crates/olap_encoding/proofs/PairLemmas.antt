@@ -1,9 +1,8 @@
 -- The pairs that have yet to be defined: one more, and one fewer.
 use Rattle.std.proofs.Common.{◌≡◌, ℕ, Bool, true, false, List, [], ◌∷◌, ◌++◌, refl, sym, subst, ◌⊎◌, inl, inr}
-use Rattle.std.specs.Prelude.{Contains, if◌then◌else◌}
-use Rattle.std.proofs.lemmas.List.Elements.{Contains-push_cases}
-use Rattle.olap_encoding.specs.Encoding.{Encoding, IsPair, IsSound, IsLater, IsNext}
+use Rattle.std.{proofs.lemmas.List.Elements.Contains-push_cases, specs.Prelude.{Contains, if◌then◌else◌}}
 use Rattle.olap_encoding.proofs.Growing.{grown_same, stands_before}
+use Rattle.olap_encoding.specs.Encoding.{Encoding, IsPair, IsSound, IsLater, IsNext}
 
 -- other pairs have yet to be defined
 other_pairs : (e : Encoding) (pairs : List (ℕ × ℕ)) → IsSound e

@@ -1,18 +1,13 @@
 -- What the parts of a formula require, and how many nodes they have.
 use Rattle.std.proofs.Common.{◌≡◌, ℕ, ◌+◌, ◌<◌, refl, ap, subst, ◌∙◌, ◌⊎◌, inl, inr, arith}
-use Rattle.olap_ast.specs.Formula as Meaning
 use Rattle.olap_ast.specs.Formula.{Formula.Truth, Formula.Falsity, Formula.Path, Formula.Reach, Formula.Via, Formula.Equals, Formula.Compare, Formula.Not, Formula.And, Formula.Or, Formula.Implies, Formula.Iff, Formula.Xor, Formula.One}
-use Rattle.olap_ast.specs.Trees.{formula_of, terms_of}
-use Rattle.olap_ast.specs.Valid.{node_count, node_count_of_terms}
-use Rattle.olap_ast.specs.declared.formulas.Formula.{Formula}
-use Rattle.olap_ast.specs.declared.formulas.Terms.{Terms}
+use Rattle.olap_ast.specs.{Trees.{formula_of, terms_of}, Valid.{node_count, node_count_of_terms}}
+use Rattle.olap_ast.specs.declared.formulas.{Formula.Formula, Terms.Terms}
 use Rattle.olap_names.specs.Questions.{Question}
-use Rattle.olap_encoding.specs.Encoding.{Encoding, IsSound, categories_of}
-use Rattle.olap_encoding.specs.Formulas.{IsSpoken, AreSpoken}
-use Rattle.olap_encoding.specs.Joining.{joined}
-use Rattle.olap_encoding.specs.declared.formulas.Connective.{Connective}
+use Rattle.olap_encoding.{proofs.SplittingLemmas.spoken_as, specs.Encoding.{Encoding, IsSound, categories_of}}
+use Rattle.olap_encoding.specs.{Formulas.{IsSpoken, AreSpoken}, Joining.joined, declared.formulas.Connective.Connective}
 use Rattle.olap_encoding.specs.declared.formulas.Connective.TheVariants.{Conjunction, Disjunction, Implication, Equivalence, Exclusion}
-use Rattle.olap_encoding.proofs.SplittingLemmas.{spoken_as}
+use Rattle.olap_ast.specs.Formula as Meaning
 
 -- a formula has a node
 pub has_node : (x : Meaning.Formula) → 0 < node_count x

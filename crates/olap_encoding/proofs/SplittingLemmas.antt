@@ -1,27 +1,18 @@
 -- A formula that must be true, and what that says of its parts.
 use Rattle.std.proofs.Common.{◌≡◌, ℕ, ◌<◌, List, [], ◌∷◌, ◌++◌, Bool, true, false, refl, ap, sym, subst, ◌∙◌, ◌⊎◌, inl, inr}
-use Rattle.std.specs.Prelude.{Contains, not}
-use Rattle.std.proofs.lemmas.List.Elements.{Contains-append_left, Contains-push}
+use Rattle.std.{proofs.lemmas.List.Elements.{Contains-append_left, Contains-push}, specs.Prelude.{Contains, not}}
 use Rattle.olap_base.specs.Instance.{Instance}
-use Rattle.olap_ast.specs.Formula.{Formula, Formula.Not, Formula.And, Formula.Or, Formula.Implies, Holds as HoldsAt}
-use Rattle.olap_ast.specs.Schema.{Constraint}
-use Rattle.olap_ast.specs.Trees.{formula_of}
-use Rattle.olap_ast.specs.Valid.{node_count}
-use Rattle.olap_ast.specs.declared.formulas.Formula as declared
-use Rattle.olap_ast.specs.Frozen.{name_in}
 use Rattle.olap_ast.proofs.Decided.{decide_holds}
-use Rattle.olap_pool.specs.declared.literals.Lit.{Lit}
-use Rattle.olap_pool.specs.Literals.{Holds, negation}
-use Rattle.olap_names.specs.Names.{candidates_of}
-use Rattle.olap_names.specs.Questions.{Question}
-use Rattle.olap_encoding.specs.Choices.{IsPresent}
-use Rattle.olap_encoding.specs.Meanings.{edges_of}
+use Rattle.olap_ast.specs.Formula.{Formula, Formula.Not, Formula.And, Formula.Or, Formula.Implies, Holds as HoldsAt}
+use Rattle.olap_ast.specs.{Frozen.name_in, Schema.Constraint, Trees.formula_of, Valid.node_count}
+use Rattle.olap_pool.specs.{Literals.{Holds, negation}, declared.literals.Lit.Lit}
+use Rattle.olap_names.specs.{Names.candidates_of, Questions.Question}
+use Rattle.olap_encoding.proofs.{ChosenEdges.{present_member, place_is}, GivenLemmas.choice, Growing.stands_before}
+use Rattle.olap_encoding.{proofs.LiteralLemmas.{negated_is, value_cases}, specs.Choices.IsPresent}
 use Rattle.olap_encoding.specs.Encoding.{Encoding, categories_of, Says, IsSound, IsLater, IsGiven, PresentIs}
 use Rattle.olap_encoding.specs.Formulas.{AreConjuncts, instance_in, member_in, TellsAt, IsTrueAt, IsWidened, IsSpoken, signed}
-use Rattle.olap_encoding.proofs.LiteralLemmas.{negated_is, value_cases}
-use Rattle.olap_encoding.proofs.ChosenEdges.{present_member, place_is}
-use Rattle.olap_encoding.proofs.Growing.{stands_before}
-use Rattle.olap_encoding.proofs.TellingLemmas.{choice}
+use Rattle.olap_encoding.specs.Meanings.{edges_of}
+use Rattle.olap_ast.specs.declared.formulas.Formula as declared
 
 -- ---- at one member
 
@@ -34,33 +25,13 @@ module _ (i : Instance) (m : ℕ) where
   turned true x h = h
   turned false x h = not_false x h
 
-  some_of_or : (x y : Formula) → HoldsAt i m (signed true (Or x y))
-      → HoldsAt i m (signed true x) ⊎ HoldsAt i m (signed true y)
-  some_of_or x y h = h
-
-  some_of_and : (x y : Formula) → HoldsAt i m (signed false (And x y))
-      → HoldsAt i m (signed false x) ⊎ HoldsAt i m (signed false y)
-  some_of_and x y h = elim (decide_holds i m x) [ yes a ↦ inr (λ b. h (a, b)) | no n ↦ inl n ]
-
-  some_of_implies : (x y : Formula) → HoldsAt i m (signed true (Implies x y))
-      → HoldsAt i m (signed false x) ⊎ HoldsAt i m (signed true y)
-  some_of_implies x y h = elim (decide_holds i m x) [ yes a ↦ inr (h a) | no n ↦ inl n ]
-
-  all_of_or : (x y : Formula) → HoldsAt i m (signed false (Or x y))
-      → HoldsAt i m (signed false x) × HoldsAt i m (signed false y)
-  all_of_or x y h = (λ a. h (inl a), λ b. h (inr b))
-
-  all_of_implies : (x y : Formula) → HoldsAt i m (signed false (Implies x y))
-      → HoldsAt i m (signed true x) × HoldsAt i m (signed false y)
-  all_of_implies x y h = (not_false x (λ n. h (λ a. absurd (n a))), λ b. h (λ a. b))
-
 -- ---- conjuncts
 
 -- a conjunction is both of its parts
 pub conjuncts_of_and : (x y : Formula) → AreConjuncts true (And x y) true x true y
 conjuncts_of_and x y = record {
   both = λ i m h. h;
-  some = λ i m h. some_of_and i m x y h;
+  some = λ i m h. elim (decide_holds i m x) [ yes a ↦ inr (λ b. h (a, b)) | no n ↦ inl n ];
   smaller = refl;
   spoken = λ q s. s;
 }
@@ -68,8 +39,8 @@ conjuncts_of_and x y = record {
 -- a disjunction that is false is both parts, negated
 pub conjuncts_of_or : (x y : Formula) → AreConjuncts false (Or x y) false x false y
 conjuncts_of_or x y = record {
-  both = λ i m h. all_of_or i m x y h;
-  some = λ i m h. some_of_or i m x y h;
+  both = λ i m h. (λ a. h (inl a), λ b. h (inr b));
+  some = λ i m h. h;
   smaller = refl;
   spoken = λ q s. s;
 }
@@ -77,8 +48,8 @@ conjuncts_of_or x y = record {
 -- an implication that is false is its first part, and its second part negated
 pub conjuncts_of_implies : (x y : Formula) → AreConjuncts false (Implies x y) true x false y
 conjuncts_of_implies x y = record {
-  both = λ i m h. all_of_implies i m x y h;
-  some = λ i m h. some_of_implies i m x y h;
+  both = λ i m h. (not_false i m x (λ n. h (λ a. absurd (n a))), λ b. h (λ a. b));
+  some = λ i m h. elim (decide_holds i m x) [ yes a ↦ inr (h a) | no n ↦ inl n ];
   smaller = refl;
   spoken = λ q s. s;
 }
@@ -205,7 +176,7 @@ module _ (e : Encoding) (c : ℕ) where
 pub constraint_true : (e : Encoding) → IsSound e → (c : ℕ) (k : Constraint) → k.root ≡ c
     → Contains e.question.schema.constraints k → IsTrueAt e c k.formula
 constraint_true e t c k r m = λ f v h u.
-    let w = present_member e.question.schema.graph e.question.root (edges_of e.question.schema f) (choice e t c f v h)
+    let w = present_member e.question.schema.graph e.question.root (edges_of e.question.schema f) (choice e t f v h)
     (name_in (candidates_of e.question.candidates) f) c u in
     h.frozen.stands_for.legal.meets k m (member_in e.question f c) (w.0, w.1 ∙ sym r)
 
@@ -216,7 +187,7 @@ question_true e t = λ f v h u.
     let es = edges_of e.question.schema f in
     let i = instance_in e.question f in
     let q : s.root ≡ member_in e.question f e.question.root =
-    sym (place_is e.question.schema.graph e.question.root es (choice e t e.question.root f v h)
+    sym (place_is e.question.schema.graph e.question.root es (choice e t f v h)
     (name_in (candidates_of e.question.candidates) f) s.root s.root_is.0)
     ∙ ap (member_in e.question f) s.root_is.1 in
     subst (λ y. HoldsAt i y e.question.formula) q s.true_at_root

@@ -1,17 +1,14 @@
 -- The valuation of a frozen dimension gives each variable the value of its meaning.
 use Rattle.std.proofs.Common.{◌≡◌, ℕ, zero, suc, ◌<◌, ◌≤◌, List, length, Bool, true, false, cond, refl, ap, sym, subst, ◌∙◌, ◌↔◌, ◌⊎◌, inl, inr, arith}
-use Rattle.std.specs.Prelude.{◌==◌, IsTrue, not}
-use Rattle.olap_base.specs.Steps.{Steps-from_reaches, reaches_from_Steps}
-use Rattle.olap_base.specs.Reaching.{category_reaches, category_reaches_is}
+use Rattle.std.{proofs.lemmas.Bool.{and_from, leb-true, eqb-true, eq-eqb, le-leb}, specs.Prelude.{◌==◌, IsTrue, not}}
 use Rattle.olap_base.proofs.ListLemmas.{first_true, second_true}
-use Rattle.olap_ast.specs.Schema.{Schema}
-use Rattle.olap_ast.specs.Frozen.{Frozen, is_present}
-use Rattle.olap_encoding.specs.Literals.{Valuation, value}
+use Rattle.olap_base.specs.Reaching.{category_reaches, category_reaches_is}
+use Rattle.olap_base.specs.Steps.{Steps-from_reaches, reaches_from_Steps}
+use Rattle.olap_ast.specs.{Frozen.{Frozen, is_present}, Schema.Schema}
+use Rattle.olap_encoding.{proofs.LiteralLemmas.value_is, specs.Literals.{Valuation, value}}
 use Rattle.olap_encoding.specs.Meanings.{edges_of, index_of, Means, IsEither, meaning_at, Fits, IsBelow, AreOrdered, chosen_graph, truth_of, valuation}
 use Rattle.olap_encoding.specs.declared.meanings.Meaning.{Meaning}
 use Rattle.olap_encoding.specs.declared.meanings.Meaning.TheVariants.{Always, On, Named, UpTo, Present, Reaching, Both, Differ}
-use Rattle.olap_encoding.proofs.LiteralLemmas.{value_is}
-use Rattle.std.proofs.lemmas.Bool.{and_from, leb-true, eqb-true, eq-eqb, le-leb}
 
 -- ---- whether a meaning holds
 
@@ -93,41 +90,29 @@ module _ (s : Schema) (r : ℕ) (f : Frozen) (ms : List Meaning) where
   last_or_earlier n x h = grind arith
 
   module _ (o : AreOrdered ms) where
-    -- one more variable leaves what the earlier ones mean
-    kept : (n x : ℕ) → x < length ms → x ≤ n → (Means s r f (valuation s r f ms n) (meaning_at ms x)
-        → Means s r f (valuation s r f ms (suc n)) (meaning_at ms x)) × (Means s r f (valuation s r f ms (suc n))
-        (meaning_at ms x) → Means s r f (valuation s r f ms n) (meaning_at ms x))
-    kept n x l h =
+    -- with one more variable, a value that says what is meant says what is meant then
+    kept : (n x : ℕ) → x < length ms → x ≤ n → (b : Bool)
+        → IsTrue b ↔ Means s r f (valuation s r f ms n) (meaning_at ms x) → valuation s r f ms (suc n) x ≡ b
+        → IsTrue (valuation s r f ms (suc n) x) ↔ Means s r f (valuation s r f ms (suc n)) (meaning_at ms x)
+    kept n x l h b t e =
         let v = valuation s r f ms n in
         let w = valuation s r f ms (suc n) in (
-          means_alike s r f v w x (meaning_at ms x) (o.below x l) (λ y k. sym (old_value n y (omega arith))),
-          means_alike s r f w v x (meaning_at ms x) (o.below x l) (λ y k. old_value n y (omega arith)),
+          λ a. means_alike s r f v w x (meaning_at ms x) (o.below x l) (λ y k. sym (old_value n y (omega arith)))
+              (t.0 (sym e ∙ a)),
+          λ a. e ∙ t.1 (means_alike s r f w v x (meaning_at ms x) (o.below x l) (λ y k. old_value n y (omega arith)) a),
         )
 
     first_values : (n x : ℕ) → n ≤ length ms → x < n
         → IsTrue (valuation s r f ms n x) ↔ Means s r f (valuation s r f ms n) (meaning_at ms x)
     first_values zero x l h = absurd (omega arith)
     first_values (suc n) x l h = elim (last_or_earlier n x h) [
-      | inl q ↦ newest q
-      | inr k ↦ earlier k (first_values n x (omega arith) k)
+      | inl q ↦ kept n x (omega arith) (omega arith) (truth_of s r f (valuation s r f ms n) (meaning_at ms x))
+          (truth_is s r f (valuation s r f ms n) (meaning_at ms x))
+          (subst (λ y. valuation s r f ms (suc n) y ≡ truth_of s r f (valuation s r f ms n) (meaning_at ms y))
+          (sym q) (new_value n))
+      | inr k ↦ kept n x (omega arith) (omega arith) (valuation s r f ms n x) (first_values n x (omega arith) k)
+          (old_value n x k)
     ]
-      where
-        newest : x ≡ n → IsTrue (valuation s r f ms (suc n) x) ↔ Means s r f (valuation s r f ms (suc n))
-            (meaning_at ms x)
-        newest q =
-            let t = truth_is s r f (valuation s r f ms n) (meaning_at ms x) in
-            let e : valuation s r f ms (suc n) x ≡ truth_of s r f (valuation s r f ms n) (meaning_at ms x) =
-            subst (λ y. valuation s r f ms (suc n) y ≡ truth_of s r f (valuation s r f ms n) (meaning_at ms y))
-            (sym q) (new_value n) in
-            let k = kept n x (omega arith) (omega arith) in
-            (λ a. k.0 (t.0 (sym e ∙ a)), λ a. e ∙ t.1 (k.1 a))
-
-        earlier : x < n → IsTrue (valuation s r f ms n x) ↔ Means s r f (valuation s r f ms n) (meaning_at ms x)
-            → IsTrue (valuation s r f ms (suc n) x) ↔ Means s r f (valuation s r f ms (suc n)) (meaning_at ms x)
-        earlier m t =
-            let e = old_value n x m in
-            let k = kept n x (omega arith) (omega arith) in
-            (λ a. k.0 (t.0 (sym e ∙ a)), λ a. e ∙ t.1 (k.1 a))
 
     -- each frozen dimension has a valuation that fits it
     pub valuation_fits : Fits s r f ms (valuation s r f ms (length ms))

@@ -4,11 +4,10 @@ use Rattle.std.specs.Prelude.{IsTrue}
 use Rattle.olap_base.specs.Instance.{Instance}
 use Rattle.olap_ast.specs.Formula.{Formula, Terms, Formula.Truth, Formula.Falsity, Formula.Path, Formula.Reach, Formula.Via, Formula.Equals, Formula.Compare, Formula.Not, Formula.And, Formula.Or, Formula.Implies, Formula.Iff, Formula.Xor, Formula.One, Terms.End, Terms.More, ExactlyOneHolds, HasPath, Holds, NoneHolds}
 use Rattle.olap_ast.specs.ThreeValues.{IsCount, iff, implies, unknown_count, value_of, value_of_both, value_of_counts, xor, yes_count}
-use Rattle.olap_ast.specs.declared.three_values.Truth3.{Truth3}
-use Rattle.olap_ast.specs.declared.three_values.Truth3.TheVariants.{No, Yes, Unknown}
+use Rattle.olap_ast.specs.declared.three_values.Truth3.{Truth3, TheVariants.{No, Yes, Unknown}}
+use Rattle.olap_eval.proofs.ShapeLemmas.{named_is, numbered_is, numbers, path_from, path_none, path_to, reach_is, via_is}
 use Rattle.olap_eval.specs.Partial.{Agrees, Completes, Knowledge, ValuesAreTruths, value_along, value_at, values_of}
 use Rattle.olap_eval.specs.Shapes.{IsShape, HasEdgeThere}
-use Rattle.olap_eval.proofs.ShapeLemmas.{named_is, numbered_is, numbers, path_from, path_none, path_to, reach_is, via_is}
 
 -- ---- along a path
 

@@ -1,18 +1,16 @@
 -- What a shape's answers say of the members.
 use Rattle.std.proofs.Common.{◌≡◌, ℕ, ℤ, zero, suc, ◌+◌, ◌<◌, ◌≤◌, List, [], ◌∷◌, length, map, get_or, drop, Bool, true, false, refl, ap, sym, subst, ◌∙◌, ◌↔◌, arith, add-one, drop-cons}
 use Rattle.std.specs.Prelude.{IsTrue}
-use Rattle.olap_base.specs.Chains.{IsChain}
+use Rattle.olap_base.{proofs.GeneralLemmas.iff_trans, specs.Chains.IsChain}
 use Rattle.olap_base.specs.Instance.{Instance, IsBelow, Reaches, ReachesCategory, ReachesVia, category_of, name_of}
 use Rattle.olap_base.specs.Steps.{Steps.here, Steps.step, Steps-append, Steps-from_reaches, reaches_from_Steps}
-use Rattle.olap_ast.specs.Formula.{HasPath, Holds, IsNumbered, ReachesNamed, ReachesNumbered}
-use Rattle.olap_numerals.specs.Comparing.{Op}
-use Rattle.olap_ast.specs.Trees.{formula_of, op_of}
-use Rattle.olap_ast.specs.declared.formulas.Op as declared
-use Rattle.olap_ast.specs.declared.formulas.Formula.{Formula}
-use Rattle.olap_ast.specs.declared.formulas.Formula.TheVariants.{Reach, Via, Equals, Compare}
 use Rattle.olap_base.specs.declared.ids.CatId.{CatId}
+use Rattle.olap_ast.specs.Formula.{HasPath, Holds, IsNumbered, ReachesNamed, ReachesNumbered}
+use Rattle.olap_ast.specs.{Trees.{formula_of, op_of}, declared.formulas.Formula.Formula}
+use Rattle.olap_ast.specs.declared.formulas.Formula.TheVariants.{Reach, Via, Equals, Compare}
+use Rattle.olap_numerals.specs.Comparing.{Op}
 use Rattle.olap_eval.specs.Shapes.{IsShape, HasEdgeThere, ReachesThere, HasNameThere, HasNumberThere}
-use Rattle.olap_base.proofs.GeneralLemmas.{iff_trans}
+use Rattle.olap_ast.specs.declared.formulas.Op as declared
 
 module _ (i : Instance) (present : ℕ → Bool) (place : ℕ → ℕ) (s : IsShape i present place) (root : ℕ)
     (p : IsTrue (present root)) where

@@ -1,21 +1,15 @@
 -- A target is summarizable, or some bottom category is the first with a frozen dimension that shows the contrary.
 --     counterexamples_exist    the law
-use Rattle.std.proofs.Common.{◌≡◌, ℕ, ◌+◌, List, length, refl, subst, inl, inr, arith}
-use Rattle.std.specs.Prelude.{◌⊎◌, Contains}
-use native.Mathlib.Decide.{ℕ_discrete, dec_lt}
+use Rattle.std.{proofs.Common.{◌≡◌, ℕ, ◌+◌, List, length, refl, subst, inl, inr, arith}, specs.Prelude.{◌⊎◌, Contains}}
+use Rattle.olap_base.{proofs.DecisionLemmas.dec_not, specs.Deciding.{dec_and, dec_iff}}
 use Rattle.olap_base.specs.Graph.{Edge, Graph, IsBottom}
-use Rattle.olap_base.specs.Deciding.{dec_and, dec_iff}
-use Rattle.olap_ast.specs.Constants.{FreshNamesExist}
-use Rattle.olap_ast.specs.Formula.{Formula}
+use Rattle.olap_ast.{proofs.Least.{IsLeast, least}, specs.Constants.FreshNamesExist, specs.Formula.Formula}
 use Rattle.olap_ast.specs.Frozen.{AreCandidates, Candidates, Frozen, IsFrozen, IsLeastFrozen}
-use Rattle.olap_ast.specs.Questions.{NoneFrozen, SourcesHaveCandidates}
-use Rattle.olap_ast.specs.Schema.{Schema}
+use Rattle.olap_ast.specs.{Questions.{NoneFrozen, SourcesHaveCandidates}, Schema.Schema}
 use Rattle.olap_ast.specs.Summarizable.{IsCounterexample, SummarizableExactlyIfNoneFrozen, not_by_one}
-use Rattle.olap_ast.proofs.Least.{IsLeast, least}
+use Rattle.olap_exists.proofs.{Finite.dec_each, FrozenListed.least_frozen_exist}
 use Rattle.olap_exists.specs.Existing.{CounterexamplesExist}
-use Rattle.olap_exists.proofs.Finite.{dec_each}
-use Rattle.olap_exists.proofs.FrozenListed.{least_frozen_exist}
-use Rattle.olap_base.proofs.DecisionLemmas.{dec_not}
+use native.Mathlib.Decide.{ℕ_discrete, dec_lt}
 
 -- whether it is a bottom category
 pub dec_bottom : (g : Graph) (b : ℕ) → Dec (IsBottom g b)

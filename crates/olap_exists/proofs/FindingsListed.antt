@@ -2,26 +2,21 @@
 -- of two numbers below a bound.
 use Rattle.std.proofs.Common.{◌≡◌, ℕ, zero, suc, ◌+◌, ◌<◌, List, [], ◌∷◌, length, map, take, drop, Option, Some, None, refl, ap, sym, subst, ◌∙◌, inl, inr, arith}
 use Rattle.std.specs.Prelude.{Contains, remove, slice_get}
-use native.Mathlib.Decide.{ℕ_discrete, dec_lt}
-use mathlib.Core.List.{List-discrete}
-use Rattle.olap_base.specs.Deciding.{contains_cases, contains_cons, dec_and, dec_iff}
-use Rattle.olap_base.specs.Graph.{Edge}
-use Rattle.olap_base.specs.Ranks.{AreExactly, IsNotAfter}
+use Rattle.olap_base.proofs.DecisionLemmas.{dec_not}
 use Rattle.olap_base.proofs.ListLemmas.{Contains-from_map, Contains-map, Contains-nil, contains_head, Contains-slice_get}
+use Rattle.olap_base.specs.{Deciding.{contains_cases, contains_cons, dec_and, dec_iff}, Graph.Edge}
+use Rattle.olap_base.specs.Ranks.{AreExactly, IsNotAfter}
+use Rattle.olap_ast.proofs.{AtomLemmas.has_kinds, Least.Fits, SameAtoms.kinds_too}
 use Rattle.olap_ast.specs.Constants.{FreshNamesExist, HasKinds}
 use Rattle.olap_ast.specs.Findings.{Finding, Finding.Redundant, Finding.Unsatisfiable, Finding.Unused, IsFinding, IsRedundant, IsUnsatisfiable, IsUnused, finding_rank, without}
-use Rattle.olap_ast.specs.Formula.{Formula.Not, Formula.Path, Formula.Truth}
-use Rattle.olap_ast.specs.Frozen.{CandidatesExist}
+use Rattle.olap_ast.specs.{Formula.{Formula.Not, Formula.Path, Formula.Truth}, Frozen.CandidatesExist}
 use Rattle.olap_ast.specs.Questions.{RedundantExactlyIfNoneFrozen, UnsatisfiableExactlyIfNoneFrozen, UnusedExactlyIfNoneFrozen}
-use Rattle.olap_ast.specs.Schema.{Constraint, Schema}
-use Rattle.olap_ast.specs.Valid.{IsValidSchema}
-use Rattle.olap_ast.proofs.AtomLemmas.{has_kinds}
-use Rattle.olap_ast.proofs.Least.{Fits}
-use Rattle.olap_ast.proofs.SameAtoms.{kinds_too}
-use Rattle.olap_exists.specs.Existing.{FindingsExist}
+use Rattle.olap_ast.specs.{Schema.{Constraint, Schema}, Valid.IsValidSchema}
 use Rattle.olap_exists.proofs.Counterexamples.{dec_none}
 use Rattle.olap_exists.proofs.Listed.{AllLists, IsAhead, all_lists, all_pairs, from_either, ordered_map}
-use Rattle.olap_base.proofs.DecisionLemmas.{dec_not}
+use Rattle.olap_exists.specs.Existing.{FindingsExist}
+use native.Mathlib.Decide.{ℕ_discrete, dec_lt}
+use mathlib.Core.List.{List-discrete}
 
 -- ---- kinds
 

@@ -1,20 +1,16 @@
 -- All frozen dimensions are listed, and there is a least one or none.
 use Rattle.std.proofs.Common.{◌≡◌, ℕ, zero, suc, ◌+◌, ◌<◌, List, [], ◌∷◌, ◌++◌, length, map, Bool, true, false, cond, refl, ap, sym, subst, ◌∙◌, inl, inr, arith}
 use Rattle.std.specs.Prelude.{◌⊎◌, ◌≢◌, Contains, slice_index}
-use native.Mathlib.Decide.{ℕ_discrete}
-use mathlib.Core.List.{List-discrete}
-use Rattle.olap_base.specs.Deciding.{dec_and, contains_cases}
 use Rattle.olap_base.proofs.ListLemmas.{Contains-from_map, Contains-map, Contains-nil, contains_head}
-use Rattle.olap_ast.specs.Constants.{FreshNamesExist}
-use Rattle.olap_ast.specs.Formula.{Formula}
-use Rattle.olap_ast.specs.Frozen.{AreCandidates, Candidates, Frozen, IsFrozen, IsLeastFrozen, code}
-use Rattle.olap_ast.specs.Schema.{Schema}
+use Rattle.olap_base.{proofs.RankLemmas.not_after_itself, specs.Deciding.{dec_and, contains_cases}}
 use Rattle.olap_base.specs.Ranks.{IsNotAfter}
-use Rattle.olap_ast.proofs.Least.{Fits}
-use Rattle.olap_exists.specs.Existing.{FrozenAreListed, LeastFrozenExist}
+use Rattle.olap_ast.{proofs.Least.Fits, specs.Constants.FreshNamesExist, specs.Formula.Formula}
+use Rattle.olap_ast.specs.{Frozen.{AreCandidates, Candidates, Frozen, IsFrozen, IsLeastFrozen, code}, Schema.Schema}
 use Rattle.olap_exists.proofs.DecidingFrozen.{dec_frozen}
 use Rattle.olap_exists.proofs.Listed.{AllLists, AreListed, IsAhead, all_lists, all_pairs, ordered_map}
-use Rattle.olap_base.proofs.RankLemmas.{not_after_itself}
+use Rattle.olap_exists.specs.Existing.{FrozenAreListed, LeastFrozenExist}
+use native.Mathlib.Decide.{ℕ_discrete}
+use mathlib.Core.List.{List-discrete}
 
 -- ---- codes
 

@@ -1,12 +1,10 @@
 -- All lists of numbers, and all frozen dimensions, with a property that can be decided, in order.
 use Rattle.std.proofs.Common.{◌≡◌, ℕ, zero, suc, ◌+◌, ◌<◌, ◌≤◌, List, [], ◌∷◌, ◌++◌, map, get_or, refl, sym, subst, inl, inr, arith}
-use Rattle.std.specs.Prelude.{◌⊎◌, ◌≢◌, AllPairs, Contains}
-use Rattle.std.proofs.lemmas.List.Elements.{Contains-get_or}
-use Rattle.olap_base.specs.Deciding.{contains_cases, contains_cons}
-use Rattle.olap_base.proofs.ListLemmas.{Contains-from_map, Contains-map, Contains-nil, contains_head}
-use Rattle.olap_base.specs.Ranks.{IsNotAfter}
-use Rattle.olap_ast.proofs.Least.{Fits}
+use Rattle.std.{proofs.lemmas.List.Elements.Contains-get_or, specs.Prelude.{◌⊎◌, ◌≢◌, AllPairs, Contains}}
 use Rattle.olap_base.proofs.GeneralLemmas.{equal_or_less}
+use Rattle.olap_base.proofs.ListLemmas.{Contains-from_map, Contains-map, Contains-nil, contains_head}
+use Rattle.olap_base.specs.{Deciding.{contains_cases, contains_cons}, Ranks.IsNotAfter}
+use Rattle.olap_ast.proofs.Least.{Fits}
 
 -- each element is before each later one
 abbrev pub Ordered : {X : Type 0} → (X → X → Type 0) → List X → Type 0

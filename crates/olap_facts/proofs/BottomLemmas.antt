@@ -1,11 +1,9 @@
 -- Whether a category is a bottom one.
 use Rattle.std.proofs.Common.{◌≡◌, ◌≢◌, ◌<◌, ◌↔◌, ◌∷◌, [], Bool, true, false, not, ℕ, List, IsTrue, ap, refl, subst, inl, inr, arith}
+use Rattle.std.{proofs.lemmas.Bool.Decides.nat_tests, specs.List.list_any}
 use Rattle.std.specs.Prelude.{◌==◌, ◌&&◌, ◌||◌, Contains, nat_lt}
-use Rattle.std.specs.List.{list_any}
-use Rattle.std.proofs.lemmas.Bool.Decides.{nat_tests}
-use Rattle.olap_base.specs.Deciding.{contains_cases, contains_cons}
+use Rattle.olap_base.{proofs.ListLemmas.{Contains-nil, contains_head}, specs.Deciding.{contains_cases, contains_cons}}
 use Rattle.olap_base.specs.Graph.{Edge, Graph, HasEdge, IsBottom, category_count}
-use Rattle.olap_base.proofs.ListLemmas.{Contains-nil, contains_head}
 use Rattle.olap_facts.specs.FactText.{is_bottom}
 
 -- the edge from d to c

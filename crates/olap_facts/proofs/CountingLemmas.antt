@@ -1,18 +1,13 @@
 -- One record more, a fault, and the end.
 --     counted-header, counted-fact, header-fault, fact-fault, all-counted, no-header
 use Rattle.std.proofs.Common.{◌≡◌, ◌∷◌, ◌++◌, ◌+◌, ◌∙◌, ◌↔◌, ℕ, Bool, true, false, List, [], Option, None, Some, IsTrue, length, map, refl, sym, ap, append_assoc, length-append}
-use Rattle.std.specs.Prelude.{Ok, Err}
-use Rattle.std.proofs.lemmas.List.{append-nil, map-append}
-use Rattle.olap_base.specs.Graph.{Graph}
-use Rattle.olap_base.specs.Instance.{Instance}
-use Rattle.olap_base.specs.Views.{Fact}
-use Rattle.olap_records.specs.Faults.{first_fault, or_after}
-use Rattle.olap_facts.specs.FactText.{fact_fault_within, fact_read, facts_read_within, header}
-use Rattle.olap_facts.specs.declared.kinds.FactKind.{FactKind}
-use Rattle.olap_facts.specs.declared.kinds.FactKind.TheVariants as kind
+use Rattle.std.{proofs.lemmas.List.{append-nil, map-append}, specs.Prelude.{Ok, Err}}
+use Rattle.olap_base.specs.{Graph.Graph, Instance.Instance, Views.Fact}
+use Rattle.olap_records.specs.{Faults.{first_fault, or_after}, Tables.{begins_with, or_read}}
 use Rattle.olap_facts.proofs.HeaderLemmas.{header-found}
-use Rattle.olap_facts.specs.Feeding.{Counted, IsFresh, IsGoing}
-use Rattle.olap_records.specs.Tables.{begins_with, or_read}
+use Rattle.olap_facts.specs.FactText.{fact_fault_within, fact_read, facts_read_within, header}
+use Rattle.olap_facts.specs.{Feeding.{Counted, IsFresh, IsGoing}, declared.kinds.FactKind.FactKind}
+use Rattle.olap_facts.specs.declared.kinds.FactKind.TheVariants as kind
 
 module _ (most : ℕ) (g : Graph) (i : Instance) (handed : ℕ) (done : List (List (List ℕ))) (facts : List (Fact ℕ))
     (row : List (List ℕ)) where

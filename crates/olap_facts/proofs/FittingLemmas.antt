@@ -1,20 +1,14 @@
 -- What is read has 64 bits.
 use Rattle.std.proofs.Common.{◌≡◌, ℕ, ℤ, pos, List, [], ◌∷◌, Bool, true, false, cond, map, Option, None, Some, refl, subst, w64}
+use Rattle.std.proofs.lemmas.{List.Elements.{All-cons, All-nil}, Option.cond_some}
 use Rattle.std.specs.Prelude.{◌&&◌, All, FitsSigned, Ok, Err, drop, unwrap_or}
 use Rattle.std.specs.Str.Parse.{signed_digits_value, without_leading_sign}
-use Rattle.std.proofs.lemmas.List.Elements.{All-cons, All-nil}
-use Rattle.olap_base.specs.Instance.{Instance}
+use Rattle.olap_base.{proofs.ListLemmas.second_true, specs.Instance.Instance, specs.Views.Fact}
 use Rattle.olap_base.specs.declared.refusals.Fault.{Fault}
-use Rattle.olap_base.specs.Views.{Fact}
-use Rattle.olap_base.proofs.ListLemmas.{second_true}
-use Rattle.olap_facts.specs.FactText.{fact_fault_within, fact_read, header}
-use Rattle.olap_facts.specs.Laws.{ReadFactsFit}
+use Rattle.olap_facts.specs.{FactText.{fact_fault_within, fact_read, header}, Laws.ReadFactsFit}
 use Rattle.olap_facts.specs.declared.kinds.FactKind.{FactKind}
-use Rattle.olap_numerals.specs.Values.{is_numeral, value_of}
-use Rattle.olap_numerals.proofs.Spelling.{i64-decides, is_i64}
-use Rattle.olap_records.specs.Faults.{field, first_fault}
-use Rattle.olap_records.specs.Tables.{begins_with, or_read}
-use Rattle.std.proofs.lemmas.Option.{cond_some}
+use Rattle.olap_numerals.{proofs.Spelling.{i64-decides, is_i64}, specs.Values.{is_numeral, value_of}}
+use Rattle.olap_records.specs.{Faults.{field, first_fault}, Tables.{begins_with, or_read}}
 
 -- a value that is spelled has 64 bits
 pub value-fits : (text : List ℕ) (n : ℤ) → value_of text ≡ Some n → FitsSigned w64 n

@@ -1,9 +1,7 @@
 -- Whether the first record is the header.
 use Rattle.std.proofs.Common.{◌≡◌, ◌↔◌, ◌∷◌, ◌∙◌, Bool, ℕ, List, IsTrue, ap, refl, sym}
-use Rattle.std.specs.Bool.{one_answer}
-use Rattle.std.specs.Cmp.Lexicographic.{pointwise}
-use Rattle.std.specs.Str.{bytes_eq}
-use Rattle.std.proofs.lemmas.Slice.Eq.{bytes_eq-Decides, slice_eq-Decides}
+use Rattle.std.{proofs.lemmas.Slice.Eq.{bytes_eq-Decides, slice_eq-Decides}, specs.Bool.one_answer}
+use Rattle.std.specs.{Cmp.Lexicographic.pointwise, Str.bytes_eq}
 use Rattle.olap_facts.specs.FactText.{header}
 use Rattle.olap_records.specs.Tables.{begins_with}
 

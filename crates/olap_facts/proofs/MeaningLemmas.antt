@@ -1,20 +1,14 @@
 -- What is read of a text of facts is what it means.
 use Rattle.std.proofs.Common.{◌≡◌, ◌∙◌, ap, ℕ, ℤ, pos, Bool, true, false, cond, List, [], length, map, Option, Some, None, Result, Ok, refl}
-use Rattle.std.specs.Prelude.{◌==◌, Err, codes, is_none, nat_le, not, unwrap_or}
-use Rattle.std.specs.Option.{option_map}
-use Rattle.olap_base.specs.Following.{given, goes_on}
-use Rattle.olap_base.specs.Graph.{Graph}
-use Rattle.olap_base.specs.Instance.{Instance, category_of}
-use Rattle.olap_base.specs.Views.{Fact}
-use Rattle.olap_records.specs.Faults.{field, first_fault}
-use Rattle.olap_records.specs.Tables.{all_read, at_record, named, or_read}
+use Rattle.std.specs.{Option.option_map, Prelude.{◌==◌, Err, codes, is_none, nat_le, not, unwrap_or}}
+use Rattle.olap_base.specs.{Following.{given, goes_on}, Graph.Graph, Instance.{Instance, category_of}, Views.Fact}
 use Rattle.olap_records.proofs.TableLemmas.{all_read-named, at_record-named, or_value, table_meant-named}
+use Rattle.olap_records.specs.{Faults.{field, first_fault}, Tables.{all_read, at_record, named, or_read}}
 use Rattle.olap_instance.specs.Members.{member_named}
 use Rattle.olap_numerals.specs.Values.{value_of}
 use Rattle.olap_facts.specs.FactMeaning.{fact_meant, facts_meant, member_meant, value_meant}
 use Rattle.olap_facts.specs.FactText.{fact_fault_within, fact_read, facts_read_within, header, is_bottom}
-use Rattle.olap_facts.specs.Kinds.{name_of_kind}
-use Rattle.olap_facts.specs.declared.kinds.FactKind.{FactKind}
+use Rattle.olap_facts.specs.{Kinds.name_of_kind, declared.kinds.FactKind.FactKind}
 use Rattle.olap_facts.specs.declared.kinds.FactKind.TheVariants as kind
 
 -- a value that is spelled, or why there is none

@@ -1,21 +1,15 @@
 -- Records that were cut, and then looked up one after the other.
-use Rattle.std.proofs.Common.{◌≡◌, ◌<◌, ◌+◌, ◌∷◌, ◌++◌, ◌∙◌, true, ℕ, List, [], None, Some, length, map, take, drop, get_or, refl, sym, ap, subst, append_assoc, take-add, arith}
-use Rattle.std.specs.Prelude.{Err}
+use Rattle.std.proofs.Common.{◌≡◌, ◌==◌, ◌<◌, ◌+◌, ◌∷◌, ◌++◌, ◌∙◌, true, ℕ, List, [], None, Some, length, map, take, drop, get_or, refl, sym, ap, subst, append_assoc, take-add, arith}
 use Rattle.std.proofs.lemmas.List.{append-nil, get_or-map, length-map, map-append, take_all, take_more, take-append-drop}
+use Rattle.std.specs.Prelude.{Err}
 use Rattle.csv.specs.Records.{fields_of, partial_of}
-use Rattle.olap_base.specs.Graph.{Graph}
-use Rattle.olap_base.specs.Instance.{Instance}
-use Rattle.olap_base.specs.Views.{Fact}
-use Rattle.olap_records.specs.Faults.{field}
-use Rattle.olap_records.specs.Standing.{Standing, at_start, behind, standing}
-use Rattle.olap_facts.specs.FactText.{fact_fault_within, fact_read, facts_read_within}
-use Rattle.olap_facts.specs.Feeding.{Counted}
-use Rattle.olap_facts.specs.Pending.{ArePending, HasCut, told_by}
-use Rattle.olap_facts.specs.declared.kinds.FactKind.{FactKind}
-use Rattle.olap_facts.specs.declared.pending.Pending.{Pending}
-use Rattle.olap_facts.specs.declared.pending.Told.{Told}
-use Rattle.olap_facts.proofs.CountingLemmas.{counted-fact, fact-fault}
-use Rattle.olap_facts.proofs.FeedLemmas.{stands-on}
+use Rattle.olap_base.specs.{Graph.Graph, Instance.Instance, Views.Fact}
+use Rattle.olap_numerals.specs.Values.{value_of}
+use Rattle.olap_records.specs.{Faults.field, Standing.{Standing, at_start, behind, standing}}
+use Rattle.olap_facts.proofs.{CountingLemmas.{counted-fact, fact-fault}, FeedLemmas.stands-on}
+use Rattle.olap_facts.specs.{FactText.{fact_fault_within, fact_read, facts_read_within}, Feeding.Counted}
+use Rattle.olap_facts.specs.{Pending.{ArePending, HasCut, told_by}, declared.kinds.FactKind.FactKind}
+use Rattle.olap_facts.specs.declared.pending.{Pending.Pending, Told.Told}
 
 -- no record yet
 pub cut-none-yet : (piece : List ℕ) (s : Standing) (p : Pending) → fields_of p.ids ≡ [] → partial_of p.ids ≡ []
@@ -67,45 +61,61 @@ module _ (rows : List (List (List ℕ))) (p : Pending) (h : ArePending rows p) w
       ap length h.ids ∙ length-map rows (λ r. field r 0) ∙ sym (length-map rows told_by) ∙ sym (ap length h.told)
 
   -- as many values as records
-  pub as-many-rows : length p.told.items ≡ length rows
+  as-many-rows : length p.told.items ≡ length rows
   as-many-rows = ap length h.told ∙ length-map rows told_by
 
   -- the first field of the k-th record
-  pub id-at : (k : ℕ) → k < length p.told.items → get_or (fields_of p.ids) k [] ≡ field (get_or rows k []) 0
+  id-at : (k : ℕ) → k < length p.told.items → get_or (fields_of p.ids) k [] ≡ field (get_or rows k []) 0
   id-at k within = ap (λ (l : List (List ℕ)). get_or l k []) h.ids
       ∙ get_or-map (λ r. field r 0) rows k [] [] (let e = as-many-rows in omega (arith, e, within))
 
   -- what the k-th record tells of a value
-  pub told-at : (k : ℕ) (d : Told) → k < length p.told.items → get_or p.told.items k d ≡ told_by (get_or rows k [])
+  told-at : (k : ℕ) (d : Told) → k < length p.told.items → get_or p.told.items k d ≡ told_by (get_or rows k [])
   told-at k d within = ap (λ (l : List Told). get_or l k d) h.told
       ∙ get_or-map told_by rows k [] d (let e = as-many-rows in omega (arith, e, within))
 
 -- the record at k
 module _ (most : ℕ) (g : Graph) (i : Instance) (handed k : ℕ) (rows done : List (List (List ℕ))) (facts : List (Fact ℕ))
-    (h : Counted most g i (handed + k) true (done ++ take k rows) facts) (within : k < length rows) where
+    (h : Counted most g i (handed + k) true (done ++ take k rows) facts) (p : Pending) (are : ArePending rows p)
+    (within : k < length p.told.items) {id : List ℕ} (d : Told) {told : Told}
+    (id-is : id ≡ get_or (fields_of p.ids) k []) (told-is : told ≡ get_or p.told.items k d) where
   abbrev row : List (List ℕ)
   row = get_or rows k []
 
   so-far : (done ++ take k rows) ++ row ∷ [] ≡ done ++ take (k + 1) rows
-  so-far = append_assoc done (take k rows) (row ∷ []) ∙ ap (λ l. done ++ l) (sym (take_more rows k [] within))
+  so-far =
+      let inside : k < length rows = let n = as-many-rows rows p are in omega (arith, n, within) in
+      append_assoc done (take k rows) (row ∷ []) ∙ ap (λ l. done ++ l) (sym (take_more rows k [] inside))
+
+  -- a judgement of a record with this first field of which this was told
+  abbrev Says : (List (List (List ℕ)) → List (List ℕ) → Type 0) → Type 0
+  Says Q = (earlier : List (List (List ℕ))) (r : List (List ℕ)) → length earlier ≡ handed + k → id ≡ field r 0
+      → told.is_pair ≡ (length r == 2) → told.value ≡ value_of (field r 1) → Q earlier r
+
+  -- is one of the record at k
+  judged : (Q : List (List (List ℕ)) → List (List ℕ) → Type 0) → Says Q → (earlier : List (List (List ℕ)))
+      → length earlier ≡ handed + k → Q earlier row
+  judged Q says earlier n =
+      let same = told-is ∙ told-at rows p are k d within in
+      says earlier row n (id-is ∙ id-at rows p are k within) (ap (λ (t : Told). t.is_pair) same)
+      (ap (λ (t : Told). t.value) same)
 
   -- what was told of it is a fact
   pub settled-more : (f : Fact ℕ)
-      → ((earlier : List (List (List ℕ))) → length earlier ≡ handed + k
-      → (fact_fault_within most g i earlier row ≡ None) × (f ≡ fact_read i row))
+      → Says (λ earlier r. (fact_fault_within most g i earlier r ≡ None) × (f ≡ fact_read i r))
       → Counted most g i (handed + (k + 1)) true (done ++ take (k + 1) rows) (facts ++ f ∷ [])
   settled-more f says =
       let going = h.going refl in
-      let told = says going.rows going.count in
+      let told = judged (λ earlier r. (fact_fault_within most g i earlier r ≡ None) × (f ≡ fact_read i r)) says
+      going.rows going.count in
       let same : handed + k + 1 ≡ handed + (k + 1) = omega arith in
       subst (λ n. Counted most g i n true (done ++ take (k + 1) rows) (facts ++ f ∷ [])) same
       (subst (λ d. Counted most g i (handed + k + 1) true d (facts ++ f ∷ [])) so-far
       (counted-fact most g i (handed + k) (done ++ take k rows) facts row going f told.0 told.1))
 
   -- what was told of it is a fault
-  pub settled-fault : (kind : FactKind)
-      → ((earlier : List (List (List ℕ))) → length earlier ≡ handed + k
-      → fact_fault_within most g i earlier row ≡ Some kind) → (left : List (List (List ℕ)))
+  pub settled-fault : (kind : FactKind) → Says (λ earlier r. fact_fault_within most g i earlier r ≡ Some kind)
+      → (left : List (List (List ℕ)))
       → facts_read_within most g i ((done ++ rows) ++ left) ≡ Err (record { at = handed + k + 2; kind = kind })
   settled-fault kind says left =
       let going = h.going refl in
@@ -115,7 +125,8 @@ module _ (most : ℕ) (g : Graph) (i : Instance) (handed k : ℕ) (rows done : L
       ∙ ap (λ l. l ++ left) (append_assoc done (take (k + 1) rows) (drop (k + 1) rows)
       ∙ ap (λ l. done ++ l) (take-append-drop (k + 1) rows)) in
       ap (facts_read_within most g i) (sym whole)
-      ∙ fact-fault most g i (handed + k) (done ++ take k rows) facts row going kind (says going.rows going.count)
+      ∙ fact-fault most g i (handed + k) (done ++ take k rows) facts row going kind
+      (judged (λ earlier r. fact_fault_within most g i earlier r ≡ Some kind) says going.rows going.count)
       (drop (k + 1) rows ++ left)
 
 -- no record was looked up yet

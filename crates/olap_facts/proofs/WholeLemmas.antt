@@ -1,23 +1,13 @@
 -- A whole text that is read as one piece.
 use Rattle.std.proofs.Common.{◌≡◌, ◌<◌, ◌∷◌, ◌++◌, ◌∙◌, ℕ, List, [], Option, None, Some, length, map, refl, sym, ap, subst}
-use Rattle.std.specs.Prelude.{Result}
-use Rattle.std.proofs.lemmas.List.{append-nil, map-append}
-use Rattle.olap_base.specs.Graph.{Graph, IsBottom}
-use Rattle.olap_base.specs.Instance.{Instance, category_of}
-use Rattle.olap_base.specs.Limits.{most_listed_facts}
-use Rattle.olap_base.specs.Refusing.{IsRefusedBy}
-use Rattle.olap_base.specs.Views.{Fact, IsFactTable}
-use Rattle.olap_base.specs.declared.refusals.Fault.{Fault}
+use Rattle.std.{proofs.lemmas.List.append-nil, specs.Prelude.{IfSome, Result}}
+use Rattle.olap_base.specs.{Graph.{Graph, IsBottom}, Instance.{Instance, category_of}, Limits.most_listed_facts}
+use Rattle.olap_base.specs.{Refusing.IsRefusedBy, Views.{Fact, IsFactTable}, declared.refusals.Fault.Fault}
 use Rattle.olap_base.specs.declared.refusals.Refusal.{Refusal}
-use Rattle.olap_records.specs.Pieces.{RecordsAtEnd}
-use Rattle.olap_records.specs.Records.{records_of}
-use Rattle.olap_records.specs.Standing.{records_fed, unmarked}
-use Rattle.olap_facts.specs.FactText.{facts_read, facts_read_within}
-use Rattle.olap_facts.specs.Feeding.{Feeding, facts_if, fed_read}
-use Rattle.olap_facts.specs.Seen.{fact_of}
-use Rattle.olap_facts.specs.declared.kinds.FactKind.{FactKind}
+use Rattle.olap_records.specs.{Pieces.RecordsAtEnd, Records.records_of, Standing.{records_fed, unmarked}}
+use Rattle.olap_facts.{proofs.TableLemmas.{table-pushed, told-pushed}, specs.FactText.{facts_read, facts_read_within}}
+use Rattle.olap_facts.specs.{Feeding.{Feeding, facts_if, fed_read}, Seen.fact_of, declared.kinds.FactKind.FactKind}
 use Rattle.olap_facts.specs.declared.tables.Fact as told
-use Rattle.olap_facts.proofs.TableLemmas.{table-more}
 
 module _ (law : RecordsAtEnd) (g : Graph) (i : Instance) (feed : Feeding) (graph : feed.graph ≡ g)
     (instance : feed.instance ≡ i) (most : feed.most ≡ most_listed_facts) (text piece : List ℕ)
@@ -51,22 +41,16 @@ table-at g i r graph instance fs t =
 
 module _ (g : Graph) (i : Instance) (before : List told.Fact) (t : IsFactTable g i (map fact_of before)) where
   -- the last is listed
-  pub last-listed : (r : Feeding) → r.graph ≡ g → r.instance ≡ i → (f : told.Fact) (after : List told.Fact)
-      → after ≡ before ++ f ∷ [] → f.member.0 < length r.instance → IsBottom r.graph (category_of r.instance f.member.0)
-      → IsListed g i before (Some f) after
-  last-listed r graph instance f after e m b =
-      let member : f.member.0 < length i = subst (λ (j : Instance). f.member.0 < length j) instance m in
-      let bottom : IsBottom g (category_of i f.member.0) =
-      subst (λ (j : Instance). IsBottom g (category_of j f.member.0)) instance
-      (subst (λ (h : Graph). IsBottom h (category_of r.instance f.member.0)) graph b) in
-      let all : map fact_of after ≡ map fact_of before ++ fact_of f ∷ [] =
-      ap (map fact_of) e ∙ map-append fact_of before (f ∷ []) in
-      record {
-        all = all;
-        table = subst (IsFactTable g i) (sym all) (table-more g i (map fact_of before) (fact_of f) t member bottom);
-      }
+  pub last-listed : (r : Feeding) → r.graph ≡ g → r.instance ≡ i → {o : Option told.Fact} {f : told.Fact} → o ≡ Some f
+      → {after : List told.Fact} → after ≡ before ++ f ∷ [] → IfSome o (λ q. q.member.0 < length r.instance)
+      → IfSome o (λ q. IsBottom r.graph (category_of r.instance q.member.0)) → IsListed g i before o after
+  last-listed r graph instance {o} {f} is e m b =
+      let member : f.member.0 < length i = rw (← instance) (rw is at m) in
+      let bottom : IsBottom g (category_of i f.member.0) = rw (← graph, ← instance) (rw is at b) in
+      rw is (record { all = sym (told-pushed before f e []); table = table-pushed before f e g i t member bottom })
 
   -- there is none
-  pub none-listed : (last : Option told.Fact) → ((f : told.Fact) → last ≡ Some f → ⊥) → IsListed g i before last before
-  none-listed None none = record { all = sym (append-nil (map fact_of before)); table = t }
-  none-listed (Some f) none = absurd (none f refl)
+  pub none-listed : (last : Option told.Fact) → ((f : told.Fact) → last ≡ Some f → ⊥) → {after : List told.Fact}
+      → after ≡ before → IsListed g i before last after
+  none-listed None none e = rw e (record { all = sym (append-nil (map fact_of before)); table = t })
+  none-listed (Some f) none e = absurd (none f refl)

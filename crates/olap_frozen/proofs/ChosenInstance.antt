@@ -1,28 +1,24 @@
 -- The instance that a choice of edges and names stands for, read on the chosen edges: its members are the present
 -- categories, `<` is the chosen edges, `<<` is a walk of them, and each law has its reading.
 use Rattle.std.proofs.Common.{◌≡◌, ℕ, suc, ◌-◌, ◌<◌, ◌≤◌, List, [], ◌∷◌, length, map, get_or, Bool, true, false, ◌||◌, refl, ap, sym, subst, ◌∙◌, ◌↔◌, ◌⊎◌, inl, inr, arith}
-use Rattle.std.specs.Prelude.{Contains, ◌==◌, AllPairs, ◌≢◌, filter, codes, IsSome, IsTrue}
-use Rattle.std.specs.List.{range_with_len, list_any}
-use Rattle.std.proofs.lemmas.List.{get_or-map, length-map}
+use Rattle.std.proofs.lemmas.{Bool.{or_left, or_right, or_cases, eqb-true, eq-eqb}, List.{get_or-map, length-map}}
 use Rattle.std.proofs.lemmas.List.Elements.{Contains-get_or, Contains-append_left, Contains-append_right}
-use Rattle.std.proofs.lemmas.Bool.{or_left, or_right, or_cases, eqb-true, eq-eqb}
-use native.Mathlib.Decide.{ℕ_discrete}
-use Rattle.olap_base.specs.Steps.{Steps, Steps.here, Steps.step, Climb, Climb.climb, Steps-from_reaches, reaches_from_Steps, Climb-from_leads, leads_from_Climb}
+use Rattle.std.specs.List.{range_with_len, list_any}
+use Rattle.std.specs.Prelude.{Contains, ◌==◌, AllPairs, ◌≢◌, filter, codes, IsSome, IsTrue}
+use Rattle.olap_base.proofs.AboveLemmas.{place_in_injective}
+use Rattle.olap_base.proofs.ListLemmas.{contains_head, Contains-map, Contains-from_map, Contains-filter, Contains-from_filter, Contains-from_range_at, Contains-range_at, place_in_is, Distinct, Distinct-range, Distinct-filter, Distinct-map, Distinct-places, AllPairs-from_Distinct, Distinct-from_AllPairs, list_any_is}
+use Rattle.olap_base.specs.{Above.{place_in, HasOneMemberEach}, Deciding.below_is_member}
 use Rattle.olap_base.specs.Graph.{Graph, Edge, IsCategory, HasEdge, is_number}
 use Rattle.olap_base.specs.Instance.{Instance, nobody, IsInstance, IsLawful, IsBelow, IsMember, IsMemberOf, Reaches, member_at, category_of, name_of, parents_of}
-use Rattle.olap_base.specs.Deciding.{below_is_member}
-use Rattle.olap_base.specs.Above.{place_in, HasOneMemberEach}
-use Rattle.olap_base.proofs.ListLemmas.{contains_head, Contains-map, Contains-from_map, Contains-filter, Contains-from_filter, Contains-from_range_at, Contains-range_at, place_in_is, Distinct, Distinct-range, Distinct-filter, Distinct-map, Distinct-places, AllPairs-from_Distinct, Distinct-from_AllPairs, list_any_is}
-use Rattle.olap_base.proofs.AboveLemmas.{place_in_injective}
+use Rattle.olap_base.specs.Steps.{Steps, Steps.here, Steps.step, Climb, Climb.climb, Steps-from_reaches, reaches_from_Steps, Climb-from_leads, leads_from_Climb}
+use Rattle.olap_ast.{proofs.Shape.{Distinct-push, same_edge, same_id, last_in}, specs.Constants.IsNameOf}
 use Rattle.olap_ast.specs.Formula.{Formula, Holds}
-use Rattle.olap_numerals.specs.Numerals.{number_of}
-use Rattle.olap_numerals.proofs.NumeralLemmas.{numbers_read_back}
-use Rattle.olap_ast.specs.Schema.{Schema}
-use Rattle.olap_ast.specs.Constants.{IsNameOf}
 use Rattle.olap_ast.specs.Frozen.{is_present, categories_in_order, present_categories, id_of, member_of, instance_of, IsFrozenInstance}
-use Rattle.olap_ast.proofs.Shape.{Distinct-push, same_edge, same_id, last_in}
+use Rattle.olap_ast.specs.Schema.{Schema}
+use Rattle.olap_numerals.{proofs.NumeralLemmas.numbers_read_back, specs.Numerals.number_of}
 use Rattle.olap_eval.specs.Shapes.{IsShape}
 use Rattle.olap_frozen.specs.Chosen.{AreNames, FrozenExactlyIfSound, IsChoice, IsMet, Joins, IsSound}
+use native.Mathlib.Decide.{ℕ_discrete}
 
 -- a declared category has a number from 1 on
 above_zero : (c : ℕ) → c ≢ 0 → 1 ≤ c

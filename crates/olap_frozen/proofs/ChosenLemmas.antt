@@ -1,15 +1,11 @@
 -- Edges chosen by bits: by place, and as a list.
-use Rattle.std.proofs.Common.{◌≡◌, ℕ, zero, suc, ◌<◌, List, [], ◌∷◌, length, get_or, Bool, true, false, cond, Some, None, refl, ap, sym, subst, ◌∙◌, ◌↔◌, inl, inr, arith}
+use Rattle.std.proofs.Common.{◌≡◌, ℕ, zero, suc, ◌<◌, List, [], ◌∷◌, length, get_or, Bool, true, false, cond, Some, None, refl, ap, sym, ◌∙◌, ◌↔◌, inl, inr, arith}
 use Rattle.std.specs.Prelude.{Contains}
-use Rattle.olap_base.specs.Deciding.{contains_cons, contains_cases}
-use Rattle.olap_base.specs.Graph.{Graph, Edge, IsCategory, IsHierarchy}
 use Rattle.olap_base.proofs.ListLemmas.{Contains-nil, contains_head, Distinct-from_AllPairs, AllPairs-from_Distinct, Distinct-places}
-use Rattle.olap_ast.specs.Frozen.{chosen}
-use Rattle.olap_graph.specs.Lookups.{edge_between, joins}
-use Rattle.olap_graph.proofs.PlaceLemmas.{found, missing, joins-Decides}
-use Rattle.olap_frozen.specs.Chosen.{IsChoice, Joins}
-use Rattle.olap_frozen.specs.Rows.{JoinsBefore}
-use Rattle.olap_ast.proofs.ChosenLemmas.{chosen_in, chosen_distinct}
+use Rattle.olap_base.specs.{Deciding.{contains_cons, contains_cases}, Graph.{Graph, Edge, IsCategory, IsHierarchy}}
+use Rattle.olap_ast.{proofs.ChosenLemmas.{chosen_in, chosen_distinct}, specs.Frozen.chosen}
+use Rattle.olap_graph.{proofs.PlaceLemmas.{found, missing, joins-Decides}, specs.Lookups.{edge_between, joins}}
+use Rattle.olap_frozen.specs.{Chosen.{IsChoice, Joins}, Rows.JoinsBefore}
 
 -- a chosen edge has a place whose bit is set
 pub chosen_place : (es : List Edge) (bits : List Bool) (e z : Edge) → Contains (chosen es bits) e
@@ -36,9 +32,7 @@ pub place_chosen : (es : List Edge) (bits : List Bool) (e z : Edge) (i : ℕ) �
     → get_or bits i false ≡ true → get_or es i z ≡ e → Contains (chosen es bits) e
 place_chosen [] bits e z i h b q = absurd (omega arith)
 place_chosen (x ∷ es) [] e z i h b q = absurd (cc)
-place_chosen (x ∷ es) (a ∷ bits) e z zero h b q =
-    subst (λ t. Contains (cond t (x ∷ chosen es bits) (chosen es bits)) e) (sym b)
-    (subst (λ w. Contains (x ∷ chosen es bits) w) q (contains_head x (chosen es bits)))
+place_chosen (x ∷ es) (a ∷ bits) e z zero h b q = grind (arith, contains_head)
 place_chosen (x ∷ es) (a ∷ bits) e z (suc i) h b q = go a (place_chosen es bits e z i (omega arith) b q)
   where
     go : (t : Bool) → Contains (chosen es bits) e → Contains (cond t (x ∷ chosen es bits) (chosen es bits)) e

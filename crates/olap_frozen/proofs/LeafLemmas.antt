@@ -1,34 +1,25 @@
 -- What a leaf answers.
 use Rattle.std.proofs.Common.{◌≡◌, ℕ, ℤ, zero, suc, ◌+◌, ◌≤◌, List, [], ◌∷◌, length, get_or, Bool, true, false, Some, None, refl, ap, sym, subst, ◌∙◌, ◌↔◌, inl, inr, arith}
-use Rattle.std.specs.Prelude.{Contains, IsTrue, nat_lt, slice_index, ◌≢◌}
-use Rattle.std.specs.FinSet as set
+use Rattle.std.proofs.lemmas.{Bool.false_from_ne_true, Bool.Decides.nat_tests, List.Elements.Contains-get_or}
+use Rattle.std.{proofs.lemmas.Slice.Eq.bytes_eq-Decides, specs.Prelude.{Contains, IsTrue, nat_lt, slice_index, ◌≢◌}}
 use Rattle.std.specs.Str.{bytes_eq}
-use Rattle.std.proofs.lemmas.Bool.{false_from_ne_true}
-use Rattle.std.proofs.lemmas.Bool.Decides.{nat_tests}
-use Rattle.std.proofs.lemmas.Slice.Eq.{bytes_eq-Decides}
-use Rattle.std.proofs.lemmas.List.Elements.{Contains-get_or}
-use Rattle.olap_base.specs.Graph.{Graph, Edge, IsCategory, IsHierarchy, category_count, is_number}
-use Rattle.olap_base.specs.Steps.{Steps-append}
-use Rattle.olap_base.specs.Deciding.{contains_cons}
-use Rattle.olap_base.proofs.ListLemmas.{contains_head}
-use Rattle.olap_ast.specs.Formula.{Formula, IsNumbered}
-use Rattle.olap_numerals.specs.Comparing.{Op}
-use Rattle.olap_numerals.proofs.NameLemmas.{name_is_one}
-use Rattle.olap_ast.specs.Schema.{Constraint, Schema}
-use Rattle.olap_ast.specs.Constants.{IsNameOf, numbers}
+use Rattle.olap_base.{proofs.ListLemmas.contains_head, specs.Deciding.contains_cons}
+use Rattle.olap_base.specs.{Graph.{Graph, Edge, IsCategory, IsHierarchy, category_count, is_number}, Steps.Steps-append}
+use Rattle.olap_ast.specs.{Constants.{IsNameOf, numbers}, Formula.{Formula, IsNumbered}}
 use Rattle.olap_ast.specs.Frozen.{AreCandidates, AreNamesOf, Candidates, IsFrozen, chosen, is_present, name_in, text_of_index}
+use Rattle.olap_ast.specs.Schema.{Constraint, Schema}
+use Rattle.olap_numerals.{proofs.NameLemmas.name_is_one, specs.Comparing.Op}
 use Rattle.olap_bits.specs.declared.sets.CatSet.{CatSet}
 use Rattle.olap_eval.specs.Shapes.{HasEdgeThere, HasNameThere, HasNumberThere, IsShape, ReachesThere}
-use Rattle.olap_graph.specs.Lookups.{edge_between}
+use Rattle.olap_graph.specs.{Lookups.edge_between, Rows.row}
 use Rattle.olap_names.specs.Names.{Named, candidates_of, name_at, with_graph}
+use Rattle.olap_frozen.proofs.{ChosenLemmas.{bit_joins, choice_of, no_edge_joins}, RowLemmas.has_steps}
+use Rattle.olap_frozen.proofs.SoundLemmas.{present_is, present_of_steps}
 use Rattle.olap_frozen.specs.Chosen.{AreNames, IsChoice, IsMet, IsSound}
 use Rattle.olap_frozen.specs.Leaves.{AreAbsentZero, IsLeaf, IsSized, chosen_of, leaf_instance, leaf_place, leaf_present, of_declared}
-use Rattle.olap_graph.specs.Rows.{row}
 use Rattle.olap_frozen.specs.Rows.{AreRows}
+use Rattle.std.specs.FinSet as set
 use Rattle.olap_frozen.proofs.ChosenInstance as made
-use Rattle.olap_frozen.proofs.ChosenLemmas.{bit_joins, choice_of, no_edge_joins}
-use Rattle.olap_frozen.proofs.RowLemmas.{has_steps}
-use Rattle.olap_frozen.proofs.SoundLemmas.{present_is, present_of_steps}
 
 -- what isn't below isn't by the test
 pub lt_false : (c n : ℕ) → n ≤ c → nat_lt c n ≡ false
@@ -36,10 +27,7 @@ lt_false c n h = grind (arith, nat_tests)
 
 -- the test of two texts, whatever they are called
 pub same_texts : (b : Bool) (x y u v : List ℕ) → b ≡ bytes_eq x y → x ≡ u → y ≡ v → (b ≡ true) ↔ (u ≡ v)
-same_texts b x y u v e p q = (
-  λ t. sym p ∙ (bytes_eq-Decides x y).0 (sym e ∙ t) ∙ q,
-  λ t. e ∙ (bytes_eq-Decides x y).1 (p ∙ t ∙ sym q),
-)
+same_texts b x y u v e p q = grind (arith, bytes_eq-Decides)
 
 -- ---- names
 

@@ -1,18 +1,13 @@
 -- The edges out of a category, of which some were looked at for one that goes past another.
 use Rattle.std.proofs.Common.{◌≡◌, ℕ, ◌+◌, ◌<◌, ◌≤◌, List, length, map, get_or, Bool, true, false, ap, sym, subst, ◌∙◌, inl, inr, arith}
-use Rattle.std.specs.Prelude.{◌≢◌, ◌==◌, Contains}
-use Rattle.std.specs.List.{range_with_len}
-use Rattle.std.proofs.lemmas.List.{get_or_default}
-use Rattle.std.proofs.lemmas.List.Elements.{Contains-get_or}
-use Rattle.olap_base.specs.Graph.{Edge, Graph}
-use Rattle.olap_base.specs.declared.ids.EdgeId.{EdgeId}
-use Rattle.olap_base.proofs.ListLemmas.{Contains-filter, Contains-from_filter, Contains-from_map, Contains-from_range, Contains-map, Contains-range}
-use Rattle.olap_bits.specs.declared.sets.CatSet.{CatSet}
-use Rattle.olap_graph.specs.Lookups.{edge_at, edges_from}
-use Rattle.olap_graph.specs.Rows.{Has}
-use Rattle.olap_frozen.specs.Rows.{IsPassed}
+use Rattle.std.proofs.lemmas.{Bool.{eqb-true, eq-eqb}, List.get_or_default, List.Elements.Contains-get_or}
+use Rattle.std.specs.{List.range_with_len, Prelude.{◌≢◌, ◌==◌, Contains}}
 use Rattle.olap_base.proofs.GeneralLemmas.{below_or_same}
-use Rattle.std.proofs.lemmas.Bool.{eqb-true, eq-eqb}
+use Rattle.olap_base.proofs.ListLemmas.{Contains-filter, Contains-from_filter, Contains-from_map, Contains-from_range, Contains-map, Contains-range}
+use Rattle.olap_base.specs.{Graph.{Edge, Graph}, declared.ids.EdgeId.EdgeId}
+use Rattle.olap_bits.specs.declared.sets.CatSet.{CatSet}
+use Rattle.olap_graph.specs.{Lookups.{edge_at, edges_from}, Rows.Has}
+use Rattle.olap_frozen.specs.Rows.{IsPassed}
 
 -- what stands past the end of a list of edges
 abbrev pub nowhere : EdgeId

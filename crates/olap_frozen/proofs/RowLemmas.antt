@@ -1,22 +1,16 @@
 -- A set for each category, edge by edge, and what the sets hold in the end.
 use Rattle.std.proofs.Common.{◌≡◌, ℕ, ◌+◌, ◌<◌, List, length, get_or, set, Bool, true, false, ap, sym, subst, ◌∙◌, ◌↔◌, ◌⊎◌, inl, inr, arith}
 use Rattle.std.specs.Cmp.{nat_cmp_total}
-use Rattle.std.specs.FinSet.{contains, contains-empty, empty, insert, is_subset, is_subset-contains}
-use Rattle.std.specs.Ordering.{nat_cmp}
+use Rattle.std.specs.{FinSet.{contains, contains-empty, empty, insert, is_subset, is_subset-contains}, Ordering.nat_cmp}
+use Rattle.olap_base.{proofs.ListLemmas.same_truth, specs.Graph.{Graph, Edge, IsHierarchy, category_count}}
 use Rattle.olap_base.specs.Reaching.{category_reaches, category_reaches_is}
-use Rattle.olap_base.specs.Graph.{Graph, Edge, IsHierarchy, category_count}
 use Rattle.olap_base.specs.Steps.{Steps, Steps-from_reaches, reaches_from_Steps}
-use Rattle.olap_ast.specs.Frozen.{chosen}
-use Rattle.olap_bits.specs.Sets.{members}
-use Rattle.olap_bits.specs.declared.sets.CatSet.{CatSet}
-use Rattle.olap_graph.specs.Lookups.{edge_at}
-use Rattle.olap_graph.specs.Rows.{AreOwn, Has, IsClosure, Passes, row}
+use Rattle.olap_ast.{proofs.ChosenLemmas.chosen_in, specs.Frozen.chosen}
+use Rattle.olap_bits.specs.{Sets.members, declared.sets.CatSet.CatSet}
 use Rattle.olap_graph.proofs.RowLemmas.{closure_joined, has_insert, joined_more, joined_same, newest, same_edge}
-use Rattle.olap_frozen.specs.Chosen.{Joins}
+use Rattle.olap_graph.specs.{Lookups.edge_at, Rows.{AreOwn, Has, IsClosure, Passes, row}}
+use Rattle.olap_frozen.{proofs.ChosenLemmas.joins_before, specs.Chosen.Joins}
 use Rattle.olap_frozen.specs.Rows.{AreDrawn, AreRows, JoinsBefore, with_edges}
-use Rattle.olap_frozen.proofs.ChosenLemmas.{joins_before}
-use Rattle.olap_ast.proofs.ChosenLemmas.{chosen_in}
-use Rattle.olap_base.proofs.ListLemmas.{same_truth}
 
 -- ---- one edge more
 
@@ -27,10 +21,7 @@ joins_lift g bits k a b t = (t.0, omega (arith, t.1), t.2, t.3)
 -- what one edge more joins was joined before, or is joined by this edge
 joins_cases : (g : Graph) (bits : List Bool) (k a b : ℕ) → JoinsBefore g bits (k + 1) a b
     → JoinsBefore g bits k a b ⊎ ((get_or bits k false ≡ true) × (edge_at g k ≡ record { child = a; parent = b }))
-joins_cases g bits k a b t = elim (newest t.0 k t.1) [
-  | inl l ↦ inl (t.0, l.1, t.2, t.3)
-  | inr e ↦ inr (ap (λ j. get_or bits j false) (sym e) ∙ t.2, ap (edge_at g) (sym e) ∙ t.3)
-]
+joins_cases g bits k a b t = grind (arith, newest)
 
 -- without edges each set has its own category alone
 pub draw_none : {W : ℕ} (g : Graph) (bits : List Bool) (rows : List (CatSet W)) → AreOwn rows → AreDrawn g bits 0 rows
@@ -42,14 +33,7 @@ draw_none g bits rows own a b h = (
 -- an edge that isn't chosen
 pub draw_skip : {W : ℕ} (g : Graph) (bits : List Bool) (k : ℕ) (rows : List (CatSet W)) → get_or bits k false ≡ false
     → AreDrawn g bits k rows → AreDrawn g bits (k + 1) rows
-draw_skip g bits k rows f d =
-    joined_same (JoinsBefore g bits k) (JoinsBefore g bits (k + 1)) rows (λ a b. (
-      λ t. elim (joins_cases g bits k a b t) [
-        | inl j ↦ j
-        | inr p ↦ absurd (let z : false ≡ true = sym f ∙ p.0 in cc)
-      ],
-      λ j. joins_lift g bits k a b j,
-    )) d
+draw_skip g bits k rows f d = grind (arith, joined_same, joins_cases, joins_lift)
 
 -- a chosen edge
 pub draw_more : {W : ℕ} (g : Graph) (bits : List Bool) (k c d : ℕ) (rows : List (CatSet W)) (x : CatSet W)

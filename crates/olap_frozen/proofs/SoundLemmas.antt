@@ -1,29 +1,21 @@
 -- The tests of a choice of edges are the laws.
-use Rattle.std.proofs.Common.{◌≡◌, ℕ, ◌+◌, ◌<◌, List, length, get_or, Bool, true, false, refl, sym, subst, ◌∙◌, ◌⊎◌, inl, inr, arith}
-use Rattle.std.specs.Prelude.{◌≢◌, codes}
-use Rattle.std.specs.FinSet as set
-use Rattle.olap_base.specs.Graph.{Graph, Edge, IsCategory, IsHierarchy, category_count}
-use Rattle.olap_base.specs.Instance.{IsBelow}
-use Rattle.olap_base.specs.Steps.{Steps, Steps.here, Steps.step, Climb, Climb.climb, Steps-append, Steps-cases, Climb-steps, reaches_from_Steps}
+use Rattle.std.proofs.Common.{rules, ◌≡◌, ℕ, ◌+◌, ◌<◌, List, length, get_or, Bool, true, false, refl, sym, subst, ◌⊎◌, inl, inr, arith}
+use Rattle.std.{proofs.lemmas.Grind.common_steps, specs.Prelude.{◌≢◌, codes}}
 use Rattle.olap_base.proofs.AboveLemmas.{reaches_all}
-use Rattle.olap_ast.specs.Frozen.{chosen, is_present}
-use Rattle.olap_ast.proofs.Shape.{last_step}
+use Rattle.olap_base.specs.{Graph.{Graph, Edge, IsCategory, IsHierarchy, category_count}, Instance.IsBelow}
+use Rattle.olap_base.specs.Steps.{Steps, Steps.here, Steps.step, Climb, Climb.climb, Steps-append, Steps-cases, Climb-steps, reaches_from_Steps}
+use Rattle.olap_ast.{proofs.Shape.last_step, specs.Frozen.{chosen, is_present}}
 use Rattle.olap_bits.specs.declared.sets.CatSet.{CatSet}
-use Rattle.olap_graph.specs.Lookups.{edge_at}
-use Rattle.olap_frozen.specs.Chosen.{IsChoice, IsSound, Joins}
-use Rattle.olap_graph.specs.Rows.{Has, row}
-use Rattle.olap_frozen.specs.Rows.{AreRows, Fits, ReachAll}
+use Rattle.olap_graph.specs.{Lookups.edge_at, Rows.row}
+use Rattle.olap_frozen.proofs.{ChosenLemmas.{choice_of, joins_before}, RowLemmas.has_steps}
+use Rattle.olap_frozen.specs.{Chosen.{IsChoice, IsSound, Joins}, Rows.{AreRows, Fits, ReachAll}}
+use Rattle.std.specs.FinSet as set
 use Rattle.olap_frozen.proofs.ChosenInstance as made
-use Rattle.olap_frozen.proofs.ChosenLemmas.{choice_of, joins_before}
-use Rattle.olap_frozen.proofs.RowLemmas.{has_steps}
 
 -- what the root reaches is present
 pub present_of_steps : (g : Graph) (r : ℕ) (es : List Edge) → IsChoice g r es → (c : ℕ) → Steps (Joins es) r c
     → is_present r es c ≡ true
-present_of_steps g r es ch c s = elim (last_step s) [
-  | inl e ↦ subst (λ k. is_present r es k ≡ true) e (made.root_present g r es ch)
-  | inr t ↦ made.parent_present g r es ch t.0 c t.2
-]
+present_of_steps g r es ch c s = grind (arith, common_steps, last_step)
 
 -- ---- the tests, as walks
 
@@ -37,16 +29,7 @@ pub record AreTests (r n : ℕ) (es : List Edge) : Type 0 where
 -- one category more
 pub tops_more : {W : ℕ} (rows : List (CatSet W)) (r c : ℕ) (a : Bool) → a ≡ set.contains (row rows r) c
     → (a ≡ false) ⊎ (set.contains (row rows c) 0 ≡ true) → ReachAll rows r c → ReachAll rows r (c + 1)
-tops_more rows r c a e o t d h m = elim (newest d c h) [
-  | inl l ↦ t d l m
-  | inr q ↦ subst (λ z. Has rows z 0) (sym q) (elim o [
-    | inl f ↦ absurd (let u : false ≡ true = sym f ∙ e ∙ subst (λ z. Has rows r z) q m in cc)
-    | inr y ↦ y
-  ])
-]
-  where
-    newest : (d c : ℕ) → d < c + 1 → (d < c) ⊎ (d ≡ c)
-    newest d c h = grind arith
+tops_more rows r c a e o t d h m = search rules
 
 -- a choice that passes the tests meets the laws
 pub sound_of_tests : (g : Graph) (r : ℕ) (es : List Edge) → IsChoice g r es → AreTests r (category_count g) es

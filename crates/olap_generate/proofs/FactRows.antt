@@ -1,45 +1,24 @@
 -- The records of the made facts' text: they have no fault and stand for the facts.
 use Rattle.std.proofs.Common.{◌≡◌, ◌≢◌, ◌+◌, ◌-◌, ◌<◌, ◌≤◌, ◌^◌, ◌==◌, ◌∙◌, Bool, true, false, cond, ℕ, ℤ, pos, negsuc, suc, List, [], length, map, take, drop, get_or, slice_index, ltb, Some, None, Ok, refl, sym, ap, subst, arith}
-use Rattle.std.specs.Prelude.{All, nat_le}
-use Rattle.std.specs.Cmp.Lexicographic.{pointwise}
-use Rattle.std.specs.Fmt.{signed_decimal}
-use Rattle.std.specs.Int.Signed.{mag}
-use Rattle.std.specs.List.{range_with_len}
-use Rattle.std.specs.Str.{bytes_eq}
-use Rattle.std.proofs.lemmas.List.{get_or-map, length-map, length-take-le}
-use Rattle.std.proofs.lemmas.List.Elements.{All-map}
+use Rattle.std.proofs.lemmas.List.{get_or-map, length-map, length-take-le, Elements.All-map}
 use Rattle.std.proofs.lemmas.List.FromFn.{get_or-map-range_with_len, length-map-range_with_len}
 use Rattle.std.proofs.lemmas.Option.{get_or_from_slice_get, slice_get_within}
-use Rattle.std.proofs.lemmas.Slice.Eq.{bytes_eq-Decides, slice_eq-Decides}
-use Rattle.olap_base.proofs.ListLemmas.{Contains-from_map, Contains-from_range_at}
-use Rattle.olap_base.specs.Graph.{IsBottom}
+use Rattle.std.{proofs.lemmas.Slice.Eq.{bytes_eq-Decides, slice_eq-Decides}, specs.Cmp.Lexicographic.pointwise}
+use Rattle.std.specs.{Fmt.signed_decimal, Int.Signed.mag, List.range_with_len, Prelude.{All, nat_le}, Str.bytes_eq}
+use Rattle.olap_base.{proofs.ListLemmas.{Contains-from_map, Contains-from_range_at}, specs.Graph.IsBottom}
 use Rattle.olap_base.specs.Instance.{Instance, IsMember, Member, category_of, nobody}
-use Rattle.olap_base.specs.Limits.{most_facts, most_generated}
-use Rattle.olap_base.specs.Naming.{place_of}
-use Rattle.olap_base.specs.Views.{Fact, IsFactTable}
-use Rattle.olap_records.specs.Faults.{field, first_fault}
-use Rattle.olap_numerals.specs.Values.{value_of}
-use Rattle.olap_numerals.proofs.Spelling.{i64-decides, is_i64}
-use Rattle.olap_records.specs.Records.{records_of}
-use Rattle.olap_records.specs.Texts.{text_of_rows}
-use Rattle.olap_records.proofs.FaultLemmas.{none-iff}
-use Rattle.olap_records.proofs.Printed.{printed}
-use Rattle.olap_records.proofs.ReadingBack.{text-back}
-use Rattle.olap_instance.proofs.Passing.{all-full}
-use Rattle.olap_instance.proofs.PlaceFacts.{AreDistinct, place-of-id}
+use Rattle.olap_base.specs.{Limits.{most_facts, most_generated}, Naming.place_of, Views.{Fact, IsFactTable}}
+use Rattle.olap_records.proofs.{FaultLemmas.none-iff, Printed.printed, ReadingBack.text-back}
+use Rattle.olap_records.specs.{Faults.{field, first_fault}, Records.records_of, Tables.begins_with, Texts.text_of_rows}
+use Rattle.olap_numerals.{proofs.Spelling.{i64-decides, is_i64}, specs.Values.value_of}
+use Rattle.olap_instance.proofs.{Passing.all-full, PlaceFacts.{AreDistinct, place-of-id}}
 use Rattle.olap_instance.specs.Members.{member_named}
+use Rattle.olap_facts.{proofs.BottomLemmas.bottom-is, proofs.MeaningLemmas.meant-facts, specs.FactMeaning.facts_meant}
 use Rattle.olap_facts.specs.FactText.{fact_fault_within, fact_read, facts_read_within, header, is_bottom}
-use Rattle.olap_facts.specs.FactMeaning.{facts_meant}
-use Rattle.olap_facts.proofs.BottomLemmas.{bottom-is}
-use Rattle.olap_facts.proofs.MeaningLemmas.{meant-facts}
-use Rattle.olap_generate.specs.Location as location
+use Rattle.olap_generate.proofs.{Location.location_graph, Made.{fact_of, made, made_facts}}
+use Rattle.olap_generate.proofs.{Places.{at_store, length_made}, Rows.map-numbers, Sound.sound_instance}
 use Rattle.olap_generate.specs.Members.{fact_row, fact_rows, step, value}
-use Rattle.olap_generate.proofs.Location.{location_graph}
-use Rattle.olap_generate.proofs.Made.{fact_of, made, made_facts}
-use Rattle.olap_generate.proofs.Places.{at_store, length_made}
-use Rattle.olap_generate.proofs.Rows.{map-numbers}
-use Rattle.olap_generate.proofs.Sound.{sound_instance}
-use Rattle.olap_records.specs.Tables.{begins_with}
+use Rattle.olap_generate.specs.Location as location
 
 -- ---- the values
 

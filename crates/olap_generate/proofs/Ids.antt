@@ -1,19 +1,13 @@
 -- The ids of the made members: each is a short ASCII text, and tells the member's place.
 --     told_by_number   a letter and a number tell a place of the letter's group
 use Rattle.std.proofs.Common.{◌≡◌, ◌≢◌, ◌+◌, ◌-◌, ◌<◌, ◌^◌, ◌==◌, ◌∷◌, true, false, ℕ, zero, suc, List, [], length, decimal, refl, arith, ◌≤◌, ne_eqb, lt-ltb, ltb-true}
-use Rattle.std.specs.Prelude.{if◌then◌else◌, nat_lt, slice_index}
-use Rattle.std.specs.List.{list_all, list_any}
-use Rattle.std.specs.Int.{IsInRange}
-use Rattle.std.specs.Str.{IsAscii}
-use Rattle.std.specs.Str.Parse.{AllDigits, digits_value}
-use Rattle.std.proofs.lemmas.Bool.{and_parts}
-use Rattle.std.proofs.lemmas.Fmt.{IsAscii-decimal, decimal_is_IsNumeral, length-decimal-le}
-use Rattle.std.proofs.lemmas.Str.{IsUtf8-from_ascii, is_utf8-from_IsUtf8}
-use Rattle.std.proofs.lemmas.Str.Parse.{digit_at}
+use Rattle.std.proofs.lemmas.{Bool.and_parts, Fmt.{IsAscii-decimal, decimal_is_IsNumeral, length-decimal-le}}
+use Rattle.std.proofs.lemmas.Str.{IsUtf8-from_ascii, is_utf8-from_IsUtf8, Ascii.IsAscii-cons, Parse.digit_at}
+use Rattle.std.specs.{Int.IsInRange, List.{list_all, list_any}, Prelude.{if◌then◌else◌, nat_lt, slice_index}}
+use Rattle.std.specs.Str.{IsAscii, Parse.{AllDigits, digits_value}}
 use Rattle.olap_base.specs.Limits.{most_text_bytes}
 use Rattle.olap_instance.specs.Members.{IsMemberId}
 use Rattle.olap_generate.proofs.Made.{canada, canadian_regions, cities, mexican_regions, mexican_states, mexico, provinces, states, top, usa}
-use Rattle.std.proofs.lemmas.Str.Ascii.{IsAscii-cons}
 
 -- ---- the place that an id tells
 

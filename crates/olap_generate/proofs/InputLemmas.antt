@@ -2,15 +2,10 @@
 use Rattle.std.proofs.Common.{◌≤◌, ℕ}
 use Rattle.olap_base.specs.Limits.{most_generated}
 use Rattle.olap_instance.proofs.MeaningLemmas.{meant-instance}
-use Rattle.olap_generate.specs.Inputs.{IsMade}
-use Rattle.olap_generate.specs.Members.{member_rows}
-use Rattle.olap_generate.proofs.FactRows.{fact_rows_stand}
-use Rattle.olap_generate.proofs.Legal.{made_is_legal}
-use Rattle.olap_generate.proofs.Location.{location_graph, location_schema}
-use Rattle.olap_generate.proofs.LocationGraph.{location_is_hierarchy}
-use Rattle.olap_generate.proofs.LocationText.{location_is_read}
-use Rattle.olap_generate.proofs.Made.{made, made_facts}
-use Rattle.olap_generate.proofs.Rows.{rows_stand}
+use Rattle.olap_generate.proofs.{FactRows.fact_rows_stand, Legal.made_is_legal}
+use Rattle.olap_generate.proofs.{Location.{location_graph, location_schema}, LocationGraph.location_is_hierarchy}
+use Rattle.olap_generate.proofs.{LocationText.location_is_read, Made.{made, made_facts}, Rows.rows_stand}
+use Rattle.olap_generate.specs.{Inputs.IsMade, Members.member_rows}
 
 -- the made texts stand for the made schema, members and facts
 pub input_is_made : (seed size : ℕ) → size ≤ most_generated

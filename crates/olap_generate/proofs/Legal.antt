@@ -4,17 +4,15 @@
 use Rattle.std.proofs.Common.{◌≡◌, ◌<◌, ◌≤◌, ℕ, zero, suc, codes, refl, ap, sym, subst, ◌∙◌, inl, inr, arith, slice_index_or}
 use Rattle.std.specs.Prelude.{◌≢◌, slice_index}
 use Rattle.olap_base.specs.Instance.{Instance, IsMemberOf, Member, Reaches, category_of, name_of}
-use Rattle.olap_base.specs.Steps.{Steps.here, Steps.step, reaches_from_Steps}
+use Rattle.olap_base.specs.{Limits.most_generated, Steps.{Steps.here, Steps.step, reaches_from_Steps}}
 use Rattle.olap_ast.specs.Formula.{Formula.Iff, Formula.Implies, Formula.One, Formula.Or, Formula.Xor, Holds, Terms.End, Terms.More}
 use Rattle.olap_ast.specs.Schema.{Constraint, IsLegal, Meets}
-use Rattle.olap_base.specs.Limits.{most_generated}
-use Rattle.olap_generate.specs.Location.{city, country, province, region, state, store}
 use Rattle.olap_generate.proofs.Location.{in_canada, in_mexico, in_usa, lies_in, location_graph, location_schema, no_numbers, washington}
 use Rattle.olap_generate.proofs.Made.{canada, made, mexico, usa}
 use Rattle.olap_generate.proofs.OneParent.{IsUnder, named_once, path_is_up, path_up, under_below}
-use Rattle.olap_generate.proofs.Places.{length_made, at_canada, at_mexico, at_usa}
-use Rattle.olap_generate.proofs.Sound.{sound_instance}
+use Rattle.olap_generate.proofs.{Places.{length_made, at_canada, at_mexico, at_usa}, Sound.sound_instance}
 use Rattle.olap_generate.proofs.Standing.{Standing, Standing.a_store, Standing.a_washington, Standing.a_state_city, Standing.a_province_city, Standing.a_state, Standing.a_mexican_state, Standing.a_province, Standing.a_region, Standing.a_country, Standing.the_top, made_is_lawful, standing}
+use Rattle.olap_generate.specs.Location.{city, country, province, region, state, store}
 
 -- ---- texts
 

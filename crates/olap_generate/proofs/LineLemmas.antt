@@ -1,12 +1,9 @@
 -- What the counts and the sums of rows come to, row by row.
 --     next_count, next_sum   the bounds of the next row's numbers
-use Rattle.std.proofs.Common.{ℕ, pos, neg_ℤ, ◌<◌, ◌≤◌, ◌≤ℤ◌, List, length, get_or}
-use Rattle.std.specs.Prelude.{All}
+use Rattle.std.{proofs.Common.{ℕ, pos, neg_ℤ, ◌<◌, ◌≤◌, ◌≤ℤ◌, List, length, get_or}, specs.Prelude.All}
 use Rattle.olap_base.specs.Limits.{most_count, most_sum}
-use Rattle.olap_view.specs.Seen.{row_of, rows_of}
-use Rattle.olap_view.specs.Stores.{IsStored}
+use Rattle.olap_view.{proofs.SeenLemmas.each_row, specs.Seen.{row_of, rows_of}, specs.Stores.IsStored}
 use Rattle.olap_view.specs.declared.views.Row.{Row}
-use Rattle.olap_view.proofs.SeenLemmas.{each_row}
 
 -- what stands past the last row
 abbrev pub no_row : Row

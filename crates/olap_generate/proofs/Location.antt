@@ -1,8 +1,6 @@
 -- The schema that the text of the made input stands for.
 use Rattle.std.proofs.Common.{◌≡◌, ◌==◌, ◌||◌, ◌<◌, ◌↔◌, ℕ, zero, suc, Bool, true, false, not, [], ◌∷◌, refl, sym, subst, arith, codes, nat_lt, slice_index_or}
-use Rattle.std.specs.List.{list_all}
-use Rattle.std.proofs.lemmas.List.Sums.{AllPass-from_list_all}
-use Rattle.std.specs.Prelude.{IsTrue, replicate}
+use Rattle.std.{proofs.lemmas.List.Sums.AllPass-from_list_all, specs.List.list_all, specs.Prelude.{IsTrue, replicate}}
 use Rattle.olap_base.specs.Graph.{Edge, Graph, HasEdge, IsBottom, is_number}
 use Rattle.olap_ast.specs.Formula.{Formula, Formula.Path, Formula.Equals, Formula.Implies, Formula.Iff, Formula.Or, Formula.Xor, Formula.One, Terms.End, Terms.More}
 use Rattle.olap_ast.specs.Schema.{Constraint, Schema}

@@ -1,13 +1,12 @@
 -- The graph of the made input is a hierarchy.
 --     store_is ..             each category's name is a name
 use Rattle.std.proofs.Common.{◌≡◌, ◌==◌, ◌&&◌, ◌+◌, ◌*◌, ◌<◌, ◌≤◌, ◌++◌, ℕ, zero, suc, Bool, true, not, List, [], ◌∷◌, All, Contains, map, codes, refl, ap, subst, arith, nat_le, nat_lt, slice_index_or, inl, inr, lit≤}
+use Rattle.std.{proofs.lemmas.List.Elements.{All-cons, All-nil}, specs.List.{list_all, list_any}}
 use Rattle.std.specs.Prelude.{◌≢◌, slice_index}
-use Rattle.std.specs.List.{list_all, list_any}
-use Rattle.std.proofs.lemmas.List.Elements.{All-cons, All-nil}
+use Rattle.olap_base.proofs.ListLemmas.{AllPairs-from_Distinct, Contains-map, Distinct, first_true, list_any_is, second_true}
 use Rattle.olap_base.specs.Chains.{IsChain}
 use Rattle.olap_base.specs.Graph.{CategoryReaches, Edge, HasEdge, IsCategoryName, IsHierarchy, IsLetterOrDigit, reserved}
 use Rattle.olap_base.specs.Reaching.{is_category_name, is_category_name_is}
-use Rattle.olap_base.proofs.ListLemmas.{AllPairs-from_Distinct, Contains-map, Distinct, first_true, list_any_is, second_true}
 use Rattle.olap_generate.proofs.Location.{each_edge, location_falls, location_graph, rank}
 
 -- ---- names

@@ -1,23 +1,18 @@
 -- The text of the made input's schema stands for its schema.
-use Rattle.std.proofs.Common.{◌≡◌, ◌<◌, ◌++◌, ◌∙◌, ◌+◌, ◌-◌, ℕ, zero, suc, true, List, [], ◌∷◌, None, Some, Ok, Err, Result, codes, take, drop, length, refl, ap, arith, lit<}
-use Rattle.std.specs.Prelude.{slice_index}
-use Rattle.std.specs.Str.{chars, is_utf8}
-use lib.Utf8.{encode}
+use Rattle.std.proofs.Common.{◌≡◌, ◌<◌, ◌++◌, ◌∙◌, ◌+◌, ◌-◌, ℕ, zero, suc, true, List, [], ◌∷◌, None, Ok, Err, Result, codes, take, drop, length, refl, ap, arith, lit<}
+use Rattle.std.specs.{Prelude.slice_index, Str.{chars, is_utf8}}
 use Rattle.olap_base.specs.Reaching.{category_reaches, category_reaches_is}
-use Rattle.olap_grammar.specs.Brackets.{opens_over}
-use Rattle.olap_grammar.specs.CuttingMachine.{tokens_of}
-use Rattle.olap_grammar.specs.Machine.{the_formula}
-use Rattle.olap_grammar.specs.Nodes.{nodes_behind}
+use Rattle.olap_grammar.specs.{Brackets.opens_over, CuttingMachine.tokens_of, Machine.the_formula, Nodes.nodes_behind}
 use Rattle.olap_grammar.specs.Words.{compared_in, is_number_token, pieces_of, plain_of}
-use Rattle.olap_schema_text.specs.Resolving.{categories_of, is_repeated, lacks_edge}
 use Rattle.olap_schema_text.specs.Judging.{Above, first_stuck, form_read, line_read, lines_on, nothing_above, Read, schema_read, statement_read, text_ended, whole}
 use Rattle.olap_schema_text.specs.Lines.{chomped, is_quiet, lines_of}
-use Rattle.olap_schema_text.specs.Statements.{statement_of}
+use Rattle.olap_schema_text.specs.{Resolving.{categories_of, is_repeated, lacks_edge}, Statements.statement_of}
 use Rattle.olap_schema_text.specs.Tokens.{is_bad_number, is_long}
-use Rattle.olap_grammar.specs.declared.tokens.Token.TheVariants as token
-use Rattle.olap_generate.specs.Location.{location_lines, location_text}
 use Rattle.olap_generate.proofs.Location.{location_graph, location_schema}
 use Rattle.olap_generate.proofs.LocationGraph.{all_is, city_is, country_is, location_is_hierarchy, province_is, region_is, state_is, store_is}
+use Rattle.olap_generate.specs.Location.{location_lines, location_text}
+use lib.Utf8.{encode}
+use Rattle.olap_grammar.specs.declared.tokens.Token.TheVariants as token
 
 -- ---- lines
 

@@ -1,12 +1,11 @@
 -- The members of the made input by their places: stores, cities, states of both kinds, provinces, regions of both
 -- kinds, countries, and `all`.
-use Rattle.std.specs.Prelude.{ℕ, ◌+◌, ◌-◌, ◌*◌, ◌/◌, ◌%◌, ◌==◌, List, [], ◌∷◌, ◌++◌, codes, map, if◌then◌else◌}
 use Rattle.std.specs.List.{range_with_len}
-use Rattle.olap_base.specs.Instance.{Instance, Member}
-use Rattle.olap_base.specs.Views.{Fact}
+use Rattle.std.specs.Prelude.{ℕ, ◌+◌, ◌-◌, ◌*◌, ◌/◌, ◌%◌, ◌==◌, List, [], ◌∷◌, ◌++◌, codes, map, if◌then◌else◌}
+use Rattle.olap_base.specs.{Instance.{Instance, Member}, Views.Fact}
 use Rattle.olap_instance.specs.Members.{all_member}
-use Rattle.olap_generate.specs.Location as location
 use Rattle.olap_generate.specs.Members.{city_name, groups, numbered, step, value}
+use Rattle.olap_generate.specs.Location as location
 
 -- a member with one parent
 abbrev pub below : List ℕ → ℕ → List ℕ → ℕ → Member

@@ -5,46 +5,27 @@
 --     members_made, views_made                                what has been made, from what the readers answer
 --     facts_table, facts_count, facts_fit                     the made facts
 use Rattle.std.proofs.Common.{◌≡◌, ℕ, ◌<◌, ◌≤◌, ℤ, pos, negsuc, List, [], ◌∷◌, length, get_or, Result, Ok, Err, ap, arith, w64, subst, sym, ◌∙◌}
-use lib.Signed.{mag}
-use Rattle.std.specs.List.{range_with_len}
-use Rattle.std.specs.Prelude.{All}
-use mir.Val.{SFits}
-use Rattle.std.proofs.lemmas.List.Elements.{All-map}
-use Rattle.std.proofs.lemmas.List.FromFn.{length-map-range_with_len}
-use Rattle.olap_ast.specs.Schema.{IsLegal, Schema}
-use Rattle.olap_ast.proofs.Unviolated.{legal_exactly}
-use Rattle.olap_base.specs.Graph.{Graph}
-use Rattle.olap_base.specs.Instance.{Instance}
-use Rattle.olap_base.specs.Limits.{most_facts, most_generated}
-use Rattle.olap_base.specs.Views.{Fact, IsFactTable, View}
-use Rattle.olap_check.specs.Reports.{IsFirstReport}
-use Rattle.olap_check.specs.declared.violations.Violation.{Violation}
-use Rattle.olap_base.specs.declared.refusals.Fault.{Fault}
-use Rattle.olap_facts.specs.FactMeaning.{facts_meant}
-use Rattle.olap_facts.specs.FactText.{facts_read_within}
-use Rattle.olap_facts.specs.Kinds.{name_of_kind}
-use Rattle.olap_facts.specs.declared.kinds.FactKind.{FactKind}
-use Rattle.olap_facts.proofs.MeaningLemmas.{facts-named, meant-facts}
-use Rattle.olap_instance.specs.InstanceMeaning.{instance_meant}
-use Rattle.olap_instance.specs.InstanceText.{instance_read}
-use Rattle.olap_instance.specs.Kinds.{name_of_kind as instance_kind}
-use Rattle.olap_instance.specs.Made.{IsMadeFor}
+use Rattle.std.proofs.lemmas.List.{Elements.All-map, FromFn.length-map-range_with_len}
+use Rattle.std.specs.{List.range_with_len, Prelude.All}
+use Rattle.olap_ast.{proofs.Unviolated.legal_exactly, specs.Schema.{IsLegal, Schema}}
+use Rattle.olap_base.specs.{Graph.Graph, Instance.Instance, Limits.{most_facts, most_generated}}
+use Rattle.olap_base.specs.{Views.{Fact, IsFactTable, View}, declared.refusals.Fault.Fault}
+use Rattle.olap_check.specs.{Reports.IsFirstReport, declared.violations.Violation.Violation}
+use Rattle.olap_facts.{proofs.MeaningLemmas.{facts-named, meant-facts}, specs.FactMeaning.facts_meant}
+use Rattle.olap_facts.specs.{FactText.facts_read_within, Kinds.name_of_kind, declared.kinds.FactKind.FactKind}
+use Rattle.olap_instance.{proofs.MeaningLemmas.{instance-named, meant-instance}, specs.InstanceMeaning.instance_meant}
+use Rattle.olap_instance.specs.{InstanceText.instance_read, Kinds.{name_of_kind as instance_kind}, Made.IsMadeFor}
 use Rattle.olap_instance.specs.declared.refusals.InstanceKind.{InstanceKind}
-use Rattle.olap_instance.proofs.MeaningLemmas.{instance-named, meant-instance}
-use Rattle.olap_records.specs.Records.{records_of}
-use Rattle.olap_records.specs.Tables.{named}
-use Rattle.olap_records.specs.Texts.{text_of_rows}
+use Rattle.olap_records.specs.{Records.records_of, Tables.named, Texts.text_of_rows}
 use Rattle.olap_schema_text.specs.Judging.{schema_read}
 use Rattle.olap_view.specs.RollingUp.{AreRolledUp}
+use Rattle.olap_generate.proofs.{FactRows.{fact_rows_read_back, facts_made, value-mag}, InputLemmas.input_is_made}
+use Rattle.olap_generate.proofs.{Location.{location_graph, location_schema}, LocationText.location_is_read}
+use Rattle.olap_generate.proofs.{Made.{fact_of, made, made_facts}, Rows.rows_read_back}
 use Rattle.olap_generate.specs.Location.{city, location_text, province, state}
-use Rattle.olap_generate.specs.Members.{fact_rows, member_rows, value}
-use Rattle.olap_generate.specs.Stages.{AreMadeMembers, AreMadeViews}
-use Rattle.olap_generate.proofs.FactRows.{fact_rows_read_back, facts_made, value-mag}
-use Rattle.olap_generate.proofs.InputLemmas.{input_is_made}
-use Rattle.olap_generate.proofs.Location.{location_graph, location_schema}
-use Rattle.olap_generate.proofs.LocationText.{location_is_read}
-use Rattle.olap_generate.proofs.Made.{fact_of, made, made_facts}
-use Rattle.olap_generate.proofs.Rows.{rows_read_back}
+use Rattle.olap_generate.specs.{Members.{fact_rows, member_rows, value}, Stages.{AreMadeMembers, AreMadeViews}}
+use lib.Signed.{mag}
+use mir.Val.{SFits}
 
 -- two things that one text stands for are one
 pub only_one : {T E : Type 0} (read : Result T E) (x y : T) → read ≡ Ok x → read ≡ Ok y → x ≡ y

@@ -1,13 +1,10 @@
 -- Instances in which no member has two parents, over a graph whose edges all lead to a lower rank.
 use Rattle.std.proofs.Common.{◌≡◌, ◌<◌, ◌≤◌, ◌⊎◌, inl, inr, ℕ, List, [], ◌∷◌, map, ap, sym, subst, ◌∙◌, arith}
 use Rattle.std.specs.Prelude.{◌≢◌, Contains}
-use Rattle.olap_base.specs.Chains.{IsChain}
-use Rattle.olap_base.specs.Deciding.{below_is_member}
-use Rattle.olap_base.specs.Graph.{Graph, HasEdge}
+use Rattle.olap_base.proofs.{AboveLemmas.reached_once, ListLemmas.{Contains-nil, contains_head, Contains-only}}
+use Rattle.olap_base.specs.{Chains.IsChain, Deciding.below_is_member, Graph.{Graph, HasEdge}}
 use Rattle.olap_base.specs.Instance.{Instance, IsBelow, IsLawful, IsMember, Reaches, category_of, name_of, parents_of}
 use Rattle.olap_base.specs.Steps.{Climb, Climb.climb, Climb-from_leads, Climb-steps, Steps, Steps.here, Steps.step, Steps-cases, Steps-from_reaches}
-use Rattle.olap_base.proofs.AboveLemmas.{reached_once}
-use Rattle.olap_base.proofs.ListLemmas.{Contains-nil, contains_head, Contains-only}
 use Rattle.olap_ast.specs.Formula.{HasPath, ReachesNamed}
 
 -- each edge leads to a category of a lower rank

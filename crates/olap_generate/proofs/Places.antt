@@ -1,14 +1,14 @@
 -- Which member stands at each place of the made instance, and that there are no other places.
 --     at_store ..      the member at a place of a group, by the group
 use Rattle.std.proofs.Common.{◌≡◌, ◌+◌, ◌*◌, ◌-◌, ◌<◌, ◌≤◌, ◌++◌, ◌∙◌, ◌⊎◌, ℕ, List, length, map, codes, refl, sym, ap, subst, arith, inl, inr}
-use Rattle.std.specs.List.{range_with_len}
 use Rattle.std.proofs.lemmas.List.{append_assoc, length-append, get_or_append_left, get_or-append-add}
 use Rattle.std.proofs.lemmas.List.FromFn.{get_or-map-range_with_len, length-map-range_with_len}
+use Rattle.std.specs.List.{range_with_len}
 use Rattle.olap_base.specs.Instance.{Instance, IsMember, Member, member_at, nobody}
 use Rattle.olap_instance.specs.Members.{all_member}
-use Rattle.olap_generate.specs.Location as location
-use Rattle.olap_generate.specs.Members.{groups}
 use Rattle.olap_generate.proofs.Made.{below, canada, canadian_region_of, canadian_regions, cities, city_of, last_members, made, mexican_region_of, mexican_regions, mexican_state_of, mexican_states, mexico, province_of, provinces, state_of, states, store_of, top, usa}
+use Rattle.olap_generate.specs.Members.{groups}
+use Rattle.olap_generate.specs.Location as location
 
 -- ---- a group, and what stands after it
 

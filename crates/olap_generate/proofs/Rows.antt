@@ -1,26 +1,19 @@
 -- The records of the made instance's text: they are the records of the instance, so they stand for it.
 use Rattle.std.proofs.Common.{◌≡◌, ◌≢◌, ◌+◌, ◌*◌, ◌-◌, ◌/◌, ◌%◌, ◌<◌, ◌≤◌, ◌==◌, ◌++◌, ◌∷◌, ◌∙◌, Bool, true, false, cond, ℕ, zero, suc, List, [], length, map, codes, slice_index, Ok, refl, sym, ap, subst, arith}
+use Rattle.std.{proofs.lemmas.List.{append_assoc, length-append, map-append, take_at}, specs.List.range_with_len}
 use Rattle.std.specs.Prelude.{All}
-use Rattle.std.specs.List.{range_with_len}
-use Rattle.std.proofs.lemmas.List.{append_assoc, length-append, map-append, take_at}
-use Rattle.olap_base.specs.Graph.{IsHierarchy}
-use Rattle.olap_base.specs.Instance.{Instance, Member, member_at}
+use Rattle.olap_base.specs.{Graph.IsHierarchy, Instance.{Instance, Member, member_at}, Limits.most_generated}
 use Rattle.olap_graph.specs.Lookups.{name_of_category}
-use Rattle.olap_records.specs.Records.{records_of}
-use Rattle.olap_records.specs.Texts.{text_of_rows}
-use Rattle.olap_records.proofs.ReadingBack.{text-back}
-use Rattle.olap_instance.specs.InstanceText.{header, instance_read}
-use Rattle.olap_instance.specs.Members.{all_member}
+use Rattle.olap_records.{proofs.ReadingBack.text-back, specs.Records.records_of, specs.Texts.text_of_rows}
+use Rattle.olap_instance.proofs.{Passing.{all-full, rows-full}, ReadBack.reads-back}
+use Rattle.olap_instance.specs.{InstanceText.{header, instance_read}, Members.all_member}
 use Rattle.olap_instance.specs.Printing.{instance_rows, member_fields, others}
-use Rattle.olap_instance.proofs.Passing.{all-full, rows-full}
-use Rattle.olap_instance.proofs.ReadBack.{reads-back}
-use Rattle.olap_base.specs.Limits.{most_generated}
-use Rattle.olap_generate.specs.Location as location
-use Rattle.olap_generate.specs.Members.{canadian_region_row, city_name, city_parent, city_row, country_rows, groups, member_rows, mexican_region_row, mexican_state_row, numbered, province_row, state_row, step, store_row}
 use Rattle.olap_generate.proofs.Location.{location_graph}
 use Rattle.olap_generate.proofs.Made.{above_city, below, canada, canadian_region_of, cities, city_of, made, mexican_region_of, mexican_state_of, mexican_states, mexico, province_of, provinces, state_of, states, store_of, top, usa}
 use Rattle.olap_generate.proofs.Places.{at_all, at_canada, at_canadian_region, at_city, at_mexican_region, at_mexican_state, at_mexico, at_province, at_state, at_usa}
 use Rattle.olap_generate.proofs.Sound.{few_members, made_for_location, short_names, sound_instance, sound_texts, store_below, top_without_parents}
+use Rattle.olap_generate.specs.Members.{canadian_region_row, city_name, city_parent, city_row, country_rows, groups, member_rows, mexican_region_row, mexican_state_row, numbered, province_row, state_row, step, store_row}
+use Rattle.olap_generate.specs.Location as location
 
 -- ---- lists
 

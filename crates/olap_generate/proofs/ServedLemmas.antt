@@ -1,13 +1,8 @@
 -- The view of the cities alone serves the regions, of whatever is made.
-use Rattle.std.proofs.Common.{◌≡◌, [], ◌∷◌, Ok, lit<, sym, subst, ◌∙◌}
-use Rattle.std.specs.Prelude.{Result}
-use Rattle.olap_ast.specs.Schema.{Schema}
-use Rattle.olap_ast.specs.Summarizable.{IsSummarizable}
-use Rattle.olap_generate.specs.Location.{city, region}
-use Rattle.olap_generate.specs.Served.{RegionsAreServed}
-use Rattle.olap_generate.proofs.Location.{location_schema}
-use Rattle.olap_generate.proofs.LocationText.{location_is_read}
-use Rattle.olap_generate.proofs.Serving.{cities_serve_regions}
+use Rattle.std.{proofs.Common.{◌≡◌, [], ◌∷◌, Ok, lit<, sym, subst, ◌∙◌}, specs.Prelude.Result}
+use Rattle.olap_ast.specs.{Schema.Schema, Summarizable.IsSummarizable}
+use Rattle.olap_generate.proofs.{Location.location_schema, LocationText.location_is_read, Serving.cities_serve_regions}
+use Rattle.olap_generate.specs.{Location.{city, region}, Served.RegionsAreServed}
 
 -- a result is of one value
 only : {T E : Type 0} (x y : T) → ◌≡◌ {A = Result T E} (Ok x) (Ok y) → x ≡ y

@@ -1,13 +1,11 @@
 -- The totals by region can be taken from the view of the cities.
 use Rattle.std.proofs.Common.{◌≡◌, ℕ, [], ◌∷◌, sym, subst, ◌∙◌, inl, arith}
-use Rattle.olap_base.specs.Graph.{HasEdge}
+use Rattle.olap_base.{proofs.ViewLemmas.agree_exactly, specs.Graph.HasEdge}
 use Rattle.olap_base.specs.Instance.{Instance, IsBelow, IsMemberOf, ReachesVia, category_of}
 use Rattle.olap_base.specs.Steps.{Steps, Steps.here, Steps.step, Steps-from_reaches, reaches_from_Steps}
-use Rattle.olap_base.proofs.ViewLemmas.{agree_exactly}
-use Rattle.olap_ast.specs.Schema.{IsLegal}
-use Rattle.olap_ast.specs.Summarizable.{IsSummarizable}
-use Rattle.olap_generate.specs.Location.{city, region, store}
+use Rattle.olap_ast.specs.{Schema.IsLegal, Summarizable.IsSummarizable}
 use Rattle.olap_generate.proofs.Location.{bottom_is_store, location_graph, location_schema, store_city}
+use Rattle.olap_generate.specs.Location.{city, region, store}
 
 -- a store's way up begins with a city
 by_city : (i : Instance) → IsLegal location_schema i → (x y : ℕ) → category_of i x ≡ store → IsMemberOf i region y

@@ -1,20 +1,18 @@
 -- The made members are a dimension instance within the limits, with texts that a file can hold.
 --     sound_instance   ids and parents differ, parents are members, and `all` is the last
 use Rattle.std.proofs.Common.{◌≡◌, ◌≢◌, ◌+◌, ◌*◌, ◌/◌, ◌%◌, ◌<◌, ◌≤◌, ◌^◌, ◌==◌, ◌∷◌, ◌∙◌, ◌↔◌, ◌⊎◌, Bool, true, false, cond, ℕ, suc, List, [], length, codes, decimal, refl, sym, ap, subst, arith, inl, inr, mod-lt}
-use Rattle.std.specs.Prelude.{AllPairs, Contains}
-use Rattle.std.proofs.lemmas.List.{get_or_past}
-use Rattle.olap_base.proofs.ListLemmas.{Contains-nil}
-use Rattle.olap_base.specs.Deciding.{below_is_member, contains_cases}
+use Rattle.std.{proofs.lemmas.List.get_or_past, specs.Prelude.{AllPairs, Contains}}
+use Rattle.olap_base.{proofs.ListLemmas.Contains-nil, specs.Deciding.{below_is_member, contains_cases}}
 use Rattle.olap_base.specs.Instance.{IsInstance, IsMember, Member, member_at, nobody, parents_of, category_of}
 use Rattle.olap_base.specs.Limits.{most_generated, most_members}
 use Rattle.olap_instance.specs.Made.{IsMadeFor}
 use Rattle.olap_instance.specs.Members.{AllHasNoParents, HasShortNames, HasTexts, IsMemberId, all_member}
-use Rattle.olap_generate.specs.Location as location
-use Rattle.olap_generate.specs.Members.{city_name, groups, numbered, step}
 use Rattle.olap_generate.proofs.Ids.{numbered_id, numbered_place, place_told, told_by_number, worded_id}
 use Rattle.olap_generate.proofs.Location.{location_graph, no_numbers}
 use Rattle.olap_generate.proofs.Made.{above_city, below, canada, canadian_regions, cities, made, mexican_regions, mexican_states, mexico, plain, provinces, states, top, usa}
 use Rattle.olap_generate.proofs.Places.{Place, Place.of_all, Place.of_canada, Place.of_canadian_region, Place.of_city, Place.of_mexican_region, Place.of_mexican_state, Place.of_mexico, Place.of_province, Place.of_state, Place.of_store, Place.of_usa, at_all, at_canada, at_canadian_region, at_city, at_mexican_region, at_mexican_state, at_mexico, at_province, at_state, at_store, at_usa, length_made, place}
+use Rattle.olap_generate.specs.Members.{city_name, groups, numbered, step}
+use Rattle.olap_generate.specs.Location as location
 
 -- ---- one parent
 

@@ -2,15 +2,14 @@
 --     Standing, standing   each member with its way up
 --     made_is_lawful       the five laws
 use Rattle.std.proofs.Common.{◌≡◌, ◌+◌, ◌*◌, ◌/◌, ◌%◌, ◌<◌, ◌⊎◌, inl, inr, ℕ, [], ◌∷◌, codes, refl, ap, sym, ◌∙◌, arith}
-use Rattle.std.specs.Prelude.{◌≢◌, slice_index}
+use Rattle.std.{proofs.lemmas.Bool.{eq-eqb, ne_eqb}, specs.Prelude.{◌≢◌, slice_index}}
 use Rattle.olap_base.specs.Instance.{Instance, IsLawful, IsMember, Member, category_of, member_at, name_of, parents_of}
-use Rattle.olap_generate.specs.Location.{city, country, province, region, state, store}
-use Rattle.olap_generate.specs.Members.{city_name, groups, numbered, step}
 use Rattle.olap_generate.proofs.Location.{location_falls, location_graph, rank}
 use Rattle.olap_generate.proofs.Made.{above_city, canada, canadian_regions, cities, made, mexican_regions, mexican_states, mexico, provinces, states, top, usa}
 use Rattle.olap_generate.proofs.OneParent.{IsPlaced, IsPlaced.at_top, IsPlaced.below_one, IsUnder, lawful_if_placed}
 use Rattle.olap_generate.proofs.Places.{Place, Place.of_store, Place.of_city, Place.of_state, Place.of_mexican_state, Place.of_province, Place.of_mexican_region, Place.of_canadian_region, Place.of_usa, Place.of_canada, Place.of_mexico, Place.of_all, at_store, at_city, at_state, at_mexican_state, at_province, at_mexican_region, at_canadian_region, at_usa, at_canada, at_mexico, at_all, place}
-use Rattle.std.proofs.lemmas.Bool.{eq-eqb, ne_eqb}
+use Rattle.olap_generate.specs.Location.{city, country, province, region, state, store}
+use Rattle.olap_generate.specs.Members.{city_name, groups, numbered, step}
 
 -- where the members of two places are known, and the one names the other as its parent
 under : (i : Instance) (x p : ℕ) (m n : Member) → member_at i x ≡ m → member_at i p ≡ n → m.parents ≡ p ∷ []

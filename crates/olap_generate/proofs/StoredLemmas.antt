@@ -2,38 +2,26 @@
 --     views_categories, views_members   the views are of categories of the schema, at members
 --     store_faultless, store_made       they are read as they were printed
 use Rattle.std.proofs.Common.{◌≡◌, ◌≢◌, ℕ, suc, ◌<◌, ◌≤◌, ◌^◌, ◌-◌, List, [], ◌∷◌, ◌++◌, codes, decimal, sum_by, length, get_or, Option, None, Some, Ok, Err, ap, arith, lit<, subst, sym, w64, ◌∙◌}
-use Rattle.std.specs.Prelude.{◌==◌, All, AllPairs, filter_map}
-use mir.Val.{SFits}
-use Rattle.std.specs.Fmt.{signed_decimal}
-use Rattle.std.specs.List.{cons_option, range_with_len}
-use Rattle.std.proofs.lemmas.List.{length-map}
-use Rattle.std.proofs.lemmas.List.Elements.{All-from_recursion, All-map, All-nil}
-use Rattle.std.proofs.lemmas.List.Kept.{AllPairs-cons}
-use Rattle.std.proofs.lemmas.List.FromFn.{length-range_with_len}
-use Rattle.olap_ast.specs.Schema.{Schema}
-use Rattle.olap_ast.specs.Summarizable.{IsSummarizable}
-use Rattle.olap_base.specs.Graph.{Graph, IsCategory, IsHierarchy}
-use Rattle.olap_base.specs.Instance.{Instance, category_of}
+use Rattle.std.proofs.lemmas.List.{length-map, Elements.{All-from_recursion, All-map, All-nil}}
+use Rattle.std.proofs.lemmas.List.{FromFn.length-range_with_len, Kept.AllPairs-cons}
+use Rattle.std.specs.{Fmt.signed_decimal, List.{cons_option, range_with_len}, Prelude.{◌==◌, All, AllPairs, filter_map}}
+use Rattle.olap_ast.specs.{Schema.Schema, Summarizable.IsSummarizable}
+use Rattle.olap_base.{proofs.ListLemmas.length-filter, specs.Graph.{Graph, IsCategory, IsHierarchy}}
+use Rattle.olap_base.specs.{Instance.{Instance, category_of}, Limits.most_generated}
 use Rattle.olap_base.specs.Views.{IsFactTable, Row, View, direct_view, direct_views, members, members_of, row_at, rows_from_views, total_of_views}
-use Rattle.olap_nav.specs.PlanText.{plan_text}
-use Rattle.olap_nav.specs.Plans.{IsPlan, Serves, categories_of, sources_in}
+use Rattle.olap_nav.specs.{PlanText.plan_text, Plans.{IsPlan, Serves, categories_of, sources_in}}
 use Rattle.olap_records.specs.Records.{records_of}
-use Rattle.olap_view.specs.Seen.{each_view_of, row_of, rows_of, view_of}
-use Rattle.olap_view.specs.StoreText.{records_of_store, store_read}
-use Rattle.olap_view.specs.declared.views.Row as told_row
-use Rattle.olap_view.specs.declared.views.View as told
+use Rattle.olap_view.{proofs.FittingLemmas.direct_stored, specs.Seen.{each_view_of, row_of, rows_of, view_of}}
+use Rattle.olap_view.specs.{StoreLaws.DirectViewsAreReadBack, StoreText.{records_of_store, store_read}}
 use Rattle.olap_view.specs.Stores.{IsStored, chosen}
-use Rattle.olap_view.proofs.FittingLemmas.{direct_stored}
-use Rattle.olap_generate.specs.Generated.{ShowsGenerated, counted, row_count, stored_views, sum_of_rows}
-use Rattle.olap_base.specs.Limits.{most_generated}
-use Rattle.olap_generate.specs.Location.{city, province, region, state}
-use Rattle.olap_generate.specs.Stages.{AreMadeViews}
-use Rattle.olap_generate.proofs.Location.{location_graph, location_schema}
-use Rattle.olap_generate.proofs.LocationGraph.{location_is_hierarchy}
+use Rattle.olap_generate.proofs.{Location.{location_graph, location_schema}, LocationGraph.location_is_hierarchy}
 use Rattle.olap_generate.proofs.MadeLemmas.{facts_count, facts_fit, facts_table, no_fault, only_one, schema_is}
 use Rattle.olap_generate.proofs.Serving.{cities_serve_regions}
-use Rattle.olap_view.specs.StoreLaws.{DirectViewsAreReadBack}
-use Rattle.olap_base.proofs.ListLemmas.{length-filter}
+use Rattle.olap_generate.specs.Generated.{ShowsGenerated, counted, row_count, stored_views, sum_of_rows}
+use Rattle.olap_generate.specs.{Location.{city, province, region, state}, Stages.AreMadeViews}
+use mir.Val.{SFits}
+use Rattle.olap_view.specs.declared.views.Row as told_row
+use Rattle.olap_view.specs.declared.views.View as told
 
 -- the categories whose views are stored
 abbrev stored : List ℕ

@@ -1,9 +1,7 @@
 -- The texts of records that are numbered, one record after the other.
 use Rattle.std.proofs.Common.{◌≡◌, ℕ, zero, suc, ◌+◌, ◌*◌, arith, List, [], ◌∷◌, ◌++◌, ap, map, sym, ◌∙◌, append_assoc}
-use Rattle.std.specs.List.{range_with_len}
-use Rattle.std.proofs.lemmas.List.{append-nil, map-append}
-use Rattle.olap_records.specs.Texts.{text_of_row, text_of_rows}
-use Rattle.olap_records.proofs.ReadingBack.{texts-push}
+use Rattle.std.{proofs.lemmas.List.{append-nil, map-append}, specs.List.range_with_len}
+use Rattle.olap_records.{proofs.ReadingBack.texts-push, specs.Texts.{text_of_row, text_of_rows}}
 use Rattle.olap_instance.specs.InstanceText.{header}
 use Rattle.olap_generate.specs.Members.{canadian_region_row, city_row, country_rows, mexican_region_row, mexican_state_row, named_row, province_row, state_row, store_row}
 use Rattle.olap_view.proofs.StoreTextLemmas.{texts-append}

@@ -1,18 +1,14 @@
 -- What is a formula is read, with its tree.
 use Rattle.std.proofs.Common.{◌≡◌, ◌≤◌, ◌<◌, ℕ, suc, List, [], ◌∷◌, refl, arith, false, nat_le, ap, ◌∙◌, Some}
+use Rattle.std.{proofs.lemmas.Bool.le-leb, proofs.lemmas.List.Sums.fold-append, specs.List.fold}
 use Rattle.olap_numerals.specs.Comparing.{Op}
-use Rattle.std.specs.List.{fold}
-use Rattle.olap_grammar.specs.Forms as words
-use Rattle.olap_grammar.specs.Forms.{Form, Forms}
-use Rattle.olap_grammar.specs.declared.tokens.Token.{Token}
-use Rattle.olap_grammar.specs.declared.tokens.Token.TheVariants as token
-use Rattle.olap_grammar.specs.declared.tokens.Mark.TheVariants as mark
-use Rattle.olap_grammar.specs.declared.tokens.Joint.{Joint}
+use Rattle.olap_grammar.{proofs.Levels.{row, apart}, specs.Forms.{Form, Forms}}
 use Rattle.olap_grammar.specs.Grammar.{Atoms, level, left_level, right_level, comparing, digits_of, IsFormula, looser, joined, negated, bracketed, listed, plain, equal, compared, IsList, none, some, IsItems, last, more}
 use Rattle.olap_grammar.specs.Machine.{trees, Frame, Negation, Left, Bracket, Listing, Part, State, Wants, WantsPart, Named, Compared, Has, settled, list_closed, after, after_word, after_compared, has_atom, step, alone, ended, formula_read}
-use Rattle.olap_grammar.proofs.Levels.{row, apart}
-use Rattle.std.proofs.lemmas.Bool.{le-leb}
-use Rattle.std.proofs.lemmas.List.Sums.{fold-append}
+use Rattle.olap_grammar.specs.declared.tokens.{Joint.Joint, Token.Token}
+use Rattle.olap_grammar.specs.Forms as words
+use Rattle.olap_grammar.specs.declared.tokens.Token.TheVariants as token
+use Rattle.olap_grammar.specs.declared.tokens.Mark.TheVariants as mark
 
 -- a formula of the level may stand on what is open
 abbrev pub Admits : ℕ → List (Frame Form) → Type 0
@@ -25,12 +21,9 @@ Admits n (Part g ∷ s) = Unit {0}
 
 -- what may stand at one level may stand at a looser one's place
 pub admits_more : (m n : ℕ) (s : List (Frame Form)) → m ≤ n → Admits m s → Admits n s
-admits_more m n [] l h = tt
 admits_more m n (Negation ∷ s) l h = omega arith
 admits_more m n (Left j g ∷ s) l h = omega arith
-admits_more m n (Bracket ∷ s) l h = tt
-admits_more m n (Listing ∷ s) l h = tt
-admits_more m n (Part g ∷ s) l h = tt
+admits_more m n s l h = tt
 
 -- the state goes on as one in which the formula of the level was read on top of what is open
 pub record Stands (a : Atoms Form) (n : ℕ) (f : Form) (s : List (Frame Form))
@@ -58,12 +51,9 @@ lt_false m n h = grind (arith)
 -- where nothing of this level is open nothing is closed
 settled_stays : (j : Joint) (f : Form) (s : List (Frame Form)) → Admits (level j) s
     → settled trees (left_level j) f s ≡ (f, s)
-settled_stays j f [] h = refl
 settled_stays j f (Negation ∷ s) h = absurd (omega (arith, (row j).most))
 settled_stays j f (Left i g ∷ s) h = rw (lt_false (left_level j) (level i) (apart i j h)) refl
-settled_stays j f (Bracket ∷ s) h = refl
-settled_stays j f (Listing ∷ s) h = refl
-settled_stays j f (Part g ∷ s) h = refl
+settled_stays j f s h = refl
 
 -- what is read on top of a formula with its mark joins it
 settled_joins : (n : ℕ) (j : Joint) (f g : Form) (s : List (Frame Form)) → n ≤ level j
@@ -94,30 +84,26 @@ stands_named a n w f s e = record { joint = λ j l. rw e refl; close = rw e refl
 names_op : (a : Atoms Form) (w : List ℕ) (op : Op) (s : List (Frame Form))
     → after_word trees a w s (token.Mark (comparing op)) ≡ Compared w op s
 names_op a w Op.Equal s = refl
-names_op a w Op.Less s = refl
-names_op a w Op.AtMost s = refl
+names_op a w op s = refl
 
 -- after a comparison a word has the digits
 pub after_word_digits : (a : Atoms Form) (w : List ℕ) (op : Op) (s : List (Frame Form)) (v : List ℕ)
     → after_compared a w op s (token.Word v) ≡ has_atom (a.compare w op v) s
 after_word_digits a w Op.Equal s v = refl
-after_word_digits a w Op.Less s v = refl
-after_word_digits a w Op.AtMost s v = refl
+after_word_digits a w op s v = refl
 
 -- or a number with its sign
 pub after_signed_digits : (a : Atoms Form) (w : List ℕ) (op : Op) (s : List (Frame Form)) (v : List ℕ)
     → after_compared a w op s (token.Signed v) ≡ has_atom (a.compare w op v) s
 after_signed_digits a w Op.Equal s v = refl
-after_signed_digits a w Op.Less s v = refl
-after_signed_digits a w Op.AtMost s v = refl
+after_signed_digits a w op s v = refl
 
 -- after it the digits of a number are compared with
 after_digits : (a : Atoms Form) (w : List ℕ) (op : Op) (s : List (Frame Form)) (t : Token) (v : List ℕ)
     → digits_of t ≡ Some v → after_compared a w op s t ≡ has_atom (a.compare w op v) s
 after_digits a w op s (token.Word u) v e = let same : u ≡ v = cc in rw same (after_word_digits a w op s v)
 after_digits a w op s (token.Signed u) v e = let same : u ≡ v = cc in rw same (after_signed_digits a w op s v)
-after_digits a w op s (token.Quoted k) v e = absurd cc
-after_digits a w op s (token.Mark m) v e = absurd cc
+after_digits a w op s t v e = absurd cc
 
 -- a formula at the head of a list is read as elsewhere
 starts : {a : Atoms Form} {n : ℕ} {ts : List Token} {f : Form} → IsFormula a n ts f → (s : List (Frame Form))
@@ -146,31 +132,22 @@ IsOpenList (Part g ∷ s) = Unit {0}
 -- a bracket closes the list with this part as the last
 closes_last : (a : Atoms Form) (f : Form) (s : List (Frame Form)) → IsOpenList s
     → after trees f s (token.Mark mark.Close) ≡ list_closed trees (words.Forms.More f words.Forms.End) s
-closes_last a f [] h = absurd h
-closes_last a f (Negation ∷ s) h = absurd h
-closes_last a f (Left j g ∷ s) h = absurd h
-closes_last a f (Bracket ∷ s) h = absurd h
 closes_last a f (Listing ∷ s) h = refl
 closes_last a f (Part g ∷ s) h = refl
+closes_last a f s h = absurd h
 
 -- a comma leaves the part open
 parts_one : (f : Form) (s : List (Frame Form)) → IsOpenList s
     → after trees f s (token.Mark mark.Comma) ≡ Wants (Part f ∷ s)
-parts_one f [] h = absurd h
-parts_one f (Negation ∷ s) h = absurd h
-parts_one f (Left j g ∷ s) h = absurd h
-parts_one f (Bracket ∷ s) h = absurd h
 parts_one f (Listing ∷ s) h = refl
 parts_one f (Part g ∷ s) h = refl
+parts_one f s h = absurd h
 
 -- in a list a part of any level may stand
 admits_any : (n : ℕ) (s : List (Frame Form)) → IsOpenList s → Admits n s
-admits_any n [] h = absurd h
-admits_any n (Negation ∷ s) h = absurd h
-admits_any n (Left j g ∷ s) h = absurd h
-admits_any n (Bracket ∷ s) h = absurd h
 admits_any n (Listing ∷ s) h = tt
 admits_any n (Part g ∷ s) h = tt
+admits_any n s h = absurd h
 
 mutual
   reads : {a : Atoms Form} {n : ℕ} {ts : List Token} {f : Form} → IsFormula a n ts f
@@ -178,13 +155,11 @@ mutual
   reads {a = a} {n = n} {ts = ts} {f = f} (looser d) s h =
       stands_less a n (suc n) f s _ (omega arith) (reads d s (admits_more n (suc n) s (omega arith) h))
   reads {a = a} (joined j {left = left} {right = right} {f = f} {g = g} d e) s h =
-      let one = reads d s (admits_more (level j) (left_level j) s (row j).left_above h) in
-      let two = reads e (Left j f ∷ s) (omega arith) in
       rw (
         fold-append (step trees a) (Wants s) left (token.Mark (mark.Joint j) ∷ right),
-        one.joint j (omega arith),
+        (reads d s (admits_more (level j) (left_level j) s (row j).left_above h)).joint j (omega arith),
         settled_stays j f s h,
-      ) (stands_joined a j f g s _ two)
+      ) (stands_joined a j f g s _ (reads e (Left j f ∷ s) (omega arith)))
   reads {a = a} (negated {f = f} d) s h = stands_negated a f s _ (reads d (Negation ∷ s) (omega arith))
   reads {a = a} (bracketed {ts = ts} {f = f} d) s h =
       rw (

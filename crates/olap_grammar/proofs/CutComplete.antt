@@ -1,18 +1,15 @@
 -- A line that can be cut is cut into its tokens.
 use Rattle.std.proofs.Common.{◌≡◌, ◌==◌, ℕ, Bool, true, false, arith, List, [], ◌∷◌, ◌++◌, refl, Some, append_assoc, append-nil, ap, ◌∙◌}
-use Rattle.std.specs.List.{fold}
-use Rattle.std.specs.Char.{is_ascii_digit}
+use Rattle.std.specs.{Char.is_ascii_digit, List.fold}
+use Rattle.olap_grammar.proofs.LongestLemmas.{ends_of}
 use Rattle.olap_grammar.specs.Cutting.{is_word_byte, AreWordBytes, EndsWord, mark_bytes, IsMarkIn, Spells, nothing, quote, slash, other, IsCut, end, blank, tabbed, word, quoted, signed, marked}
-use Rattle.olap_grammar.specs.Longest.{EndsDash, EndsLess, EndsMark}
 use Rattle.olap_grammar.specs.CuttingMachine.{Between, InWord, InQuotes, InSigned, Dash, Less, LessDash, cut_step, cut_ended, tokens_of}
-use Rattle.olap_grammar.specs.declared.tokens.Token.{Token}
+use Rattle.olap_grammar.specs.{Longest.{EndsDash, EndsLess, EndsMark}, declared.tokens.Mark.Mark}
+use Rattle.olap_grammar.specs.declared.tokens.{Token.Token, Version.Version}
 use Rattle.olap_grammar.specs.declared.tokens.Token.TheVariants as token
-use Rattle.olap_grammar.specs.declared.tokens.Mark.{Mark}
 use Rattle.olap_grammar.specs.declared.tokens.Mark.TheVariants as mark
 use Rattle.olap_grammar.specs.declared.tokens.Joint.TheVariants as joint
-use Rattle.olap_grammar.specs.declared.tokens.Version.{Version}
 use Rattle.olap_grammar.specs.declared.tokens.Version.TheVariants as version
-use Rattle.olap_grammar.proofs.LongestLemmas.{ends_of}
 
 -- a word goes on
 in_word : (v : Version) (ts : List Token) (w : List ℕ) (b : ℕ) → is_word_byte b ≡ true
@@ -156,19 +153,10 @@ cut_on {v = v} (marked m {bs = bs} {ts = ts} in' ends d) done =
     go : (v : Version) (n : Mark) (bs : List ℕ) → IsMarkIn n v → EndsMark n bs
         → cut_ended v (fold (cut_step v) (Between (done ++ token.Mark n ∷ [])) bs) ≡ Some (done ++ token.Mark n ∷ ts)
         → cut_ended v (fold (cut_step v) (Between done) (mark_bytes n ++ bs)) ≡ Some (done ++ token.Mark n ∷ ts)
-    go v mark.Open bs in' ends h = h
-    go v mark.Close bs in' ends h = h
-    go v mark.Comma bs in' ends h = h
-    go v mark.Colon bs in' ends h = h
-    go v mark.Equal bs in' ends h = h
     go v mark.Less bs in' ends h = less v bs in' ends h
     go v mark.AtMost bs in' ends h = at_most v bs in' h
-    go v mark.Not bs in' ends h = h
     go v (mark.Joint joint.Iff) bs in' ends h = h
-    go v (mark.Joint joint.Implies) bs in' ends h = h
-    go v (mark.Joint joint.Xor) bs in' ends h = h
-    go v (mark.Joint joint.Or) bs in' ends h = h
-    go v (mark.Joint joint.And) bs in' ends h = h
+    go v n bs in' ends h = h
 
 -- a line that can be cut is cut into its tokens
 pub cut_is_found : (v : Version) (line : List ℕ) (ts : List Token) → IsCut v line ts → tokens_of v line ≡ Some ts

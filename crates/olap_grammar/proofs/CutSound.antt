@@ -1,22 +1,17 @@
 -- A line is cut into the tokens that are found.
 use Rattle.std.proofs.Common.{◌≡◌, ◌==◌, ◌⊎◌, ◌&&◌, inl, inr, ℕ, Bool, true, false, List, [], ◌∷◌, ◌++◌, refl, sym, ◌∙◌, Option, Some, None, append_assoc, append-nil, if◌then◌else◌}
-use Rattle.std.specs.List.{fold}
-use Rattle.std.specs.Char.{is_ascii_digit}
+use Rattle.std.{proofs.lemmas.Bool.eqb-true, specs.Char.is_ascii_digit, specs.List.fold}
 use Rattle.olap_base.proofs.ListLemmas.{first_true, second_true}
-use Rattle.olap_grammar.specs.Cutting.{is_word_byte, AreWordBytes, EndsWord, mark_bytes, IsMarkIn, Spells, nothing, quote, slash, other, IsCut, end, blank, tabbed, word, quoted, signed}
-use Rattle.olap_grammar.specs.Longest.{EndsMark}
-use Rattle.olap_grammar.specs.CuttingMachine as machine
-use Rattle.olap_grammar.specs.Cutting.{has_numbers}
+use Rattle.olap_grammar.proofs.LongestLemmas.{cut_mark}
+use Rattle.olap_grammar.specs.Cutting.{is_word_byte, AreWordBytes, EndsWord, mark_bytes, IsMarkIn, Spells, nothing, quote, slash, other, IsCut, end, blank, tabbed, word, quoted, signed, has_numbers}
 use Rattle.olap_grammar.specs.CuttingMachine.{Cut, Between, InWord, InQuotes, Escaped, InSigned, Dash, Less, LessDash, Stuck, after_dash, after_less, between, mark_of, cut_step, cut_ended, tokens_of}
-use Rattle.olap_grammar.specs.declared.tokens.Token.{Token}
+use Rattle.olap_grammar.specs.{Longest.EndsMark, declared.tokens.Mark.Mark, declared.tokens.Token.Token}
+use Rattle.olap_grammar.specs.declared.tokens.Version.{Version}
+use Rattle.olap_grammar.specs.CuttingMachine as machine
 use Rattle.olap_grammar.specs.declared.tokens.Token.TheVariants as token
-use Rattle.olap_grammar.specs.declared.tokens.Mark.{Mark}
 use Rattle.olap_grammar.specs.declared.tokens.Mark.TheVariants as mark
 use Rattle.olap_grammar.specs.declared.tokens.Joint.TheVariants as joint
-use Rattle.olap_grammar.specs.declared.tokens.Version.{Version}
 use Rattle.olap_grammar.specs.declared.tokens.Version.TheVariants as version
-use Rattle.olap_grammar.proofs.LongestLemmas.{cut_mark}
-use Rattle.std.proofs.lemmas.Bool.{eqb-true}
 
 -- the tokens before, and the rest of the line is cut into the tokens after them
 pub record Follows (v : Version) (done : List Token) (bs : List ℕ) (all : List Token) : Type 0 where
@@ -329,12 +324,8 @@ ended_gives : (v : Version) (s : Cut) (all : List Token) → cut_ended v s ≡ S
 ended_gives v (Between ts) all h = record { later = []; whole = rw append-nil cc; cut = end }
 ended_gives v (InWord ts w) all h = run_ended v (λ w. token.Word w) ts w all cc
 ended_gives v (InSigned ts w) all h = run_ended v (λ w. token.Signed w) ts w all cc
-ended_gives v (InQuotes ts k) all h = absurd cc
-ended_gives v (Escaped ts k) all h = absurd cc
-ended_gives v (Dash ts) all h = absurd cc
 ended_gives v (Less ts) all h = less_ended v ts all (has_numbers v) refl h
-ended_gives v (LessDash ts) all h = absurd cc
-ended_gives v Stuck all h = absurd cc
+ended_gives v s all h = absurd cc
 
 -- so what the machine finds is a cut
 run_gives : (v : Version) (s : Cut) (bs : List ℕ) (all : List Token)

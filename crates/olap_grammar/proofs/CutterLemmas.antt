@@ -1,17 +1,11 @@
 -- From the cutter to tokens.
-use Rattle.std.proofs.Common.{◌≡◌, ℕ, List, [], ◌∷◌, refl, Some}
-use Rattle.std.specs.List.{fold}
-use Rattle.olap_grammar.specs.Cutting.{IsCut}
+use Rattle.std.{proofs.Common.{◌≡◌, ℕ, List, [], ◌∷◌, refl, Some}, specs.List.fold}
+use Rattle.olap_grammar.{proofs.CutComplete.cut_is_found, specs.Cutter.FailsWith, specs.Cutting.IsCut}
 use Rattle.olap_grammar.specs.CuttingMachine.{tokens_of}
 use Rattle.olap_grammar.specs.Keeping.{Between, Going, Kept, Stuck, kept_step, kept_tokens, nothing_kept}
-use Rattle.olap_grammar.specs.Cutter.{FailsWith}
-use Rattle.olap_grammar.specs.declared.tokens.Token.{Token}
-use Rattle.olap_grammar.specs.declared.tokens.Version.{Version}
-use Rattle.olap_base.specs.Refusing.{IsFor}
-use Rattle.olap_base.specs.declared.refusals.Refusal.{Refusal}
+use Rattle.olap_grammar.specs.declared.{refusals.NoTokens.NoTokens, tokens.Token.Token, tokens.Version.Version}
+use Rattle.olap_base.specs.{Refusing.IsFor, declared.refusals.Refusal.Refusal}
 use Rattle.olap_base.specs.declared.refusals.Refusal.TheVariants as refusal
-use Rattle.olap_grammar.specs.declared.refusals.NoTokens.{NoTokens}
-use Rattle.olap_grammar.proofs.CutComplete.{cut_is_found}
 
 -- a machine that is stuck stays so
 stays_stuck : (v : Version) (bs : List ℕ) → fold (kept_step v) Stuck bs ≡ Stuck

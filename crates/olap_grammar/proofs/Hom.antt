@@ -1,19 +1,15 @@
 -- What keeps the operations keeps what is read.
 use Rattle.std.proofs.Common.{◌≡◌, ◌+◌, ◌≤◌, ◌<◌, ℕ, suc, Bool, true, false, List, [], ◌∷◌, refl, sym, ap, ◌∙◌, Option, Some, None, cond, nat_le, max, arith, option_and_then}
-use Rattle.std.specs.Option.{option_map}
-use Rattle.std.specs.List.{fold}
-use Rattle.olap_grammar.specs.Forms as shapes
-use Rattle.olap_grammar.specs.Forms.{Form, Forms}
+use Rattle.std.specs.{List.fold, Option.option_map}
+use Rattle.olap_grammar.specs.Clip.{AreLeaves, clip, clip_terms, clipped, kept, kept_terms, leaves}
+use Rattle.olap_grammar.specs.{Forms.{Form, Forms, depth_of, depth_of_all}, Grammar.{Atoms, level, left_level}}
+use Rattle.olap_grammar.specs.Machine.{the_formula, trees, Making, Frame, Negation, Left, Bracket, Listing, Part, State, Wants, WantsPart, Named, Compared, Has, Bad, settled, list_closed, closed, parted, after, begun, begun_part, is_one, after_atom, after_word, has_atom, after_compared, step, alone, ended, formula_read}
+use Rattle.olap_grammar.specs.declared.tokens.{Joint.Joint, Token.Token}
 use Rattle.olap_base.specs.Limits.{most_depth}
 use Rattle.olap_numerals.specs.Comparing.{Op}
-use Rattle.olap_grammar.specs.Grammar.{Atoms, level, left_level}
-use Rattle.olap_grammar.specs.Forms.{depth_of, depth_of_all}
-use Rattle.olap_grammar.specs.declared.tokens.Token.{Token}
+use Rattle.olap_grammar.specs.Forms as shapes
 use Rattle.olap_grammar.specs.declared.tokens.Token.TheVariants as token
 use Rattle.olap_grammar.specs.declared.tokens.Mark.TheVariants as mark
-use Rattle.olap_grammar.specs.declared.tokens.Joint.{Joint}
-use Rattle.olap_grammar.specs.Machine.{the_formula, trees, Making, Frame, Negation, Left, Bracket, Listing, Part, State, Wants, WantsPart, Named, Compared, Has, Bad, settled, list_closed, closed, parted, after, begun, begun_part, is_one, after_atom, after_word, has_atom, after_compared, step, alone, ended, formula_read}
-use Rattle.olap_grammar.specs.Clip.{AreLeaves, clip, clip_terms, clipped, kept, kept_terms, leaves}
 
 -- what is put together in one way leads to what is in the other
 pub record Keeps {A B L M : Type 0} (m : Making A L) (n : Making B M) (h : A → B) (k : L → M) : Type 0 where
@@ -58,7 +54,6 @@ both h (f, s) = (h f, frames h s)
 module _ {A B L M : Type 0} (m : Making A L) (n : Making B M) (h : A → B) (k : L → M) (e : Keeps m n h k)
     (a : Atoms A) (b : Atoms B) (u : KeepsAtoms a b h) where
   settles : (i : ℕ) (f : A) (s : List (Frame A)) → settled n i (h f) (frames h s) ≡ both h (settled m i f s)
-  settles i f [] = refl
   settles i f (Negation ∷ s) = ap (λ x. settled n i x (frames h s)) (e.negate f) ∙ settles i (m.negate f) s
   settles i f (Left j g ∷ s) =
       go (nat_le i (level j)) (ap (λ x. settled n i x (frames h s)) (e.join j g f) ∙ settles i (m.join j g f) s)
@@ -68,17 +63,12 @@ module _ {A B L M : Type 0} (m : Making A L) (n : Making B M) (h : A → B) (k :
           ≡ both h (cond t (settled m i (m.join j g f) s) (f, Left j g ∷ s))
       go true q = q
       go false q = refl
-  settles i f (Bracket ∷ s) = refl
-  settles i f (Listing ∷ s) = refl
-  settles i f (Part g ∷ s) = refl
+  settles i f s = refl
 
   list_closes : (l : L) (s : List (Frame A)) → list_closed n (k l) (frames h s) ≡ state h (list_closed m l s)
-  list_closes l [] = refl
-  list_closes l (Negation ∷ s) = refl
-  list_closes l (Left j g ∷ s) = refl
-  list_closes l (Bracket ∷ s) = refl
   list_closes l (Listing ∷ s) = ap (λ x. Has x (frames h s)) (e.one l)
   list_closes l (Part f ∷ s) = ap (λ x. list_closed n x (frames h s)) (e.more f l) ∙ list_closes (m.more f l) s
+  list_closes l s = refl
 
   first_part : (f : A) → n.more (h f) n.end ≡ k (m.more f m.end)
   first_part f = ap (λ x. n.more (h f) x) e.end ∙ e.more f m.end
@@ -96,10 +86,7 @@ module _ {A B L M : Type 0} (m : Making A L) (n : Making B M) (h : A → B) (k :
   parts : (r : A × List (Frame A)) → parted (both h r).0 (both h r).1 ≡ state h (parted r.0 r.1)
   parts (f, []) = refl
   parts (f, Negation ∷ s) = refl
-  parts (f, Left j g ∷ s) = refl
-  parts (f, Bracket ∷ s) = refl
-  parts (f, Listing ∷ s) = refl
-  parts (f, Part g ∷ s) = refl
+  parts r = refl
 
   lefts : (j : Joint) (r : A × List (Frame A)) → Wants (Left j (both h r).0 ∷ (both h r).1)
       ≡ state h (Wants (Left j r.0 ∷ r.1))
@@ -113,43 +100,15 @@ module _ {A B L M : Type 0} (m : Making A L) (n : Making B M) (h : A → B) (k :
       ∙ closes (settled m 1 f s)
   afters f s (token.Mark mark.Comma) = ap (λ (r : B × List (Frame B)). parted r.0 r.1) (settles 1 f s)
       ∙ parts (settled m 1 f s)
-  afters f s (token.Word w) = refl
-  afters f s (token.Quoted t) = refl
-  afters f s (token.Signed w) = refl
-  afters f s (token.Mark mark.Open) = refl
-  afters f s (token.Mark mark.Colon) = refl
-  afters f s (token.Mark mark.Equal) = refl
-  afters f s (token.Mark mark.Less) = refl
-  afters f s (token.Mark mark.AtMost) = refl
-  afters f s (token.Mark mark.Not) = refl
+  afters f s t = refl
 
   begins : (s : List (Frame A)) (t : Token) → begun (frames h s) t ≡ state h (begun s t)
-  begins s (token.Word w) = refl
-  begins s (token.Quoted t) = refl
-  begins s (token.Signed w) = refl
   begins s (token.Mark mark.Open) = refl
-  begins s (token.Mark mark.Close) = refl
-  begins s (token.Mark mark.Comma) = refl
-  begins s (token.Mark mark.Colon) = refl
-  begins s (token.Mark mark.Equal) = refl
-  begins s (token.Mark mark.Less) = refl
-  begins s (token.Mark mark.AtMost) = refl
-  begins s (token.Mark mark.Not) = refl
-  begins s (token.Mark (mark.Joint j)) = refl
+  begins s t = refl
 
   begins_part : (s : List (Frame A)) (t : Token) → begun_part n (frames h s) t ≡ state h (begun_part m s t)
   begins_part s (token.Mark mark.Close) = ap (λ x. Has x (frames h s)) (ap n.one e.end ∙ e.one m.end)
-  begins_part s (token.Word w) = refl
-  begins_part s (token.Quoted t) = refl
-  begins_part s (token.Signed w) = refl
-  begins_part s (token.Mark mark.Open) = refl
-  begins_part s (token.Mark mark.Comma) = refl
-  begins_part s (token.Mark mark.Colon) = refl
-  begins_part s (token.Mark mark.Equal) = refl
-  begins_part s (token.Mark mark.Less) = refl
-  begins_part s (token.Mark mark.AtMost) = refl
-  begins_part s (token.Mark mark.Not) = refl
-  begins_part s (token.Mark (mark.Joint j)) = refl
+  begins_part s t = refl
 
   atoms : (o : Option A) (s : List (Frame A)) (t : Token)
       → after_atom n (option_map h o) (frames h s) t ≡ state h (after_atom m o s t)
@@ -170,14 +129,7 @@ module _ {A B L M : Type 0} (m : Making A L) (n : Making B M) (h : A → B) (k :
   words w s (token.Mark mark.Equal) = refl
   words w s (token.Mark mark.Less) = refl
   words w s (token.Mark mark.AtMost) = refl
-  words w s (token.Mark (mark.Joint j)) = word_atoms w s (token.Mark (mark.Joint j))
-  words w s (token.Mark mark.Close) = word_atoms w s (token.Mark mark.Close)
-  words w s (token.Mark mark.Comma) = word_atoms w s (token.Mark mark.Comma)
-  words w s (token.Mark mark.Colon) = word_atoms w s (token.Mark mark.Colon)
-  words w s (token.Mark mark.Not) = word_atoms w s (token.Mark mark.Not)
-  words w s (token.Word v) = word_atoms w s (token.Word v)
-  words w s (token.Quoted t) = word_atoms w s (token.Quoted t)
-  words w s (token.Signed v) = word_atoms w s (token.Signed v)
+  words w s t = word_atoms w s t
 
   has_atoms : (o : Option A) (s : List (Frame A)) → has_atom (option_map h o) (frames h s) ≡ state h (has_atom o s)
   has_atoms None s = refl
@@ -190,17 +142,9 @@ module _ {A B L M : Type 0} (m : Making A L) (n : Making B M) (h : A → B) (k :
   compares : (w : List ℕ) (op : Op) (s : List (Frame A)) (t : Token)
       → after_compared b w op (frames h s) t ≡ state h (after_compared a w op s t)
   compares w Op.Equal s (token.Quoted t) = ap (λ o. has_atom o (frames h s)) (u.equal w t) ∙ has_atoms (a.equal w t) s
-  compares w Op.Equal s (token.Word v) = numbers w Op.Equal s v
-  compares w Op.Equal s (token.Signed v) = numbers w Op.Equal s v
-  compares w Op.Equal s (token.Mark m) = refl
-  compares w Op.Less s (token.Quoted t) = refl
-  compares w Op.Less s (token.Word v) = numbers w Op.Less s v
-  compares w Op.Less s (token.Signed v) = numbers w Op.Less s v
-  compares w Op.Less s (token.Mark m) = refl
-  compares w Op.AtMost s (token.Quoted t) = refl
-  compares w Op.AtMost s (token.Word v) = numbers w Op.AtMost s v
-  compares w Op.AtMost s (token.Signed v) = numbers w Op.AtMost s v
-  compares w Op.AtMost s (token.Mark m) = refl
+  compares w op s (token.Word v) = numbers w op s v
+  compares w op s (token.Signed v) = numbers w op s v
+  compares w op s t = refl
 
   steps : (st : State A) (t : Token) → step n b (state h st) t ≡ state h (step m a st t)
   steps (Wants s) t = begins s t
@@ -231,10 +175,7 @@ module _ {A B L M : Type 0} (m : Making A L) (n : Making B M) (h : A → B) (k :
   ends (Has f s) = ends_has f s
   ends (Named w s) = ap (λ o. option_and_then (λ f. alone (settled n 1 f (frames h s))) o) (u.plain w)
       ∙ ends_atom (a.plain w) s
-  ends (Wants s) = refl
-  ends (WantsPart s) = refl
-  ends (Compared w op s) = refl
-  ends Bad = refl
+  ends st = refl
 
   -- what keeps the operations keeps what is read
   pub reads_along : (ts : List Token) → formula_read n b ts ≡ option_map h (formula_read m a ts)

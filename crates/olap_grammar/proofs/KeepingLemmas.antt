@@ -1,31 +1,20 @@
 -- The cutter that keeps the first tokens, against the one that keeps all.
 --     kept-is     it keeps of a line what is kept of its tokens
 use Rattle.std.proofs.Common.{◌≡◌, ◌≤◌, ◌<◌, ◌==◌, ◌++◌, ◌∷◌, ◌∙◌, ◌&&◌, if◌then◌else◌, Bool, true, false, ℕ, List, [], cond, length, nat_lt, Option, Some, None, refl, sym, ap, subst, arith, append_assoc, append-nil}
-use Rattle.std.specs.List.{fold}
-use Rattle.std.specs.Option.{option_map}
-use Rattle.std.proofs.lemmas.Bool.{ltb-false, ltb-true}
-use Rattle.std.proofs.lemmas.List.{length-append}
-use Rattle.std.proofs.lemmas.List.Sums.{fold-append}
-use Rattle.olap_grammar.specs.Cutter.{FailsWith}
-use Rattle.olap_grammar.specs.Cutting.{is_word_byte}
-use Rattle.olap_grammar.specs.CuttingMachine as machine
-use Rattle.std.specs.Char.{is_ascii_digit}
-use Rattle.olap_grammar.specs.Cutting.{has_numbers}
+use Rattle.std.proofs.lemmas.{Bool.{ltb-false, ltb-true}, List.length-append, List.Sums.fold-append}
+use Rattle.std.specs.{Char.is_ascii_digit, List.fold, Option.option_map}
+use Rattle.olap_grammar.{proofs.TallyLemmas.tally_is, specs.Cutter.FailsWith, specs.Cutting.{is_word_byte, has_numbers}}
 use Rattle.olap_grammar.specs.CuttingMachine.{Cut, mark_of, tokens_of}
-use Rattle.olap_grammar.specs.Keeping as keeping
 use Rattle.olap_grammar.specs.Keeping.{Begins, BeginsFound, Going, IsTallyOf, Kept, keep, kept_tokens, nothing_kept}
-use Rattle.olap_grammar.specs.Tallying.{tallied}
-use Rattle.olap_grammar.specs.declared.tallying.Tally.{Tally}
+use Rattle.olap_grammar.specs.{Tallying.tallied, declared.refusals.NoTokens.NoTokens, declared.tallying.Tally.Tally}
+use Rattle.olap_grammar.specs.declared.tokens.{Mark.Mark, Token.Token, Version.Version}
 use Rattle.olap_base.specs.declared.refusals.Refusal.{Refusal}
+use Rattle.olap_grammar.specs.CuttingMachine as machine
+use Rattle.olap_grammar.specs.Keeping as keeping
 use Rattle.olap_base.specs.declared.refusals.Refusal.TheVariants as refusal
-use Rattle.olap_grammar.specs.declared.refusals.NoTokens.{NoTokens}
-use Rattle.olap_grammar.specs.declared.tokens.Token.{Token}
 use Rattle.olap_grammar.specs.declared.tokens.Token.TheVariants as token
-use Rattle.olap_grammar.specs.declared.tokens.Mark.{Mark}
 use Rattle.olap_grammar.specs.declared.tokens.Mark.TheVariants as mark
 use Rattle.olap_grammar.specs.declared.tokens.Joint.TheVariants as joint
-use Rattle.olap_grammar.specs.declared.tokens.Version.{Version}
-use Rattle.olap_grammar.proofs.TallyLemmas.{tally_is}
 
 -- ---- what is kept of a line
 
@@ -115,15 +104,10 @@ module _ (v : Version) (most : ℕ) where
   less-ended false ts = refl
 
   ended-seen : (c : Cut) → keeping.kept_ended v (seen c) ≡ option_map summary (machine.cut_ended v c)
-  ended-seen (machine.Between ts) = refl
   ended-seen (machine.InSigned ts w) = ap Some (sym (pushed ts (token.Signed w)))
   ended-seen (machine.InWord ts w) = ap Some (sym (pushed ts (token.Word w)))
-  ended-seen (machine.InQuotes ts k) = refl
-  ended-seen (machine.Escaped ts k) = refl
-  ended-seen (machine.Dash ts) = refl
   ended-seen (machine.Less ts) = less-ended (has_numbers v) ts
-  ended-seen (machine.LessDash ts) = refl
-  ended-seen machine.Stuck = refl
+  ended-seen c = refl
 
   pub kept-is : (line : List ℕ) → kept_tokens v most line ≡ option_map summary (tokens_of v line)
   unfolding kept_tokens tokens_of
@@ -190,8 +174,7 @@ begins-more v k done t h = go (nat_lt (length k.first) k.most) refl
 begins-on : (v : Version) (ts done : List Token) (k : Kept) → Keeps k done → Keeps (fold (keep v) k ts) (done ++ ts)
 begins-on v [] done k h = subst (Keeps k) (sym (append-nil done)) h
 begins-on v (t ∷ ts) done k h =
-    subst (Keeps (fold (keep v) (keep v k t) ts)) (append_assoc done (t ∷ []) ts)
-    (begins-on v ts (done ++ t ∷ []) (keep v k t) (begins-more v k done t h))
+    rw (append_assoc done (t ∷ []) ts) at (begins-on v ts (done ++ t ∷ []) (keep v k t) (begins-more v k done t h))
 
 -- what is kept of tokens is a beginning of them
 pub begins : (v : Version) (most : ℕ) (ts : List Token) → Begins v (summary v most ts) ts

@@ -2,16 +2,12 @@
 use Rattle.std.proofs.Common.{◌≡◌, ◌≤◌, ◌<◌, ℕ, suc, Bool, true, false, cond, refl, sym, ap, ◌∙◌, Option, Some, None, Ok, Err, nat_le, arith}
 use Rattle.std.specs.Option.{option_map}
 use Rattle.olap_base.specs.Limits.{most_depth}
+use Rattle.olap_grammar.specs.{Answering.formula_answer, Clip.{AreLeaves, clip}, Forms.{Atom, Form, depth_of}}
+use Rattle.olap_grammar.specs.{Reader.{Built, ReadsNone}, Words.{atoms_of, compare_of, equal_of, plain_of}}
+use Rattle.olap_grammar.specs.declared.{refusals.NoFormula.NoFormula, tokens.Version.Version}
 use Rattle.olap_base.specs.declared.refusals.Refusal.TheVariants as refusal
-use Rattle.olap_grammar.specs.Answering.{formula_answer}
-use Rattle.olap_grammar.specs.Clip.{AreLeaves, clip}
 use Rattle.olap_grammar.specs.Forms as words
-use Rattle.olap_grammar.specs.Forms.{Atom, Form, depth_of}
-use Rattle.olap_grammar.specs.Reader.{Built, ReadsNone}
-use Rattle.olap_grammar.specs.Words.{atoms_of, compare_of, equal_of, plain_of}
 use Rattle.olap_grammar.specs.declared.refusals.FormFault.TheVariants as fault
-use Rattle.olap_grammar.specs.declared.refusals.NoFormula.{NoFormula}
-use Rattle.olap_grammar.specs.declared.tokens.Version.{Version}
 
 -- what a word says has depth 1
 one_level : (o : Option Atom) (f : Form) → option_map words.Form.Of o ≡ Some f → depth_of f ≡ 1

@@ -1,8 +1,7 @@
 -- What the table of levels says.
 use Rattle.std.proofs.Common.{◌≤◌, ◌<◌, ◌+◌, arith, lit≤, lit<}
-use Rattle.olap_grammar.specs.declared.tokens.Joint.{Joint}
+use Rattle.olap_grammar.specs.{Grammar.{level, left_level, right_level}, declared.tokens.Joint.Joint}
 use Rattle.olap_grammar.specs.declared.tokens.Joint.TheVariants as joint
-use Rattle.olap_grammar.specs.Grammar.{level, left_level, right_level}
 
 -- what the levels of a connective and of its sides satisfy
 pub record IsRow (j : Joint) : Type 0 where
@@ -28,40 +27,7 @@ row joint.Iff =
       right_most = lit≤ tt;
       sides = lit≤ tt;
     }
-row joint.Implies =
-    record {
-      some = lit≤ tt;
-      most = lit≤ tt;
-      left_above = lit≤ tt;
-      left_most = lit≤ tt;
-      right_above = lit≤ tt;
-      right_below = lit≤ tt;
-      right_most = lit≤ tt;
-      sides = lit≤ tt;
-    }
-row joint.Xor =
-    record {
-      some = lit≤ tt;
-      most = lit≤ tt;
-      left_above = lit≤ tt;
-      left_most = lit≤ tt;
-      right_above = lit≤ tt;
-      right_below = lit≤ tt;
-      right_most = lit≤ tt;
-      sides = lit≤ tt;
-    }
-row joint.Or =
-    record {
-      some = lit≤ tt;
-      most = lit≤ tt;
-      left_above = lit≤ tt;
-      left_most = lit≤ tt;
-      right_above = lit≤ tt;
-      right_below = lit≤ tt;
-      right_most = lit≤ tt;
-      sides = lit≤ tt;
-    }
-row joint.And =
+row j =
     record {
       some = lit≤ tt;
       most = lit≤ tt;
@@ -76,16 +42,9 @@ row joint.And =
 -- a mark that takes what stands to its left closes no mark that would not let it stand
 pub apart : (i j : Joint) → right_level i ≤ level j → level i < left_level j
 apart joint.Iff joint.Iff h = absurd (omega arith)
-apart joint.Iff joint.Implies h = lit< tt
-apart joint.Iff joint.Xor h = lit< tt
-apart joint.Iff joint.Or h = lit< tt
-apart joint.Iff joint.And h = lit< tt
 apart joint.Implies joint.Iff h = absurd (omega arith)
-apart joint.Implies joint.Implies h = lit< tt
-apart joint.Implies joint.Xor h = lit< tt
-apart joint.Implies joint.Or h = lit< tt
-apart joint.Implies joint.And h = lit< tt
 apart joint.Xor joint.Implies h = absurd (omega arith)
 apart joint.Xor j h = let r : IsRow j = row j in omega arith
 apart joint.Or j h = omega (arith, (row j).left_above)
 apart joint.And j h = omega (arith, (row j).left_above)
+apart i j h = lit< tt

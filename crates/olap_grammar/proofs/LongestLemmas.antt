@@ -1,15 +1,13 @@
 -- The longest mark is the one after which none goes on.
-use Rattle.std.proofs.Common.{◌≡◌, ◌==◌, ◌≤◌, ℕ, Bool, true, false, List, [], ◌∷◌, ◌++◌, length, drop, get_or, refl, sym, ap, subst, arith}
+use Rattle.std.proofs.Common.{◌≡◌, ◌==◌, ◌≤◌, ℕ, true, false, List, [], ◌∷◌, ◌++◌, length, drop, get_or, sym, ap, subst, arith}
+use Rattle.std.proofs.lemmas.Bool.{eqb-true, false_from_ne_true}
 use Rattle.olap_grammar.specs.Cutting.{IsCut, IsLongest, IsMarkIn, mark_bytes, marked}
-use Rattle.olap_grammar.specs.Longest.{EndsDash, EndsLess, EndsMark}
-use Rattle.olap_grammar.specs.declared.tokens.Token.{Token}
+use Rattle.olap_grammar.specs.{Longest.{EndsDash, EndsLess, EndsMark}, declared.tokens.Mark.Mark}
+use Rattle.olap_grammar.specs.declared.tokens.{Token.Token, Version.Version}
 use Rattle.olap_grammar.specs.declared.tokens.Token.TheVariants as token
-use Rattle.olap_grammar.specs.declared.tokens.Mark.{Mark}
 use Rattle.olap_grammar.specs.declared.tokens.Mark.TheVariants as mark
 use Rattle.olap_grammar.specs.declared.tokens.Joint.TheVariants as joint
-use Rattle.olap_grammar.specs.declared.tokens.Version.{Version}
 use Rattle.olap_grammar.specs.declared.tokens.Version.TheVariants as version
-use Rattle.std.proofs.lemmas.Bool.{eqb-true}
 
 -- the byte at a place
 abbrev byte_at : ℕ → List ℕ → ℕ
@@ -17,19 +15,8 @@ byte_at k bs = get_or bs k 0
 
 -- a mark has a byte
 some_byte : (m : Mark) → 1 ≤ length (mark_bytes m)
-some_byte mark.Open = omega arith
-some_byte mark.Close = omega arith
-some_byte mark.Comma = omega arith
-some_byte mark.Colon = omega arith
-some_byte mark.Equal = omega arith
-some_byte mark.Less = omega arith
-some_byte mark.AtMost = omega arith
-some_byte mark.Not = omega arith
 some_byte (mark.Joint joint.Iff) = omega arith
-some_byte (mark.Joint joint.Implies) = omega arith
-some_byte (mark.Joint joint.Xor) = omega arith
-some_byte (mark.Joint joint.Or) = omega arith
-some_byte (mark.Joint joint.And) = omega arith
+some_byte m = omega arith
 
 -- no `<=` begins there, where none goes on
 no_at_most : (m : Mark) (bs rest : List ℕ) → EndsMark m bs → 60 ∷ 61 ∷ rest ≡ mark_bytes m ++ bs
@@ -69,24 +56,19 @@ longest v m bs h n rest k e = some_byte m
 -- after `<` no arrow begins with a `-`
 ends_dash : (v : Version) (b : ℕ) (bs : List ℕ) → IsLongest v mark.Less (b ∷ bs) → b ≡ 45 → EndsDash bs
 ends_dash v b [] h s = tt
-ends_dash v b (c ∷ bs) h s = go (c == 62) refl
-  where
-    go : (t : Bool) → c == 62 ≡ t → c == 62 ≡ false
-    go false e = e
-    go true e =
-        let u : c ≡ 62 = eqb-true c 62 e in
-        let f : 3 ≤ 1 = h (mark.Joint joint.Iff) bs tt (λ i. 60 ∷ sym s i ∷ sym u i ∷ bs) in absurd (omega (arith, f))
+ends_dash v b (c ∷ bs) h s = false_from_ne_true (c == 62) (λ e.
+    let u : c ≡ 62 = eqb-true c 62 e in
+    let f : 3 ≤ 1 = h (mark.Joint joint.Iff) bs tt (λ i. 60 ∷ sym s i ∷ sym u i ∷ bs) in omega (arith, f))
 
 -- nor `<=`
 ends_less : (v : Version) (bs : List ℕ) → v ≡ version.Two → IsLongest v mark.Less bs → EndsLess bs
 ends_less v [] k h = tt
-ends_less v (b ∷ bs) k h = (go (b == 61) refl, λ e. ends_dash v b bs h (eqb-true b 45 e))
-  where
-    go : (t : Bool) → b == 61 ≡ t → b == 61 ≡ false
-    go false e = e
-    go true e =
-        let u : b ≡ 61 = eqb-true b 61 e in
-        let f : 2 ≤ 1 = h mark.AtMost bs k (λ i. 60 ∷ sym u i ∷ bs) in absurd (omega (arith, f))
+ends_less v (b ∷ bs) k h = (
+  false_from_ne_true (b == 61) (λ e.
+      let u : b ≡ 61 = eqb-true b 61 e in
+      let f : 2 ≤ 1 = h mark.AtMost bs k (λ i. 60 ∷ sym u i ∷ bs) in omega (arith, f)),
+  λ e. ends_dash v b bs h (eqb-true b 45 e),
+)
 
 -- none goes on where no longer one begins
 pub ends_of : (v : Version) (m : Mark) (bs : List ℕ) → IsMarkIn m v → IsLongest v m bs → EndsMark m bs

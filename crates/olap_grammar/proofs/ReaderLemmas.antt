@@ -1,18 +1,11 @@
 -- From the reader to formulas.
-use Rattle.std.proofs.Common.{◌≡◌, List, [], ◌∷◌, refl, Some}
-use Rattle.std.specs.List.{fold}
-use Rattle.olap_grammar.specs.Forms.{Form}
-use Rattle.olap_grammar.specs.Clip.{clipped}
-use Rattle.olap_grammar.specs.Grammar.{Atoms, IsFormula}
-use Rattle.olap_grammar.specs.Machine.{State, Bad, step, ended, the_formula}
-use Rattle.olap_grammar.specs.Reader.{Built, ReadsNone}
+use Rattle.std.{proofs.Common.{◌≡◌, List, [], ◌∷◌, refl, Some}, specs.List.fold}
+use Rattle.olap_grammar.{proofs.Complete.formula_is_read, proofs.Sound.read_is_formula, specs.Clip.clipped}
+use Rattle.olap_grammar.specs.{Forms.Form, Grammar.{Atoms, IsFormula}, Machine.{State, Bad, step, ended, the_formula}}
+use Rattle.olap_grammar.specs.{Reader.{Built, ReadsNone}, declared.refusals.NoFormula.NoFormula}
 use Rattle.olap_grammar.specs.declared.tokens.Token.{Token}
-use Rattle.olap_base.specs.Refusing.{IsFor}
-use Rattle.olap_base.specs.declared.refusals.Refusal.{Refusal}
+use Rattle.olap_base.specs.{Refusing.IsFor, declared.refusals.Refusal.Refusal}
 use Rattle.olap_base.specs.declared.refusals.Refusal.TheVariants as refusal
-use Rattle.olap_grammar.specs.declared.refusals.NoFormula.{NoFormula}
-use Rattle.olap_grammar.proofs.Complete.{formula_is_read}
-use Rattle.olap_grammar.proofs.Sound.{read_is_formula}
 
 -- a formula is found
 pub formula_is_found : (a : Atoms Form) (ts : List Token) (f : Form) → IsFormula a 1 ts f

@@ -1,22 +1,16 @@
 -- Brackets of a line: no more than its bytes.
 use Rattle.std.proofs.Common.{◌≡◌, ◌≤◌, ◌+◌, ◌&&◌, ◌∷◌, ◌++◌, ◌∙◌, ap, cond, ℕ, suc, Bool, true, false, not, nat_lt, List, [], Option, Some, None, refl, arith, length}
-use Rattle.std.specs.Prelude.{◌==◌}
-use Rattle.std.specs.Char.{is_ascii_digit}
+use Rattle.std.specs.{Char.is_ascii_digit, Prelude.◌==◌}
 use Rattle.olap_base.specs.Bytes.{backslash, equals_sign, greater_than_sign, hyphen, less_than_sign, quotation_mark, space, tab}
-use Rattle.olap_grammar.specs.Cutter.{cut_of}
-use Rattle.olap_grammar.specs.Cutting.{has_numbers, is_word_byte}
-use Rattle.olap_grammar.specs.CuttingMachine.{mark_of}
+use Rattle.olap_grammar.specs.{Cutter.cut_of, Cutting.{has_numbers, is_word_byte}, CuttingMachine.mark_of}
 use Rattle.olap_grammar.specs.Keeping.{Going, Kept, after_dash, after_less, between, keep, kept_step, marked}
-use Rattle.olap_grammar.specs.Tallying.{brackets, counted, tallied}
-use Rattle.olap_grammar.specs.declared.cutting.Begun.{Begun}
-use Rattle.olap_grammar.specs.declared.cutting.Begun.TheVariants as begun
-use Rattle.olap_grammar.specs.declared.tallying.Tally.{Tally}
-use Rattle.olap_grammar.specs.declared.tokens.Joint.TheVariants as joint
-use Rattle.olap_grammar.specs.declared.tokens.Mark.{Mark}
-use Rattle.olap_grammar.specs.declared.tokens.Mark.TheVariants as mark
-use Rattle.olap_grammar.specs.declared.tokens.Token.{Token}
-use Rattle.olap_grammar.specs.declared.tokens.Token.TheVariants as token
+use Rattle.olap_grammar.specs.{Tallying.{brackets, counted, tallied}, declared.cutting.Begun.Begun}
+use Rattle.olap_grammar.specs.declared.{tallying.Tally.Tally, tokens.Mark.Mark, tokens.Token.Token}
 use Rattle.olap_grammar.specs.declared.tokens.Version.{Version}
+use Rattle.olap_grammar.specs.declared.cutting.Begun.TheVariants as begun
+use Rattle.olap_grammar.specs.declared.tokens.Joint.TheVariants as joint
+use Rattle.olap_grammar.specs.declared.tokens.Mark.TheVariants as mark
+use Rattle.olap_grammar.specs.declared.tokens.Token.TheVariants as token
 
 -- a node more is no bracket
 unchanged : (y : Tally) (b : Bool) → brackets (cond b (record y { nodes = counted y.nodes }) y) ≡ brackets y
@@ -43,17 +37,11 @@ none y false = omega arith
 -- so is any
 one_more : (v : Version) (y : Tally) (t : Token) → brackets (tallied v y t) ≤ suc (brackets y)
 one_more v y (token.Word w) = none y (not y.is_compared && true)
-one_more v y (token.Quoted w) = none y (not y.is_compared && false)
-one_more v y (token.Signed w) = none y (not y.is_compared && false)
 one_more v y (token.Mark mark.Open) = omega arith
 one_more v y (token.Mark mark.Close) = omega arith
-one_more v y (token.Mark mark.Comma) = none y (not y.is_compared && false)
-one_more v y (token.Mark mark.Colon) = none y (not y.is_compared && false)
-one_more v y (token.Mark mark.Equal) = none y (not y.is_compared && false)
-one_more v y (token.Mark mark.Less) = none y (not y.is_compared && false)
-one_more v y (token.Mark mark.AtMost) = none y (not y.is_compared && false)
 one_more v y (token.Mark mark.Not) = none y (not y.is_compared && true)
 one_more v y (token.Mark (mark.Joint j)) = none y (not y.is_compared && true)
+one_more v y t = none y (not y.is_compared && false)
 
 -- whatever is kept, the token is counted
 kept_tally : (v : Version) (k : Kept) (t : Token) → (keep v k t).tally ≡ tallied v k.tally t
@@ -95,13 +83,12 @@ marks_one v k (Some m) = keeps_one v k (token.Mark m)
 between_one : (v : Version) (k : Kept) (b n : ℕ) → brackets k.tally ≤ n → brackets_in (between v k b) ≤ suc n
 between_one v k b n l =
     let same : brackets k.tally ≤ suc n = omega (arith, l) in
-    let last = marks_one v k (mark_of b) in
     either (is_word_byte b) _ _ _ same
     (either (b == space) _ _ _ same
     (either (b == tab) _ _ _ same
     (either (b == quotation_mark) _ _ _ same
     (either (b == hyphen) _ _ _ same
-    (either (b == less_than_sign) _ _ _ same (omega (arith, l, last)))))))
+    (either (b == less_than_sign) _ _ _ same (omega (arith, l, marks_one v k (mark_of b))))))))
 
 -- a byte after `-`
 dash_one : (v : Version) (k : Kept) (b n : ℕ) → brackets k.tally ≤ n → brackets_in (after_dash v k b) ≤ suc n
@@ -148,21 +135,12 @@ one_byte v Going.Stuck b = omega arith
 -- what was begun has no bracket of its own
 brackets_cut : (begun : Begun) (bs : List ℕ) (k : Kept) → brackets_in (cut_of begun bs k) ≡ brackets k.tally
 brackets_cut begun.Nothing bs k = refl
-brackets_cut begun.Word bs k = refl
-brackets_cut begun.Quotes bs k = refl
-brackets_cut begun.Escape bs k = refl
-brackets_cut begun.Signed bs k = refl
-brackets_cut begun.Dash bs k = refl
-brackets_cut begun.Less bs k = refl
-brackets_cut begun.LessDash bs k = refl
+brackets_cut b bs k = refl
 
 -- so there is room for the brackets of the bytes that are left
 pub still_room : (v : Version) (begun next : Begun) (bs cs : List ℕ) (k m : Kept) (b : ℕ) (left others line : List ℕ)
     → kept_step v (cut_of begun bs k) b ≡ cut_of next cs m → left ≡ b ∷ others
     → brackets k.tally + length left ≤ length line → brackets m.tally + length others ≤ length line
 still_room v begun next bs cs k m b left others line e l h =
-    let one = one_byte v (cut_of begun bs k) b in
-    let before = brackets_cut begun bs k in
     let after = ap brackets_in e ∙ brackets_cut next cs m in
-    let shorter = ap length l in
-    omega (arith, one, before, after, shorter, h)
+    omega (arith, one_byte v (cut_of begun bs k) b, brackets_cut begun bs k, after, ap length l, h)

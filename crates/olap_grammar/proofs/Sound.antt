@@ -1,20 +1,16 @@
 -- What is read is a formula, with this tree.
 use Rattle.std.proofs.Common.{◌≡◌, ◌≤◌, ◌<◌, ◌+◌, ℕ, suc, zero, ◌-◌, lit≤, append-nil, Bool, List, [], ◌∷◌, ◌++◌, refl, arith, true, false, cond, nat_le, sym, ◌∙◌, Option, Some, None, codes, append_assoc, option_and_then}
-use Rattle.std.proofs.lemmas.Slice.Eq.{bytes_eq-Decides}
-use Rattle.std.specs.List.{fold}
+use Rattle.std.{proofs.lemmas.Bool.leb-true, proofs.lemmas.Slice.Eq.bytes_eq-Decides, specs.List.fold}
 use Rattle.olap_numerals.specs.Comparing.{Op}
-use Rattle.olap_grammar.specs.Forms as words
+use Rattle.olap_grammar.proofs.{Complete.{Admits, admits_more, after_signed_digits, after_word_digits}, Levels.row}
 use Rattle.olap_grammar.specs.Forms.{Form, Forms}
-use Rattle.olap_grammar.specs.declared.tokens.Token.{Token}
-use Rattle.olap_grammar.specs.declared.tokens.Token.TheVariants as token
-use Rattle.olap_grammar.specs.declared.tokens.Mark.TheVariants as mark
-use Rattle.olap_grammar.specs.declared.tokens.Joint.{Joint}
-use Rattle.olap_grammar.specs.declared.tokens.Joint.TheVariants as joint
 use Rattle.olap_grammar.specs.Grammar.{Atoms, level, left_level, right_level, comparing, digits_of, IsFormula, looser, joined, negated, bracketed, listed, plain, equal, compared, none, some, IsItems, last, more}
 use Rattle.olap_grammar.specs.Machine.{trees, Frame, Negation, Left, Bracket, Listing, Part, State, Wants, WantsPart, Named, Compared, Has, Bad, settled, list_closed, closed, parted, after, after_atom, after_word, after_compared, has_atom, begun, begun_part, is_one, step, alone, ended, formula_read}
-use Rattle.olap_grammar.proofs.Levels.{row}
-use Rattle.olap_grammar.proofs.Complete.{Admits, admits_more, after_signed_digits, after_word_digits}
-use Rattle.std.proofs.lemmas.Bool.{leb-true}
+use Rattle.olap_grammar.specs.declared.tokens.{Joint.Joint, Token.Token}
+use Rattle.olap_grammar.specs.Forms as words
+use Rattle.olap_grammar.specs.declared.tokens.Token.TheVariants as token
+use Rattle.olap_grammar.specs.declared.tokens.Mark.TheVariants as mark
+use Rattle.olap_grammar.specs.declared.tokens.Joint.TheVariants as joint
 
 -- a formula of a tighter level is one of a looser level
 down : {a : Atoms Form} {ts : List Token} {f : Form} (k n : ℕ) → IsFormula a (k + n) ts f → IsFormula a n ts f
@@ -82,17 +78,13 @@ false_lt m n e = grind (arith)
 
 -- anything open lets a negation stand
 admits_six : (s : List (Frame Form)) → Admits 6 s
-admits_six [] = tt
 admits_six (Negation ∷ s) = lit≤ tt
 admits_six (Left j f ∷ s) = (row j).right_most
-admits_six (Bracket ∷ s) = tt
-admits_six (Listing ∷ s) = tt
-admits_six (Part f ∷ s) = tt
+admits_six s = tt
 
 -- what is closed at a level was reached at it
 settles : (a : Atoms Form) (k n : ℕ) (f : Form) (s : List (Frame Form)) (b : List Token) → k ≤ n → k ≤ 6
     → Admits n s → Reached a n f s b → IsReached a k (settled trees k f s) b
-settles a k n f [] b l m h r = (loosened a k n f _ b l r, tt)
 settles a k n f (Negation ∷ s) b l m h r =
     let o = r.opened in
     settles a k 6 (words.Form.Not f) s b m m (admits_six s)
@@ -120,56 +112,28 @@ settles a k n f (Left j g ∷ s) b l m h r = go (nat_le k (level j)) refl
         → IsReached a k (cond t (settled trees k (words.Form.Joined j g f) s) (f, Left j g ∷ s)) b
     go true e ih = ih (leb-true k (level j) e)
     go false e ih = (loosened a k n f _ b l r, false_lt k (level j) e)
-settles a k n f (Bracket ∷ s) b l m h r = (loosened a k n f _ b l r, tt)
-settles a k n f (Listing ∷ s) b l m h r = (loosened a k n f _ b l r, tt)
-settles a k n f (Part g ∷ s) b l m h r = (loosened a k n f _ b l r, tt)
+settles a k n f s b l m h r = (loosened a k n f _ b l r, tt)
 
 -- what a mark leaves open lets it stand
 lets_stand : (i j : Joint) → level i < left_level j → right_level i ≤ level j
-lets_stand joint.Iff joint.Iff h = absurd (omega arith)
-lets_stand joint.Iff joint.Implies h = lit≤ tt
-lets_stand joint.Iff joint.Xor h = lit≤ tt
-lets_stand joint.Iff joint.Or h = lit≤ tt
-lets_stand joint.Iff joint.And h = lit≤ tt
-lets_stand joint.Implies joint.Iff h = absurd (omega arith)
-lets_stand joint.Implies joint.Implies h = lit≤ tt
-lets_stand joint.Implies joint.Xor h = lit≤ tt
-lets_stand joint.Implies joint.Or h = lit≤ tt
-lets_stand joint.Implies joint.And h = lit≤ tt
-lets_stand joint.Xor joint.Iff h = absurd (omega arith)
-lets_stand joint.Xor joint.Implies h = absurd (omega arith)
-lets_stand joint.Xor joint.Xor h = absurd (omega arith)
-lets_stand joint.Xor joint.Or h = lit≤ tt
-lets_stand joint.Xor joint.And h = lit≤ tt
-lets_stand joint.Or joint.And h = lit≤ tt
-lets_stand joint.Or joint.Iff h = absurd (omega arith)
-lets_stand joint.Or joint.Implies h = absurd (omega arith)
-lets_stand joint.Or joint.Xor h = absurd (omega arith)
-lets_stand joint.Or joint.Or h = absurd (omega arith)
-lets_stand joint.And joint.Iff h = absurd (omega arith)
-lets_stand joint.And joint.Implies h = absurd (omega arith)
-lets_stand joint.And joint.Xor h = absurd (omega arith)
-lets_stand joint.And joint.Or h = absurd (omega arith)
-lets_stand joint.And joint.And h = absurd (omega arith)
+lets_stand joint.Iff joint.Iff h = omega arith
+lets_stand joint.Implies joint.Iff h = omega arith
+lets_stand joint.Xor joint.Iff h = omega arith
+lets_stand joint.Or joint.Iff h = omega arith
+lets_stand joint.And joint.Iff h = omega arith
+lets_stand i j h = omega arith
 
 -- what is left open lets the connective stand
 settled_admits : (j : Joint) (s : List (Frame Form)) → IsSettled (left_level j) s → Admits (level j) s
-settled_admits j [] h = tt
 settled_admits j (Negation ∷ s) h = absurd h
 settled_admits j (Left i f ∷ s) h = lets_stand i j h
-settled_admits j (Bracket ∷ s) h = tt
-settled_admits j (Listing ∷ s) h = tt
-settled_admits j (Part f ∷ s) h = tt
+settled_admits j s h = tt
 
 -- ---- closing
 
 -- the end of a list
 list_tells : (a : Atoms Form) (fs : Forms) (s : List (Frame Form)) (b c us : List Token) → b ≡ c ++ us
     → IsItems a us fs → Opened a s c → Tells a (list_closed trees fs s) (b ++ token.Mark mark.Close ∷ [])
-list_tells a fs [] b c us e d o = tt
-list_tells a fs (Negation ∷ s) b c us e d o = tt
-list_tells a fs (Left j g ∷ s) b c us e d o = tt
-list_tells a fs (Bracket ∷ s) b c us e d o = tt
 list_tells a fs (Listing ∷ s) b c us e d o =
     record {
       earlier = o.0;
@@ -182,6 +146,7 @@ list_tells a fs (Listing ∷ s) b c us e d o =
 list_tells a fs (Part f ∷ s) b c us e d o =
     list_tells a (words.Forms.More f fs) s b o.0 (o.1 ++ token.Mark mark.Comma ∷ us) (rw (e, o.2) (simp append_assoc))
     (more o.3 d) o.4
+list_tells a fs s b c us e d o = tt
 
 -- a closed bracket
 closed_tells : (a : Atoms Form) (r : Form × List (Frame Form)) (b : List Token) → IsReached a 1 r b
@@ -233,15 +198,7 @@ after_tells a f s (token.Mark mark.Close) b r = closed_tells a (settled trees 1 
     (settles a 1 7 f s b (lit≤ tt) (lit≤ tt) (admits_more 6 7 s (lit≤ tt) (admits_six s)) r)
 after_tells a f s (token.Mark mark.Comma) b r = parted_tells a (settled trees 1 f s) b
     (settles a 1 7 f s b (lit≤ tt) (lit≤ tt) (admits_more 6 7 s (lit≤ tt) (admits_six s)) r)
-after_tells a f s (token.Word w) b r = tt
-after_tells a f s (token.Quoted k) b r = tt
-after_tells a f s (token.Signed w) b r = tt
-after_tells a f s (token.Mark mark.Open) b r = tt
-after_tells a f s (token.Mark mark.Colon) b r = tt
-after_tells a f s (token.Mark mark.Equal) b r = tt
-after_tells a f s (token.Mark mark.Less) b r = tt
-after_tells a f s (token.Mark mark.AtMost) b r = tt
-after_tells a f s (token.Mark mark.Not) b r = tt
+after_tells a f s t b r = tt
 
 -- any where a formula is to come
 begun_tells : (a : Atoms Form) (s : List (Frame Form)) (t : Token) (b : List Token) → Opened a s b
@@ -249,15 +206,7 @@ begun_tells : (a : Atoms Form) (s : List (Frame Form)) (t : Token) (b : List Tok
 begun_tells a s (token.Word w) b o = (b, refl, o)
 begun_tells a s (token.Mark mark.Open) b o = (b, refl, o)
 begun_tells a s (token.Mark mark.Not) b o = (b, refl, o)
-begun_tells a s (token.Quoted k) b o = tt
-begun_tells a s (token.Signed w) b o = tt
-begun_tells a s (token.Mark mark.Close) b o = tt
-begun_tells a s (token.Mark mark.Comma) b o = tt
-begun_tells a s (token.Mark mark.Colon) b o = tt
-begun_tells a s (token.Mark mark.Equal) b o = tt
-begun_tells a s (token.Mark mark.Less) b o = tt
-begun_tells a s (token.Mark mark.AtMost) b o = tt
-begun_tells a s (token.Mark (mark.Joint j)) b o = tt
+begun_tells a s t b o = tt
 
 -- any where a list begins
 part_tells : (a : Atoms Form) (s : List (Frame Form)) (t : Token) (b : List Token) → Opened a (Listing ∷ s) b
@@ -274,14 +223,7 @@ part_tells a s (token.Mark mark.Close) b o =
 part_tells a s (token.Word w) b o = begun_tells a (Listing ∷ s) (token.Word w) b o
 part_tells a s (token.Mark mark.Open) b o = begun_tells a (Listing ∷ s) (token.Mark mark.Open) b o
 part_tells a s (token.Mark mark.Not) b o = begun_tells a (Listing ∷ s) (token.Mark mark.Not) b o
-part_tells a s (token.Quoted k) b o = tt
-part_tells a s (token.Signed w) b o = tt
-part_tells a s (token.Mark mark.Comma) b o = tt
-part_tells a s (token.Mark mark.Colon) b o = tt
-part_tells a s (token.Mark mark.Equal) b o = tt
-part_tells a s (token.Mark mark.Less) b o = tt
-part_tells a s (token.Mark mark.AtMost) b o = tt
-part_tells a s (token.Mark (mark.Joint j)) b o = tt
+part_tells a s t b o = tt
 
 -- any after an atom
 atom_tells : (a : Atoms Form) (w : List ℕ) (s : List (Frame Form)) (t : Token) (b c : List Token)
@@ -300,9 +242,6 @@ word_tells a w s (token.Mark mark.Open) b h = go (is_one w) refl
     go true e = let same : w ≡ codes "one" = (bytes_eq-Decides w (codes "one")).0 e in
         (h.0, rw (h.1, same) (simp append_assoc), h.2)
     go false e = tt
-word_tells a w s (token.Mark mark.Equal) b h = (h.0, rw h.1 (simp append_assoc), h.2)
-word_tells a w s (token.Mark mark.Less) b h = (h.0, rw h.1 (simp append_assoc), h.2)
-word_tells a w s (token.Mark mark.AtMost) b h = (h.0, rw h.1 (simp append_assoc), h.2)
 word_tells a w s (token.Mark (mark.Joint j)) b h =
     atom_tells a w s (token.Mark (mark.Joint j)) b h.0 h.1 h.2 (a.plain w) refl
 word_tells a w s (token.Mark mark.Close) b h = atom_tells a w s (token.Mark mark.Close) b h.0 h.1 h.2 (a.plain w) refl
@@ -312,6 +251,7 @@ word_tells a w s (token.Quoted k) b h = atom_tells a w s (token.Quoted k) b h.0 
 word_tells a w s (token.Signed v) b h = atom_tells a w s (token.Signed v) b h.0 h.1 h.2 (a.plain w) refl
 word_tells a w s (token.Mark mark.Colon) b h = atom_tells a w s (token.Mark mark.Colon) b h.0 h.1 h.2 (a.plain w) refl
 word_tells a w s (token.Mark mark.Not) b h = atom_tells a w s (token.Mark mark.Not) b h.0 h.1 h.2 (a.plain w) refl
+word_tells a w s t b h = (h.0, rw h.1 (simp append_assoc), h.2)
 
 -- a string after a word and `=`
 equal_tells : (a : Atoms Form) (w k : List ℕ) (s : List (Frame Form)) (b c : List Token)
@@ -347,17 +287,13 @@ number_tells a w op t v s b c e h d (Some f) p =
 compared_tells : (a : Atoms Form) (w : List ℕ) (op : Op) (s : List (Frame Form)) (t : Token) (b : List Token)
     → Tells a (Compared w op s) b → Tells a (after_compared a w op s t) (b ++ t ∷ [])
 compared_tells a w Op.Equal s (token.Quoted k) b h = equal_tells a w k s b h.0 h.1 h.2 (a.equal w k) refl
-compared_tells a w Op.Less s (token.Quoted k) b h = tt
-compared_tells a w Op.AtMost s (token.Quoted k) b h = tt
 compared_tells a w op s (token.Word v) b h =
     rw (after_word_digits a w op s v)
     (number_tells a w op (token.Word v) v s b h.0 h.1 h.2 refl (a.compare w op v) refl)
 compared_tells a w op s (token.Signed v) b h =
     rw (after_signed_digits a w op s v)
     (number_tells a w op (token.Signed v) v s b h.0 h.1 h.2 refl (a.compare w op v) refl)
-compared_tells a w Op.Equal s (token.Mark m) b h = tt
-compared_tells a w Op.Less s (token.Mark m) b h = tt
-compared_tells a w Op.AtMost s (token.Mark m) b h = tt
+compared_tells a w op s t b h = tt
 
 -- one token more
 step_tells : (a : Atoms Form) (st : State Form) (t : Token) (b : List Token) → Tells a st b
@@ -398,10 +334,7 @@ ended_tells a (Named w s) b f h e = go (a.plain w) refl e
     go (Some g) p q = alone_tells a (settled trees 1 g s) b f
         (settles a 1 7 g s b (lit≤ tt) (lit≤ tt) (admits_more 6 7 s (lit≤ tt) (admits_six s))
         (record { earlier = h.0; own = token.Word w ∷ []; all = h.1; formula = plain p; opened = h.2 })) q
-ended_tells a (Wants s) b f h e = absurd cc
-ended_tells a (WantsPart s) b f h e = absurd cc
-ended_tells a (Compared w op s) b f h e = absurd cc
-ended_tells a Bad b f h e = absurd cc
+ended_tells a st b f h e = absurd cc
 
 -- what is read is a formula, with this tree
 pub read_is_formula : (a : Atoms Form) (ts : List Token) (f : Form) → formula_read trees a ts ≡ Some f

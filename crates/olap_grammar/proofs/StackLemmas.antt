@@ -1,14 +1,10 @@
 -- The stack of the reader, from its top.
 use Rattle.std.proofs.Common.{◌≡◌, ◌∙◌, Bool, ℕ, zero, suc, ◌+◌, ◌-◌, List, [], ◌∷◌, ◌++◌, ap, cond, refl, length, sym, Option, Some, None, MatchOption, arith}
-use Rattle.std.specs.List.{fold, slice_get}
-use Rattle.std.specs.Option.{option_to_list}
-use Rattle.olap_grammar.specs.Machine as machine
-use Rattle.olap_grammar.specs.Machine.{parted}
-use Rattle.olap_grammar.specs.Reader.{Built, frame_of}
-use Rattle.olap_grammar.specs.Frames.{frames_of}
+use Rattle.std.proofs.lemmas.{List.Sums.fold-append, Option.{none-some, same_Some, slice_get-get_or, slice_get_within}}
+use Rattle.std.specs.{List.{fold, slice_get}, Option.option_to_list}
+use Rattle.olap_grammar.specs.{Frames.frames_of, Machine.parted, Reader.{Built, frame_of}}
 use Rattle.olap_grammar.specs.declared.stacking.Frame.{Frame}
-use Rattle.std.proofs.lemmas.List.Sums.{fold-append}
-use Rattle.std.proofs.lemmas.Option.{none-some, same_Some, slice_get-get_or, slice_get_within}
+use Rattle.olap_grammar.specs.Machine as machine
 
 -- nothing is open
 pub frames_none : frames_of [] ≡ []
@@ -49,9 +45,8 @@ on_top : (xs : List Frame) (s : List (machine.Frame Built)) (n : ℕ) (x : Frame
     → (t : List (machine.Frame Built)) × (fold (λ s x. frame_of x ∷ s) s xs ≡ frame_of x ∷ t)
 on_top [] s n x l e = absurd (none-some x e)
 on_top (y ∷ []) s zero x l e = (s, ap (λ z. frame_of z ∷ s) (same_Some y x e))
-on_top (y ∷ []) s (suc n) x l e = absurd (omega arith)
-on_top (y ∷ z ∷ zs) s zero x l e = absurd (omega arith)
 on_top (y ∷ z ∷ zs) s (suc n) x l e = on_top (z ∷ zs) (frame_of y ∷ s) n x (omega arith) e
+on_top xs s n x l e = absurd (omega arith)
 
 -- a part may follow where the last item lets it
 pub takes_part : (xs ys : List Frame) (x : Frame) (b : Bool) → xs ≡ ys → slice_get xs (length xs - 1) ≡ Some x
@@ -61,8 +56,7 @@ pub takes_part : (xs ys : List Frame) (x : Frame) (b : Bool) → xs ≡ ys → s
     ≡ cond b (machine.State.Wants (machine.Frame.Part f ∷ frames_of ys)) machine.State.Bad
 unfolding frames_of
 takes_part xs ys x b same e h f =
-    let l = slice_get_within xs (length xs - 1) x e in
-    let t = on_top xs [] (length xs - 1) x (omega (arith, l)) e in
+    let t = on_top xs [] (length xs - 1) x (omega (arith, slice_get_within xs (length xs - 1) x e)) e in
     rw (sym same, t.1) (h f t.0)
 
 -- with nothing open, a comma makes the form bad
@@ -70,5 +64,4 @@ pub takes_no_part : (xs ys : List Frame) → xs ≡ ys → slice_get xs (length 
     → parted f (frames_of ys) ≡ machine.State.Bad
 takes_no_part xs [] same e f = rw frames_none refl
 takes_no_part xs (y ∷ ys) same e f =
-    let l = ap length same in
-    absurd (none-some _ (sym e ∙ slice_get-get_or xs (length xs - 1) y (omega (arith, l))))
+    absurd (none-some _ (sym e ∙ slice_get-get_or xs (length xs - 1) y (omega (arith, ap length same))))

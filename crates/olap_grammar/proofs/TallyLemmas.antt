@@ -1,17 +1,12 @@
 -- What is counted of tokens, gone over from the left, is so of all of them.
 use Rattle.std.proofs.Common.{◌≡◌, ◌≤◌, ◌<◌, ◌+◌, ◌-◌, ◌∷◌, ◌∙◌, ◌||◌, ◌&&◌, Bool, true, false, not, cond, ℕ, List, [], nat_lt, refl, ap, arith}
-use Rattle.std.specs.List.{fold}
-use Rattle.std.proofs.lemmas.Bool.{ltb-false, ltb-true}
+use Rattle.std.{proofs.lemmas.Bool.{ltb-false, ltb-true}, specs.List.fold}
 use Rattle.olap_base.specs.Limits.{most_depth}
-use Rattle.olap_grammar.specs.Brackets.{opens_over}
-use Rattle.olap_grammar.specs.Keeping.{IsTallyOf}
-use Rattle.olap_grammar.specs.Nodes.{compares, is_node, nodes_behind}
+use Rattle.olap_grammar.specs.{Brackets.opens_over, Keeping.IsTallyOf, Nodes.{compares, is_node, nodes_behind}}
 use Rattle.olap_grammar.specs.Tallying.{added, counted, counted_nodes, nothing_tallied, tallied}
-use Rattle.olap_grammar.specs.declared.tallying.Tally.{Tally}
-use Rattle.olap_grammar.specs.declared.tokens.Token.{Token}
+use Rattle.olap_grammar.specs.declared.{tallying.Tally.Tally, tokens.Token.Token, tokens.Version.Version}
 use Rattle.olap_grammar.specs.declared.tokens.Token.TheVariants as token
 use Rattle.olap_grammar.specs.declared.tokens.Mark.TheVariants as mark
-use Rattle.olap_grammar.specs.declared.tokens.Version.{Version}
 
 -- ---- nodes
 
@@ -26,13 +21,10 @@ one_more n all h = go (nat_lt n counted_nodes) refl
   where
     go : (b : Bool) → nat_lt n counted_nodes ≡ b → Counts (cond b (n + 1) n) (all + 1)
     go true e =
-        let l = ltb-true n counted_nodes e in
-        let f = h.exact l in
+        let f = h.exact (ltb-true n counted_nodes e) in
         record { few = omega (arith, f); exact = λ m. omega (arith, f) }
     go false e =
-        let l = ltb-false n counted_nodes e in
-        let f = h.few in
-        record { few = omega (arith, f); exact = λ m. absurd (omega (arith, l, m)) }
+        record { few = omega (arith, h.few); exact = λ m. absurd (omega (arith, ltb-false n counted_nodes e, m)) }
 
 -- a tally, with one node more or not
 abbrev with_node : Bool → Tally → Tally
@@ -52,23 +44,16 @@ no_node false n = refl
 nodes_tallied : (y : Tally) (t : Token)
     → (added y t).nodes ≡ cond (not y.is_compared && is_node t) (counted y.nodes) y.nodes
 nodes_tallied y (token.Word w) = with_node_nodes (not y.is_compared && true) y
-nodes_tallied y (token.Quoted k) = with_node_nodes (not y.is_compared && false) y
-nodes_tallied y (token.Signed w) = with_node_nodes (not y.is_compared && false) y
 nodes_tallied y (token.Mark mark.Open) = no_node y.is_compared y.nodes
 nodes_tallied y (token.Mark mark.Close) = no_node y.is_compared y.nodes
-nodes_tallied y (token.Mark mark.Comma) = with_node_nodes (not y.is_compared && false) y
-nodes_tallied y (token.Mark mark.Colon) = with_node_nodes (not y.is_compared && false) y
-nodes_tallied y (token.Mark mark.Equal) = with_node_nodes (not y.is_compared && false) y
-nodes_tallied y (token.Mark mark.Less) = with_node_nodes (not y.is_compared && false) y
-nodes_tallied y (token.Mark mark.AtMost) = with_node_nodes (not y.is_compared && false) y
 nodes_tallied y (token.Mark mark.Not) = with_node_nodes (not y.is_compared && true) y
 nodes_tallied y (token.Mark (mark.Joint j)) = with_node_nodes (not y.is_compared && true) y
+nodes_tallied y t = with_node_nodes (not y.is_compared && false) y
 
 -- and one that is none
 as_before : (n all : ℕ) → Counts n all → Counts n (all + 0)
 as_before n all h =
-    let f = h.few in
-    record { few = omega (arith, f); exact = λ m. let e = h.exact m in omega (arith, e) }
+    record { few = omega (arith, h.few); exact = λ m. let e = h.exact m in omega (arith, e) }
 
 -- either
 one_token : (b : Bool) (n all : ℕ) → Counts n all → Counts (cond b (counted n) n) (all + cond b 1 0)
@@ -85,8 +70,7 @@ counts_on v (t ∷ ts) y before h =
     let one : Counts (tallied v y t).nodes (before + cond node 1 0) =
     rw (nodes_tallied y t) (one_token node y.nodes before h) in
     let all = counts_on v ts (tallied v y t) (before + cond node 1 0) one in
-    let f = all.few in
-    record { few = omega (arith, f); exact = λ m. let g = all.exact m in omega (arith, g) }
+    record { few = omega (arith, all.few); exact = λ m. let g = all.exact m in omega (arith, g) }
 
 -- ---- brackets
 
@@ -98,19 +82,14 @@ same_test o c = go (nat_lt most_depth (o + 1 - c)) (nat_lt (c + most_depth) (o +
     go true true p q = refl
     go false false p q = refl
     go true false p q =
-        let l = ltb-true most_depth (o + 1 - c) p in
-        let m = ltb-false (c + most_depth) (o + 1) q in
-        absurd (omega (arith, l, m))
+        absurd (omega (arith, ltb-true most_depth (o + 1 - c) p, ltb-false (c + most_depth) (o + 1) q))
     go false true p q =
-        let l = ltb-false most_depth (o + 1 - c) p in
-        let m = ltb-true (c + most_depth) (o + 1) q in
-        absurd (omega (arith, l, m))
+        absurd (omega (arith, ltb-false most_depth (o + 1 - c) p, ltb-true (c + most_depth) (o + 1) q))
 
 -- too many brackets once are too many for good
 once_too_deep : (d b : Bool) (x : Bool) → ((d || b) || x) ≡ (d || cond b true x)
-once_too_deep true b x = refl
 once_too_deep false true x = refl
-once_too_deep false false x = refl
+once_too_deep d b x = refl
 
 -- nothing more is so
 nothing_more : (d : Bool) → d ≡ (d || false)
@@ -174,9 +153,8 @@ deep_on v (token.Mark (mark.Joint j) ∷ ts) d o c y e f g =
 pub tally_is : (v : Version) (ts : List Token) → IsTallyOf v (fold (tallied v) nothing_tallied ts) ts
 tally_is v ts =
     let n = counts_on v ts nothing_tallied 0 (record { few = omega arith; exact = λ m. refl }) in
-    let f = n.few in
     record {
-      few = omega (arith, f);
+      few = omega (arith, n.few);
       nodes = λ m. let e = n.exact m in omega (arith, e);
       too_deep = deep_on v ts false 0 0 nothing_tallied refl refl refl;
     }

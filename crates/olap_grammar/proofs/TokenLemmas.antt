@@ -1,56 +1,23 @@
 -- Nodes and open brackets, token by token.
-use Rattle.std.proofs.Common.{◌≡◌, ◌+◌, ◌++◌, ◌∷◌, ℕ, zero, suc, Bool, true, false, cond, List, [], nat_lt, Some, refl, arith}
+use Rattle.std.proofs.Common.{◌≡◌, ◌+◌, ◌++◌, ◌∷◌, ℕ, zero, suc, Bool, true, false, cond, List, [], nat_lt, Some, refl, ap, arith}
 use Rattle.std.proofs.lemmas.Bool.{ltb-false}
 use Rattle.olap_numerals.specs.Comparing.{Op}
 use Rattle.olap_base.specs.Limits.{most_depth}
-use Rattle.olap_grammar.specs.Brackets.{opens_over}
-use Rattle.olap_grammar.specs.Grammar.{comparing, digits_of}
-use Rattle.olap_grammar.specs.Nodes.{compares, nodes_behind, nodes_of}
-use Rattle.olap_grammar.specs.declared.tokens.Joint.{Joint}
-use Rattle.olap_grammar.specs.declared.tokens.Token.{Token}
+use Rattle.olap_grammar.specs.{Brackets.{is_close, is_open, opens_over}, Grammar.{comparing, digits_of}}
+use Rattle.olap_grammar.specs.{Nodes.{compares, is_node, nodes_behind, nodes_of}, declared.tokens.Token.Token}
+use Rattle.olap_grammar.specs.declared.tokens.Version.{Version}
 use Rattle.olap_grammar.specs.declared.tokens.Token.TheVariants as token
 use Rattle.olap_grammar.specs.declared.tokens.Mark.TheVariants as mark
-use Rattle.olap_grammar.specs.declared.tokens.Version.{Version}
 use Rattle.olap_grammar.specs.declared.tokens.Version.TheVariants as version
 
 -- ---- nodes
 
--- none of these marks compares, so what stands after is counted by itself
-pub joint_node : (v : Version) (j : Joint) (us : List Token) → nodes_of v (token.Mark (mark.Joint j) ∷ us)
-    ≡ 1 + nodes_of v us
+-- a token that doesn't compare in the second version is a node or none, and what stands after it is counted by itself
+pub node_at : (v : Version) (t : Token) (us : List Token) → compares version.Two t ≡ false
+    → nodes_of v (t ∷ us) ≡ cond (is_node t) 1 0 + nodes_of v us
 unfolding nodes_behind
-joint_node version.One j us = refl
-joint_node version.Two j us = refl
-
--- a `!` is a node
-pub not_node : (v : Version) (us : List Token) → nodes_of v (token.Mark mark.Not ∷ us) ≡ 1 + nodes_of v us
-unfolding nodes_behind
-not_node version.One us = refl
-not_node version.Two us = refl
-
--- and a word
-pub word_node : (v : Version) (w : List ℕ) (us : List Token) → nodes_of v (token.Word w ∷ us) ≡ 1 + nodes_of v us
-unfolding nodes_behind
-word_node version.One w us = refl
-word_node version.Two w us = refl
-
--- an open bracket is none
-pub open_none : (v : Version) (us : List Token) → nodes_of v (token.Mark mark.Open ∷ us) ≡ nodes_of v us
-unfolding nodes_behind
-open_none version.One us = omega arith
-open_none version.Two us = omega arith
-
--- nor a closed one
-pub close_none : (v : Version) (us : List Token) → nodes_of v (token.Mark mark.Close ∷ us) ≡ nodes_of v us
-unfolding nodes_behind
-close_none version.One us = omega arith
-close_none version.Two us = omega arith
-
--- nor a comma
-pub comma_none : (v : Version) (us : List Token) → nodes_of v (token.Mark mark.Comma ∷ us) ≡ nodes_of v us
-unfolding nodes_behind
-comma_none version.One us = omega arith
-comma_none version.Two us = omega arith
+node_at version.One t us e = refl
+node_at version.Two t us e = ap (λ b. cond (is_node t) 1 0 + nodes_behind version.Two b us) e
 
 -- no tokens have none
 pub no_nodes : (v : Version) → nodes_of v [] ≡ 0
@@ -74,11 +41,9 @@ quoted_ends version.Two k = refl
 -- nor after a number
 pub number_ends : (v : Version) (t : Token) (digits : List ℕ) → digits_of t ≡ Some digits → compares v t ≡ false
 number_ends version.One (token.Word w) digits e = refl
-number_ends version.Two (token.Word w) digits e = refl
-number_ends version.One (token.Signed w) digits e = refl
-number_ends version.Two (token.Signed w) digits e = refl
 number_ends v (token.Quoted k) digits e = absurd cc
 number_ends v (token.Mark m) digits e = absurd cc
+number_ends v t digits e = refl
 
 -- ---- brackets
 
@@ -109,29 +74,13 @@ pub closes : (room less o c : ℕ) (rest : List Token) → room ≡ suc less →
 unfolding opens_over
 closes room less o c rest r e h = record { opened = o; closed = c + 1; left = omega (arith, r, e); on = h }
 
--- other tokens change nothing
-pub joint_passes : (o c : ℕ) (j : Joint) (rest : List Token) → opens_over o c (token.Mark (mark.Joint j) ∷ rest) ≡ false
-    → opens_over o c rest ≡ false
+-- what is no bracket changes nothing
+pub passes : (o c : ℕ) (t : Token) (rest : List Token) → is_open t ≡ false → is_close t ≡ false
+    → opens_over o c (t ∷ rest) ≡ false → opens_over o c rest ≡ false
 unfolding opens_over
-joint_passes o c j rest h = h
-
--- a comma opens nothing
-pub comma_passes : (o c : ℕ) (rest : List Token) → opens_over o c (token.Mark mark.Comma ∷ rest) ≡ false
-    → opens_over o c rest ≡ false
-unfolding opens_over
-comma_passes o c rest h = h
-
--- nor does a `!`
-pub not_passes : (o c : ℕ) (rest : List Token) → opens_over o c (token.Mark mark.Not ∷ rest) ≡ false
-    → opens_over o c rest ≡ false
-unfolding opens_over
-not_passes o c rest h = h
-
--- nor a word
-pub word_passes : (o c : ℕ) (w : List ℕ) (rest : List Token) → opens_over o c (token.Word w ∷ rest) ≡ false
-    → opens_over o c rest ≡ false
-unfolding opens_over
-word_passes o c w rest h = h
+passes o c (token.Mark mark.Open) rest p q h = absurd cc
+passes o c (token.Mark mark.Close) rest p q h = absurd cc
+passes o c t rest p q h = h
 
 -- nor a word with a string
 pub equality_passes : (o c : ℕ) (w k : List ℕ) (rest : List Token)
@@ -145,10 +94,6 @@ pub number_passes : (o c : ℕ) (op : Op) (t : Token) (w digits : List ℕ) (res
     → opens_over o c (token.Word w ∷ token.Mark (comparing op) ∷ t ∷ rest) ≡ false → opens_over o c rest ≡ false
 unfolding opens_over
 number_passes o c Op.Equal (token.Word u) w digits rest e h = h
-number_passes o c Op.Equal (token.Signed u) w digits rest e h = h
-number_passes o c Op.Less (token.Word u) w digits rest e h = h
-number_passes o c Op.Less (token.Signed u) w digits rest e h = h
-number_passes o c Op.AtMost (token.Word u) w digits rest e h = h
-number_passes o c Op.AtMost (token.Signed u) w digits rest e h = h
 number_passes o c op (token.Quoted k) w digits rest e h = absurd cc
 number_passes o c op (token.Mark m) w digits rest e h = absurd cc
+number_passes o c op t w digits rest e h = h

@@ -1,12 +1,9 @@
 -- The pieces of a word.
 use Rattle.std.proofs.Common.{None, Some, ◌≡◌, ◌==◌, ◌<◌, ◌+◌, ℕ, true, false, List, length, arith, ap, ◌∙◌, refl}
-use Rattle.std.proofs.lemmas.List.Splits.{length-slice_split}
-use Rattle.std.specs.Prelude.{◌&&◌, ◌∷◌, [], Bool, IsTrue, ◌↔◌, count_by}
-use Rattle.std.specs.Char.{is_ascii_digit}
-use Rattle.std.specs.List.{list_all}
-use Rattle.std.specs.Str.{all_ascii_digits}
-use Rattle.olap_grammar.specs.Forms as words
+use Rattle.std.{proofs.lemmas.List.Splits.length-slice_split, specs.Char.is_ascii_digit, specs.List.list_all}
+use Rattle.std.specs.{Prelude.{◌&&◌, ◌∷◌, [], Bool, IsTrue, ◌↔◌, count_by}, Str.all_ascii_digits}
 use Rattle.olap_grammar.specs.Words.{ends_of, path_of, pieces_of, reach_of}
+use Rattle.olap_grammar.specs.Forms as words
 
 -- there is at least one
 pub some_pieces : (mark : ℕ) (w : List ℕ) (xs : List (List ℕ)) → xs ≡ pieces_of mark w → 0 < length xs
@@ -15,10 +12,9 @@ some_pieces mark w xs e = let l = ap length e ∙ length-slice_split (λ b. b ==
 
 -- two tests of one fact are one
 pub same_answer : {P : Type 0} (a b : Bool) → IsTrue a ↔ P → IsTrue b ↔ P → a ≡ b
-same_answer true true p q = refl
-same_answer false false p q = refl
 same_answer true false p q = absurd (let e : false ≡ true = q.1 (p.0 refl) in cc)
 same_answer false true p q = absurd (let e : false ≡ true = p.1 (q.0 refl) in cc)
+same_answer a b p q = refl
 
 -- there is one piece more than marks
 pub pieces_count : (mark : ℕ) (w : List ℕ) → length (pieces_of mark w) ≡ count_by (λ b. b == mark) w + 1

@@ -1,20 +1,15 @@
 -- A graph in the making keeps its promises when a category or an edge is added.
-use Rattle.std.proofs.Common.{◌≡◌, ◌≢◌, ℕ, ◌<◌, ◌≤◌, List, [], ◌∷◌, ◌++◌, Bool, length, drop, map, Option, None, Some, false, is_some, refl, sym, ap, ◌∙◌, subst, inl, inr, arith}
-use Rattle.std.specs.Prelude.{Contains, AllPairs, codes, ◌==◌}
-use Rattle.std.specs.Option.{option_map}
-use Rattle.std.proofs.lemmas.Bool.Decides.{Decides-eqb}
-use Rattle.std.proofs.lemmas.List.{length_push, map_push}
-use Rattle.std.proofs.lemmas.List.Elements.{Contains-get_or, Contains-push_cases}
-use Rattle.std.proofs.lemmas.List.Quantifiers.{all_pairs_push}
-use Rattle.olap_base.specs.Deciding.{contains_cons}
+use Rattle.std.proofs.Common.{◌≡◌, ◌≢◌, ℕ, ◌<◌, ◌≤◌, List, [], ◌∷◌, ◌++◌, Bool, Vec, Global, length, drop, map, Option, None, Some, false, is_some, refl, sym, ap, ◌∙◌, subst, inl, inr, arith}
+use Rattle.std.proofs.lemmas.{Bool.Decides.Decides-eqb, List.{length-map, length_push, map_push}}
+use Rattle.std.proofs.lemmas.List.{Elements.{Contains-get_or, Contains-push_cases}, Quantifiers.all_pairs_push}
+use Rattle.std.specs.{Option.option_map, Prelude.{Contains, AllPairs, codes, ◌==◌}}
+use Rattle.olap_base.{proofs.ListLemmas.contains_head, specs.Deciding.contains_cons}
 use Rattle.olap_base.specs.Graph.{Edge, Graph, HasEdge, IsCategory, IsCategoryName, category_count}
 use Rattle.olap_base.specs.Limits.{most_categories, most_edges, most_text_bytes}
-use Rattle.olap_base.proofs.ListLemmas.{contains_head}
-use Rattle.olap_graph.specs.declared.listing.Ends.{Ends}
-use Rattle.olap_graph.specs.Lookups.{category_named, edge_between, joins}
-use Rattle.olap_graph.specs.Building.{IsWithinLimits, IsUnfinished, with_kind, with_edge}
-use Rattle.olap_graph.specs.Listing.{IsHeaded, edge_of, graph_of}
 use Rattle.olap_graph.proofs.PlaceLemmas.{missing, joins-Decides, place_of-none}
+use Rattle.olap_graph.specs.{Building.{IsWithinLimits, IsUnfinished, with_kind, with_edge}, Inside.{IsBuilt, built}}
+use Rattle.olap_graph.specs.{Listing.{IsHeaded, edge_of, graph_of}, Lookups.{category_named, edge_between, joins}}
+use Rattle.olap_graph.specs.declared.{building.GraphBuilder.TheInside.Inside, listing.Ends.Ends}
 
 -- a new element keeps a list without repeats
 differ_push : {X : Type 0} (xs : List X) (x : X) → AllPairs ◌≢◌ xs → (Contains xs x → ⊥) → AllPairs ◌≢◌ (xs ++ x ∷ [])
@@ -139,3 +134,53 @@ nothing f (Some x) o e h = absurd (cc)
 -- a test for equality that failed
 pub differ : (a b : ℕ) → false ≡ a == b → a ≢ b
 differ a b h e = let t = (Decides-eqb a b).1 e in cc
+
+-- ---- a builder
+
+-- a builder's lists with one more
+module _ {a : Inside} (t : IsBuilt a) {v : Graph} (is : built a ≡ v) where
+  -- there are as many names as categories
+  pub built_length : length a.names.items ≡ category_count v
+  built_length = headed_length a.names.items a.numbers.items a.edges.items t.headed ∙ ap category_count is
+
+  -- and as many pairs of ends as edges
+  pub built_edges : {n : ℕ} → n ≡ length a.edges.items → n ≡ length v.edges
+  built_edges e = e ∙ sym (length-map a.edges.items edge_of) ∙ ap (λ (g : Graph). length g.edges) is
+
+  -- one name more is one category more
+  pub built_category : (number : Bool) (name : List ℕ) {names : List (List ℕ)} {kinds : List Bool}
+      → names ≡ a.names.items ++ name ∷ [] → kinds ≡ a.numbers.items ++ number ∷ []
+      → graph_of names kinds a.edges.items ≡ with_kind number v name
+  built_category number name n k =
+      rw (n, k, ← is) (graph_of-category number a.names.items a.numbers.items a.edges.items name t.headed)
+
+  -- the builder keeps its promises
+  pub built_kind : (number : Bool) (name : List ℕ) (names : Vec (List ℕ) Global) (kinds : Vec Bool Global)
+      → names.items ≡ a.names.items ++ name ∷ [] → kinds.items ≡ a.numbers.items ++ number ∷ []
+      → category_count v < most_categories → IsCategoryName name → length name ≤ most_text_bytes
+      → category_named v name ≡ None → IsBuilt (record a { names = names; numbers = kinds })
+  built_kind number name names kinds n k few spelled short none =
+      let grown = built_category number name n k in
+      record {
+        headed = rw n (headed_push a.names.items name t.headed);
+        limits = rw grown (limits-with_category number v name (rw is at t.limits) few short);
+        unfinished = rw grown (unfinished-with_category number v name (rw is at t.unfinished) spelled none);
+      }
+
+  -- one pair of ends more is one edge more
+  pub built_edge : (e : Ends) {ends : List Ends} → ends ≡ a.edges.items ++ e ∷ []
+      → graph_of a.names.items a.numbers.items ends ≡ with_edge v e.child.0 e.parent.0
+  built_edge e q = rw (q, ← is) (graph_of-edge a.names.items a.numbers.items a.edges.items e)
+
+  -- the builder keeps its promises
+  pub built_ends : (e : Ends) (ends : Vec Ends Global) → ends.items ≡ a.edges.items ++ e ∷ []
+      → length v.edges < most_edges → IsCategory v e.child.0 → IsCategory v e.parent.0 → false ≡ e.child.0 == e.parent.0
+      → false ≡ e.child.0 == 0 → edge_between v e.child.0 e.parent.0 ≡ None → IsBuilt (record a { edges = ends })
+  built_ends e ends q few child parent loop from_all none =
+      let grown = built_edge e q in
+      record {
+        headed = t.headed;
+        limits = rw grown (limits-with_edge v e.child.0 e.parent.0 (rw is at t.limits) few);
+        unfinished = rw grown (unfinished-with_edge v e.child.0 e.parent.0 (rw is at t.unfinished) child parent
+            (differ e.child.0 e.parent.0 loop) (differ e.child.0 0 from_all) none);
+      }

@@ -1,11 +1,10 @@
 -- Marks of numbers, and lists that are gone over from the first on: what each search upwards stands on.
 use Rattle.std.proofs.Common.{◌≡◌, ◌≢◌, ℕ, zero, suc, ◌+◌, ◌<◌, ◌⊎◌, List, [], ◌∷◌, length, get_or, set, take, Bool, true, false, refl, ap, sym, subst, ◌∙◌, inl, inr, arith, get_or-set_same, get_or-set_other}
-use Rattle.std.specs.Prelude.{Contains, Option, Some, None, MatchOption}
 use Rattle.std.proofs.lemmas.List.{take_more, get_or_default}
 use Rattle.std.proofs.lemmas.List.Elements.{Contains-append_left, Contains-push, Contains-push_cases}
+use Rattle.std.specs.Prelude.{Contains, Option, Some, None, MatchOption}
+use Rattle.olap_graph.specs.{Marking.unmarked_count, Tables.IsMarked}
 use native.Mathlib.Decide.{ℕ_discrete}
-use Rattle.olap_graph.specs.Marking.{unmarked_count}
-use Rattle.olap_graph.specs.Tables.{IsMarked}
 
 -- ---- one mark
 

@@ -1,11 +1,9 @@
 -- The reserved words, one test after another.
 use Rattle.std.proofs.Common.{◌≡◌, ℕ, Bool, true, false, List, [], ◌∷◌, sym, refl, inl, inr, arith}
-use Rattle.std.specs.Prelude.{◌↔◌, ◌||◌, Contains, IsTrue, codes}
+use Rattle.std.{proofs.lemmas.Slice.Eq.bytes_eq-Decides, specs.Prelude.{◌↔◌, ◌||◌, Contains, IsTrue, codes}}
 use Rattle.std.specs.Str.{bytes_eq}
-use Rattle.std.proofs.lemmas.Slice.Eq.{bytes_eq-Decides}
-use Rattle.olap_base.specs.Deciding.{contains_cases, contains_cons}
+use Rattle.olap_base.{proofs.ListLemmas.Contains-nil, specs.Deciding.{contains_cases, contains_cons}}
 use Rattle.olap_base.specs.Graph.{reserved}
-use Rattle.olap_base.proofs.ListLemmas.{Contains-nil}
 
 -- a word is among some and one more if it is that one, or among them
 one_more : (x w : List ℕ) (xs : List (List ℕ)) (b r : Bool) → b ≡ bytes_eq w x → IsTrue r ↔ Contains xs w

@@ -1,6 +1,5 @@
 -- Different categories have different names.
-use Rattle.std.proofs.Common.{◌≡◌, ◌<◌, inl, inr, ℕ, zero, suc, [], get_or, arith, sym}
-use Rattle.std.proofs.lemmas.Bool.{cases_order}
+use Rattle.std.proofs.{Common.{◌≡◌, ◌<◌, inl, inr, ℕ, zero, suc, [], get_or, arith, sym}, lemmas.Bool.cases_order}
 use Rattle.std.proofs.lemmas.List.Elements.{Contains-get_or}
 use Rattle.olap_base.specs.Graph.{Graph, IsCategory, IsHierarchy}
 use Rattle.olap_graph.specs.Lookups.{name_of_category}

@@ -1,19 +1,10 @@
 -- The first place in a list at which a test passes, and what it says of names and edges.
 use Rattle.std.proofs.Common.{◌≡◌, ℕ, zero, suc, ◌+◌, ◌<◌, List, [], ◌∷◌, length, get_or, Bool, true, false, cond, Option, Some, None, refl, sym, ap, ◌∙◌, inl, inr, subst, arith}
-use Rattle.std.specs.Prelude.{Contains, ◌==◌, IsSome, IfSome, is_some, ◌↔◌}
-use Rattle.std.specs.Bool.{Decides}
-use Rattle.std.specs.List.{position_from}
-use Rattle.std.specs.Option.{option_map}
-use Rattle.std.specs.Str.{bytes_eq}
-use Rattle.std.proofs.lemmas.Bool.Decides.{Decides-and, Decides-eqb, Decides-like}
-use Rattle.std.proofs.lemmas.List.Elements.{Contains-get_or}
-use Rattle.std.proofs.lemmas.Slice.Eq.{bytes_eq-Decides}
-use Rattle.olap_base.specs.declared.ids.CatId.{CatId}
-use Rattle.olap_base.specs.declared.ids.EdgeId.{EdgeId}
-use Rattle.olap_base.specs.Deciding.{contains_cases}
-use Rattle.olap_base.specs.Graph.{Edge}
-use Rattle.olap_base.specs.Naming.{place_of}
-use Rattle.olap_base.proofs.ListLemmas.{Contains-nil}
+use Rattle.std.proofs.lemmas.{Bool.Decides.{Decides-and, Decides-eqb, Decides-like}, List.Elements.Contains-get_or}
+use Rattle.std.{proofs.lemmas.Slice.Eq.bytes_eq-Decides, specs.Bool.Decides, specs.List.position_from}
+use Rattle.std.specs.{Option.option_map, Prelude.{Contains, ◌==◌, IsSome, IfSome, is_some, ◌↔◌}, Str.bytes_eq}
+use Rattle.olap_base.{proofs.ListLemmas.Contains-nil, specs.Deciding.contains_cases, specs.Graph.Edge}
+use Rattle.olap_base.specs.{Naming.place_of, declared.ids.CatId.CatId, declared.ids.EdgeId.EdgeId}
 use Rattle.olap_graph.specs.Lookups.{joins}
 
 module _ {X : Type 0} (t : X → Bool) (P : X → Type 0) (tells : (x : X) → Decides (t x) (P x)) where

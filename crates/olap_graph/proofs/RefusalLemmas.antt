@@ -1,19 +1,11 @@
 -- The first reason to refuse a category or an edge, by what the tests say; and what a refusal rules out.
-use Rattle.std.proofs.Common.{◌≡◌, Result, Ok, Err, ℕ, ◌<◌, ◌≤◌, List, length, Bool, true, false, Option, None, Some, ap, ◌∙◌, arith, refl, subst, sym}
-use Rattle.std.specs.Prelude.{IfErr, IfOk, IsErr, IsErrAnd, OnErr, is_some, nat_le, if◌then◌else◌, ◌==◌}
-use Rattle.std.specs.Option.{option_map}
-use Rattle.std.proofs.lemmas.List.{length-map}
-use Rattle.std.proofs.lemmas.Bool.{false≢true}
-use Rattle.std.proofs.lemmas.Bool.Decides.{nat_tests}
-use Rattle.olap_base.specs.Graph.{Graph, category_count}
-use Rattle.olap_base.specs.Limits.{most_categories, most_edges}
-use Rattle.olap_graph.specs.Building.{category_refusal, edge_refusal}
-use Rattle.olap_graph.specs.Listing.{edge_of, graph_of}
-use Rattle.olap_graph.specs.Lookups.{category_named, edge_between}
-use Rattle.olap_graph.specs.declared.listing.Ends.{Ends}
-use Rattle.olap_graph.specs.declared.refusals.CategoryFault.{CategoryFault}
+use Rattle.std.proofs.Common.{◌≡◌, Result, Ok, Err, ℕ, ◌<◌, ◌≤◌, List, length, Bool, true, false, Option, None, Some, ap, ◌∙◌, arith, refl}
+use Rattle.std.{proofs.lemmas.Bool.false≢true, proofs.lemmas.Bool.Decides.nat_tests, specs.Option.option_map}
+use Rattle.std.specs.Prelude.{IfOk, IsErr, OnErr, is_some, nat_le, if◌then◌else◌, ◌==◌}
+use Rattle.olap_base.specs.{Graph.{Graph, category_count}, Limits.{most_categories, most_edges}}
+use Rattle.olap_graph.specs.{Building.{category_refusal, edge_refusal}, Lookups.{category_named, edge_between}}
+use Rattle.olap_graph.specs.declared.refusals.{CategoryFault.CategoryFault, EdgeFault.EdgeFault}
 use Rattle.olap_graph.specs.declared.refusals.CategoryFault.TheVariants as of_category
-use Rattle.olap_graph.specs.declared.refusals.EdgeFault.{EdgeFault}
 use Rattle.olap_graph.specs.declared.refusals.EdgeFault.TheVariants as of_edge
 
 -- what is found by its place is found
@@ -56,11 +48,6 @@ pub edge_reason_is : (g : Graph) (c d : ℕ) (loop from_all taken full : Bool) �
     → taken ≡ is_some (edge_between g c d) → full ≡ nat_le most_edges (length g.edges)
     → edge_refusal g c d ≡ edge_reason loop from_all taken full
 edge_reason_is g c d loop from_all taken full l a t f = rw (l, a, t, f) refl
-
--- how many edges a graph has
-pub edges_counted : (names : List (List ℕ)) (kinds : List Bool) (ends : List Ends) (n : ℕ) {g : Graph} → n ≡ length ends
-    → graph_of names kinds ends ≡ g → n ≡ length g.edges
-edges_counted names kinds ends n e v = e ∙ sym (length-map ends edge_of) ∙ ap (λ (h : Graph). length h.edges) v
 
 -- a refusal is no value
 pub no_value : {T E : Type 0} (r : Result T E) (P : T → Type 0) → IsErr r → IfOk r P

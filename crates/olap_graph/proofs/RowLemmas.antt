@@ -1,23 +1,16 @@
 -- A set for each category, step by step, and what the sets hold in the end.
 use Rattle.std.proofs.Common.{◌≡◌, ◌≢◌, ℕ, suc, ◌+◌, ◌<◌, ◌≤◌, ◌⊎◌, ◌↔◌, List, length, get_or, set, map, true, false, refl, ap, sym, subst, ◌∙◌, inl, inr, arith, eqb, eqb-true, eq-eqb}
-use Rattle.std.specs.Cmp.{nat_cmp_total}
-use Rattle.std.specs.FinSet.{FinSet, contains, empty, insert, union, contains-empty, contains-union}
-use Rattle.std.specs.Ordering.{nat_cmp}
-use Rattle.std.proofs.Math.ListN.{length-set}
-use Rattle.std.proofs.lemmas.Bool.{or_cases, or_left, or_right, cases_eq}
+use Rattle.std.proofs.{Math.ListN.length-set, lemmas.Bool.{or_cases, or_left, or_right, cases_eq}}
 use Rattle.std.proofs.lemmas.List.{get_or-map, get_or_past, length-map, map-set, get_or-set_same, get_or-set_other}
-use Rattle.olap_base.specs.Deciding.{Through, through_from_Steps, Steps-from_through}
-use Rattle.olap_base.specs.Graph.{Edge, Graph, HasEdge}
+use Rattle.std.specs.Cmp.{nat_cmp_total}
+use Rattle.std.specs.{FinSet.{FinSet, contains, empty, insert, union, contains-empty, contains-union}, Ordering.nat_cmp}
+use Rattle.olap_base.specs.{Deciding.{Through, through_from_Steps, Steps-from_through}, Graph.{Edge, Graph, HasEdge}}
 use Rattle.olap_base.specs.Steps.{Steps, Steps.here, Steps.step, Steps-from_reaches, reaches_from_Steps}
-use Rattle.olap_bits.specs.Sets.{members}
-use Rattle.olap_bits.specs.declared.sets.CatSet.{CatSet}
-use Rattle.olap_bits.proofs.CatSetLemmas.{in_insert}
-use Rattle.olap_graph.specs.Listing.{edge_of}
+use Rattle.olap_bits.{proofs.CatSetLemmas.in_insert, specs.Sets.members, specs.declared.sets.CatSet.CatSet}
+use Rattle.olap_graph.{proofs.TableLemmas.{edge_at-drawn, has_edge_at, nowhere, place_of_edge}, specs.Listing.edge_of}
 use Rattle.olap_graph.specs.Lookups.{edge_at}
 use Rattle.olap_graph.specs.Rows.{AreDrawn, AreJoined, AreOwn, AreReached, Has, IsClosure, JoinsBefore, Passes, row}
-use Rattle.olap_graph.specs.Tables.{LiesWithin, drawn}
-use Rattle.olap_graph.specs.declared.listing.Ends.{Ends}
-use Rattle.olap_graph.proofs.TableLemmas.{edge_at-drawn, has_edge_at, nowhere, place_of_edge}
+use Rattle.olap_graph.specs.{Tables.{LiesWithin, drawn}, declared.listing.Ends.Ends}
 
 -- ---- one set
 

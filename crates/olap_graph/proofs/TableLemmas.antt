@@ -1,25 +1,17 @@
 -- What the tables of a graph say of it, and how they are filled.
 use Rattle.std.proofs.Common.{◌≡◌, ◌≢◌, ℕ, zero, suc, ◌+◌, ◌<◌, ◌↔◌, ◌==◌, List, [], ◌∷◌, ◌++◌, length, get_or, set, map, cond, Bool, true, false, refl, ap, sym, subst, ◌∙◌, inl, arith, get_or-set_other}
-use Rattle.std.specs.Prelude.{All, Contains, IsTrue, filter}
-use Rattle.std.specs.FinSet.{contains}
-use Rattle.std.specs.List.{range_with_len}
-use Rattle.std.proofs.lemmas.List.{get_or-map, get_or_default, map_push, map-id}
-use Rattle.std.proofs.lemmas.List.Elements.{Contains-get_or, filter-append}
-use Rattle.std.proofs.lemmas.List.FromFn.{map-range_with_len_more}
-use native.Mathlib.Decide.{ℕ_discrete}
-use Rattle.olap_base.specs.declared.ids.CatId.{CatId}
-use Rattle.olap_base.specs.declared.ids.EdgeId.{EdgeId}
-use Rattle.olap_base.specs.Graph.{Edge, Graph, HasEdge, IsBottom, IsCategory, IsHierarchy, CategoryReaches, category_count}
+use Rattle.std.proofs.lemmas.{Bool.Decides.Decides-eqb, List.{get_or-map, get_or_default, map_push, map-id}}
+use Rattle.std.proofs.lemmas.List.{Elements.{Contains-get_or, filter-append}, FromFn.map-range_with_len_more}
+use Rattle.std.specs.{List.range_with_len, Prelude.{All, Contains, filter}}
 use Rattle.olap_base.proofs.ListLemmas.{Contains-filter, Contains-from_filter, Contains-map, Contains-from_map, Contains-range, Contains-from_range}
-use Rattle.std.proofs.lemmas.Bool.Decides.{Decides-eqb}
+use Rattle.olap_base.specs.Graph.{Edge, Graph, HasEdge, IsCategory, IsHierarchy, CategoryReaches, category_count}
+use Rattle.olap_base.specs.declared.ids.{CatId.CatId, EdgeId.EdgeId}
 use Rattle.olap_bits.specs.declared.sets.CatSet.{CatSet}
-use Rattle.olap_graph.specs.Building.{IsUnfinished, IsFirstWithoutWay}
-use Rattle.olap_graph.specs.Listing.{edge_of, graph_of}
-use Rattle.olap_graph.specs.Lookups.{edge_at, edges_from}
-use Rattle.olap_graph.specs.Marking.{parents_of}
-use Rattle.olap_graph.specs.Rows.{AreReached, row}
+use Rattle.olap_graph.specs.{Building.{IsUnfinished, IsFirstWithoutWay}, Listing.{edge_of, graph_of}}
+use Rattle.olap_graph.specs.{Lookups.{edge_at, edges_from}, Marking.parents_of, Rows.{AreReached, row}}
 use Rattle.olap_graph.specs.Tables.{drawn, IsMarked, LiesWithin, AreOut, AreBottoms, IsFirstWithout, HaveAll}
 use Rattle.olap_graph.specs.declared.listing.Ends.{Ends}
+use native.Mathlib.Decide.{ℕ_discrete}
 
 -- what is read if there are no ends
 abbrev pub nowhere : Ends
@@ -210,29 +202,7 @@ bottoms_done g n marks l i = record {
   );
 }
 
--- what is read from the marks
-pub bottom_is : (names : List (List ℕ)) (kinds : List Bool) (ends : List Ends) (n c : ℕ) (marks : List Bool) (r : Bool)
-    → AreBottoms (drawn ends) n marks → n ≡ category_count (graph_of names kinds ends)
-    → c < n → r ≡ get_or marks c r → IsTrue r ↔ IsBottom (graph_of names kinds ends) c
-bottom_is names kinds ends n c marks r b q h e =
-    let t = b.exact c h in
-    let l : c < length marks = let k = b.count in omega arith in
-    let is : get_or marks c false ≡ r = get_or_default marks c false r l ∙ sym e in
-    let within : c < category_count (graph_of names kinds ends) = omega arith in (
-      λ m. let u = t.0 (is ∙ m) in ((u.0, within), u.1),
-      λ u. sym is ∙ t.1 (u.0.0, u.1),
-    )
-
 -- ---- what is reached
-
--- what is read from a category's set
-pub row_is : {W : ℕ} (names : List (List ℕ)) (kinds : List Bool) (ends : List Ends) (n c d : ℕ)
-    (rows : List (CatSet W)) (r : Bool)
-    → AreReached (drawn ends) n rows → c < n → r ≡ contains (row rows c) d
-    → IsTrue r ↔ CategoryReaches (graph_of names kinds ends) c d
-row_is names kinds ends n c d rows r a h q =
-    let t = a.each c d h in
-    (λ m. t.0 (sym q ∙ m), λ u. q ∙ t.1 u)
 
 -- the ends of the edges are categories
 pub lies_within : (names : List (List ℕ)) (kinds : List Bool) (ends : List Ends) (n : ℕ)

@@ -1,13 +1,10 @@
 -- Whether a parent is among others.
 use Rattle.std.proofs.Common.{◌≡◌, ◌↔◌, ◌||◌, ◌<◌, ◌+◌, ◌++◌, Vec, Global, take, ◌∷◌, ◌∙◌, Bool, true, false, ℕ, zero, suc, List, [], length, map, get_or, Option, Some, None, refl, sym, ap, arith}
-use Rattle.std.specs.Prelude.{Contains, IsTrue, unwrap_or}
-use Rattle.std.proofs.lemmas.List.{map-append, take_more}
-use Rattle.olap_instance.specs.Drafts.{places_of}
+use Rattle.std.{proofs.lemmas.Grind.common_steps, proofs.lemmas.List.{map-append, take_more}, specs.List.list_any}
+use Rattle.std.specs.{Option.option_eq, Prelude.{Contains, IsTrue, unwrap_or}}
+use Rattle.olap_instance.specs.{DraftInside.{number_of, parents_told}, Drafts.places_of}
 use Rattle.olap_instance.specs.Passes.{numbers_of, parents_in}
-use Rattle.std.specs.List.{list_any}
-use Rattle.std.specs.Option.{option_eq}
 use Rattle.olap_base.specs.declared.ids.MemberId.{MemberId}
-use Rattle.olap_instance.specs.DraftInside.{number_of, parents_told}
 
 module _ {X Y : Type 0} (f : X → Bool) (g : X → Y) (y : Y) (same : (x : X) → (f x ≡ true) ↔ (g x ≡ y)) where
   later : (x : X) (xs : List X) → Contains (map g xs) y → Contains (map g (x ∷ xs)) y
@@ -49,22 +46,7 @@ pub place-more : (all : MemberId) (ps : List (Option MemberId)) (i : ℕ) (d p :
     → i < length ps → p ≡ get_or ps i d → numbers_of found ≡ places_of all.0 (map number_of (take i ps))
     → now ≡ found ++ m ∷ []
     → m ≡ unwrap_or p all → numbers_of now ≡ places_of all.0 (map number_of (take (i + 1) ps))
-place-more all ps i d p found now m l ep e en em =
-    let more : take (i + 1) ps ≡ take i ps ++ p ∷ [] =
-    take_more ps i d l ∙ ap (λ (x : Option MemberId). take i ps ++ x ∷ []) (sym ep) in
-    ap numbers_of en ∙ map-append (λ p. p.0) found (m ∷ [])
-    ∙ rw (
-      more,
-      map-append number_of (take i ps) (p ∷ []),
-      map-append (λ q. unwrap_or q all.0) (map number_of (take i ps)) (number_of p ∷ []),
-      e,
-      em,
-    ) (one p)
-  where
-    one : (p : Option MemberId) → places_of all.0 (map number_of (take i ps)) ++ (unwrap_or p all).0 ∷ []
-        ≡ places_of all.0 (map number_of (take i ps)) ++ unwrap_or (number_of p) all.0 ∷ []
-    one None = refl
-    one (Some q) = refl
+place-more all ps i d p found now m l ep e en em = grind (arith, common_steps, take_more, map-append)
 
 -- the parents of one member more
 pub linked-more : (all : MemberId) (lists : List (Vec (Option MemberId) Global)) (i : ℕ)
@@ -73,13 +55,4 @@ pub linked-more : (all : MemberId) (lists : List (Vec (Option MemberId) Global))
     → parents_in found ≡ map (places_of all.0) (parents_told (take i lists))
     → parents_in now ≡ parents_in found ++ places_of all.0 (map number_of v.items) ∷ []
     → parents_in now ≡ map (places_of all.0) (parents_told (take (i + 1) lists))
-linked-more all lists i d v found now l ev e en =
-    let more : take (i + 1) lists ≡ take i lists ++ v ∷ [] =
-    take_more lists i d l ∙ ap (λ (x : Vec (Option MemberId) Global). take i lists ++ x ∷ []) (sym ev) in
-    en
-    ∙ rw (
-      more,
-      map-append (λ ps. map number_of ps.items) (take i lists) (v ∷ []),
-      map-append (places_of all.0) (parents_told (take i lists)) (map number_of v.items ∷ []),
-      e,
-    ) refl
+linked-more all lists i d v found now l ev e en = grind (arith, common_steps, take_more, map-append)

@@ -1,26 +1,18 @@
 -- What the calls of a builder do to its draft.
 use Rattle.std.proofs.Common.{◌≡◌, ◌≢◌, ◌+◌, ◌<◌, ◌++◌, ◌∷◌, ◌∙◌, Bool, cond, true, false, Vec, Global, inl, inr, ℕ, suc, List, [], length, map, codes, get_or, slice_set, Option, Some, None, refl, sym, ap, arith}
-use Rattle.std.specs.Prelude.{IfSome, IsSome, IsTrue}
-use Rattle.std.specs.List.{position_from}
-use Rattle.std.specs.Str.{bytes_eq}
-use Rattle.std.proofs.Math.Seq.{get_or-append_seam, map-set_same}
-use Rattle.std.proofs.lemmas.Bool.Decides.{eqb_tells}
+use Rattle.std.proofs.{Math.Seq.{get_or-append_seam, map-set_same}, lemmas.Bool.Decides.eqb_tells}
 use Rattle.std.proofs.lemmas.List.{get_or-map, get_or_append_left, length-append, length-map, map-append, map-set}
-use Rattle.std.proofs.lemmas.Slice.Eq.{bytes_eq-Decides}
+use Rattle.std.{proofs.lemmas.Slice.Eq.bytes_eq-Decides, specs.List.position_from}
+use Rattle.std.specs.{Prelude.{IfSome, IsSome, IsTrue}, Str.bytes_eq}
 use Rattle.olap_base.specs.Graph.{Graph, category_count, is_number}
-use Rattle.olap_numerals.specs.Numerals.{number_of}
-use Rattle.olap_base.specs.Instance.{Instance, Member, category_of, member_at, name_of, nobody}
-use Rattle.olap_base.specs.Naming.{place_of}
+use Rattle.olap_base.specs.{Instance.{Instance, Member, category_of, member_at, name_of, nobody}, Naming.place_of}
 use Rattle.olap_base.specs.declared.ids.MemberId.{MemberId}
+use Rattle.olap_numerals.specs.Numerals.{number_of}
+use Rattle.olap_instance.proofs.{Checks.kind-at, Completing.complete-sound, DraftLemmas.{draft-complete, fresh-is}}
+use Rattle.olap_instance.proofs.MembersLemmas.{length-with_parents, member_at-with_parents}
 use Rattle.olap_instance.specs.DraftInside.{number_of as parent_number, parents_told}
 use Rattle.olap_instance.specs.Drafts.{Draft, IsDraft, has_numbers, named_refusal, numbers_in, parents_so_far, places_of, with_member, with_parent}
-use Rattle.olap_instance.specs.Made.{IsMadeFor}
-use Rattle.olap_instance.specs.Members.{AreSound, all_member, childless, with_parents}
-use Rattle.olap_instance.specs.Passes.{ids_in}
-use Rattle.olap_instance.proofs.Checks.{kind-at}
-use Rattle.olap_instance.proofs.Completing.{complete-sound}
-use Rattle.olap_instance.proofs.DraftLemmas.{draft-complete, fresh-is}
-use Rattle.olap_instance.proofs.MembersLemmas.{length-with_parents, member_at-with_parents}
+use Rattle.olap_instance.specs.{Made.IsMadeFor, Members.{AreSound, all_member, childless, with_parents}, Passes.ids_in}
 
 -- a parent that is a member has a place
 pub number-inside : (p : Option MemberId) (n : ℕ) → IfSome p (λ m. m.0 < n) → IfSome (parent_number p) (λ y. y < n)
@@ -31,11 +23,7 @@ number-inside (Some m) n h = h
 pub has-list : (d : Draft) (lists : List (Vec (Option MemberId) Global)) (x : ℕ) → IsDraft d
     → d.parents ≡ parents_told lists
     → x < length d.members → x < length lists
-has-list d lists x h told l =
-    let e = h.as_many in
-    let m = ap (λ (t : List (List (Option ℕ))). length t) told in
-    let n = length-map lists (λ ps. map parent_number ps.items) in
-    omega arith
+has-list d lists x h told l = grind (arith, length-map)
 
 -- the draft whose member x has these parents in place of its own
 module _ (d : Draft) (lists : List (Vec (Option MemberId) Global)) (told : d.parents ≡ parents_told lists) (x : ℕ)
@@ -98,9 +86,7 @@ with-new d id category name ms ps em ep = rw (em, ep) refl
 pub told-none : (lists now : List (Vec (Option MemberId) Global)) (v : Vec (Option MemberId) Global)
     → now ≡ lists ++ v ∷ [] → v.items ≡ []
     → parents_told now ≡ parents_told lists ++ [] ∷ []
-told-none lists now v en ev =
-    ap parents_told en ∙ map-append (λ ps. map parent_number ps.items) lists (v ∷ [])
-    ∙ ap (λ (t : List (Option MemberId)). parents_told lists ++ map parent_number t ∷ []) ev
+told-none lists now v en ev = grind (arith, map-append)
 
 -- a draft, finished
 module _ (d : Draft) (h : IsDraft d) (ms : Instance) (ps : List (List ℕ)) (em : ms ≡ d.members ++ all_member ∷ [])

@@ -1,10 +1,7 @@
 -- Names of categories: each is ASCII, and leads to its category.
 use Rattle.std.proofs.Common.{◌≡◌, ◌≢◌, ◌<◌, ◌∷◌, inl, inr, ℕ, zero, suc, List, [], get_or, Some, refl, sym, ap, arith}
-use Rattle.std.specs.Prelude.{All}
-use Rattle.std.specs.Str.{IsUtf8}
-use Rattle.std.proofs.lemmas.Str.{IsUtf8-from_ascii}
-use Rattle.std.proofs.lemmas.Str.Ascii.{IsAscii-from_all}
-use Rattle.std.proofs.lemmas.List.Elements.{Contains-get_or}
+use Rattle.std.proofs.lemmas.{List.Elements.Contains-get_or, Str.IsUtf8-from_ascii, Str.Ascii.IsAscii-from_all}
+use Rattle.std.specs.{Prelude.All, Str.IsUtf8}
 use Rattle.olap_base.proofs.ListLemmas.{Distinct-from_AllPairs, Distinct-places}
 use Rattle.olap_base.specs.Graph.{Graph, IsCategory, IsCategoryName, IsHierarchy, IsLetter, IsLetterOrDigit}
 use Rattle.olap_graph.specs.Lookups.{category_named, name_of_category, names_of}

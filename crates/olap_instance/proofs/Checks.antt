@@ -1,24 +1,16 @@
 -- What it tells that a record, or a piece of a field of parents, fails no check.
-use Rattle.std.proofs.Common.{◌≡◌, ◌≢◌, ◌+◌, ◌<◌, ◌≤◌, ◌==◌, ◌||◌, ◌++◌, ◌∷◌, ◌∙◌, not, Bool, cond, true, false, ℕ, ℤ, zero, suc, List, [], length, map, take, codes, get_or, length-take, Option, Some, None, if◌then◌else◌, refl, sym, ap, arith}
-use Rattle.std.specs.Prelude.{AllPairs, Contains, IsSome, IsTrue, is_none, is_some, nat_le, nat_lt}
-use Rattle.std.specs.List.{list_any, position_from}
-use Rattle.std.specs.Option.{option_map}
-use Rattle.std.specs.Str.{bytes_eq}
-use Rattle.std.proofs.lemmas.List.{get_or-map, get_or-take, length-map, take_more}
-use Rattle.std.proofs.lemmas.Option.{slice_get-get_or}
-use Rattle.std.proofs.lemmas.Slice.Eq.{bytes_eq-Decides}
-use Rattle.olap_base.specs.Graph.{Graph, is_number}
-use Rattle.olap_base.specs.Limits.{most_members, most_text_bytes}
-use Rattle.olap_base.specs.Naming.{place_of}
+use Rattle.std.proofs.Common.{rules, ◌≡◌, ◌≢◌, ◌+◌, ◌<◌, ◌≤◌, ◌==◌, ◌||◌, ◌++◌, ◌∷◌, ◌∙◌, not, Bool, true, false, ℕ, zero, suc, List, [], length, map, take, codes, get_or, length-take, Option, Some, None, if◌then◌else◌, refl, sym, ap, arith}
+use Rattle.std.proofs.lemmas.{Bool.or_parts, List.{get_or-map, get_or-take, length-map, take_more}}
+use Rattle.std.proofs.lemmas.{Option.slice_get-get_or, Slice.Eq.bytes_eq-Decides}
+use Rattle.std.specs.{List.{list_any, position_from}, Option.option_map}
+use Rattle.std.specs.{Prelude.{AllPairs, Contains, IsSome, IsTrue, is_none, nat_le, nat_lt}, Str.bytes_eq}
+use Rattle.olap_base.{proofs.GeneralLemmas.none_from_is_some, specs.Graph.{Graph, is_number}}
+use Rattle.olap_base.specs.{Limits.{most_members, most_text_bytes}, Naming.place_of}
 use Rattle.olap_graph.specs.Lookups.{category_named}
-use Rattle.olap_records.specs.Faults.{first_fault}
-use Rattle.olap_records.proofs.FaultLemmas.{none-iff}
+use Rattle.olap_records.{proofs.FaultLemmas.none-iff, specs.Faults.first_fault}
+use Rattle.olap_instance.{proofs.PlaceFacts.{id-at-place, place-within}, specs.Drafts.numbers_in}
 use Rattle.olap_instance.specs.InstanceText.{category_field, category_number, id_field, is_bad_id, is_bad_number, is_known, is_no_text, is_too_long, member_fault, name_field, parent_read, piece_fault}
 use Rattle.olap_numerals.specs.Numerals.{number_of}
-use Rattle.olap_instance.specs.Drafts.{numbers_in}
-use Rattle.olap_instance.proofs.PlaceFacts.{id-at-place, place-within}
-use Rattle.std.proofs.lemmas.Bool.{or_parts}
-use Rattle.olap_base.proofs.GeneralLemmas.{none_from_is_some}
 
 -- ---- checks
 
@@ -52,37 +44,19 @@ pub record IsGood (g : Graph) (before : List (List (List ℕ))) (r : List (List 
 -- a record without a fault has good fields
 pub good : (g : Graph) (before : List (List (List ℕ))) (r : List (List ℕ)) → member_fault g before r ≡ None
     → IsGood g before r
-good g before r e =
-    let a = else-none (not (length r == 4)) _ _ e in
-    let b = else-none (is_no_text r) _ _ a.1 in
-    let c = else-none (is_bad_id (id_field r)) _ _ b.1 in
-    let d = else-none (is_too_long (id_field r) || is_too_long (name_field r)) _ _ c.1 in
-    let f = else-none (is_none (category_named g (category_field r))) _ _ d.1 in
-    let h = else-none (category_number g r == 0) _ _ f.1 in
-    let n = else-none (is_bad_number (is_number g (category_number g r)) (name_field r)) _ _ h.1 in
-    let i = else-none (is_known before (id_field r)) _ _ n.1 in
-    let j = else-none (nat_le most_members (length before + 1)) _ _ i.1 in
-    record { text = b.0; id = c.0; short = d.0; named = f.0; declared = h.0; numeral = n.0; fresh = i.0; room = j.0 }
+good g before r e = grind (arith, else-none)
 
 -- a name that is no bad one of a number category is a numeral
 pub good-number : (number : Bool) (name : List ℕ) → is_bad_number number name ≡ false → IsTrue number
     → IsSome (number_of name)
 good-number false name e t = cc t
-good-number true name e t = by (number_of name) e
-  where
-    by : (o : Option ℤ) → is_none o ≡ false → IsSome o
-    by None e = cc e
-    by (Some z) e = refl
+good-number true name e t = search rules
 
 -- and the other way round
 pub number-good : (number : Bool) (name : List ℕ) → (IsTrue number → IsSome (number_of name))
     → is_bad_number number name ≡ false
 number-good false name h = refl
-number-good true name h = by (number_of name) (h refl)
-  where
-    by : (o : Option ℤ) → IsSome o → is_none o ≡ false
-    by None e = cc e
-    by (Some z) e = refl
+number-good true name h = search rules
 
 -- whether the names of a category are numbers, looked up
 pub kind-at : (g : Graph) (c : ℕ) → get_or (numbers_in g) c false ≡ is_number g c
@@ -98,9 +72,7 @@ kinds-more g c kinds now k l e ek en =
 -- an id that isn't known is or_parts `all` nor that of an earlier record
 pub fresh-parts : (before : List (List (List ℕ))) (id : List ℕ) → is_known before id ≡ false
     → (bytes_eq id (codes "all") ≡ false) × (place_of id (map id_field before) ≡ None)
-fresh-parts before id e =
-    let n = or_parts (bytes_eq id (codes "all")) (is_some (place_of id (map id_field before))) e in
-    (n.0, none_from_is_some (place_of id (map id_field before)) n.1)
+fresh-parts before id e = grind (arith, or_parts, none_from_is_some)
 
 -- of four tests that all pass the first and the third do
 pub four : (a b c d : Bool) → (not a || not b || not c || not d) ≡ false → (a ≡ true) × (c ≡ true)
@@ -113,14 +85,7 @@ four true true true d e = (refl, refl)
 pub absent-at : (x : List ℕ) (ids : List (List ℕ)) (n k : ℕ) → position_from (bytes_eq x) n ids ≡ None
     → k < length ids → get_or ids k [] ≢ x
 absent-at x [] n k e l s = omega arith
-absent-at x (y ∷ ys) n k e l s = by (bytes_eq x y) refl e k l s (absent-at x ys (n + 1))
-  where
-    by : (b : Bool) → bytes_eq x y ≡ b → cond b (Some n) (position_from (bytes_eq x) (n + 1) ys) ≡ None
-        → (k : ℕ) → k < length (y ∷ ys) → get_or (y ∷ ys) k [] ≡ x
-        → ((k : ℕ) → position_from (bytes_eq x) (n + 1) ys ≡ None → k < length ys → get_or ys k [] ≢ x) → ⊥
-    by true t e k l s again = cc e
-    by false f e zero l s again = let t = (bytes_eq-Decides x y).1 (sym s) in cc (t, f)
-    by false f e (suc k) l s again = again k e (omega arith) s
+absent-at x (y ∷ ys) n k e l s = grind (arith, bytes_eq-Decides, absent-at x ys (n + 1))
 
 -- no more than the limit, by the test
 pub within : (n : ℕ) → nat_lt most_text_bytes n ≡ false → n ≤ most_text_bytes

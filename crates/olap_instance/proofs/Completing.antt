@@ -1,16 +1,13 @@
 -- Members with their parents, and `all` after them, are a dimension instance.
 use Rattle.std.proofs.Common.{◌≡◌, ◌≢◌, ◌↔◌, ◌+◌, ◌<◌, ◌≤◌, ◌++◌, ◌∷◌, ◌∙◌, ◌⊎◌, inl, inr, ℕ, zero, suc, List, [], length, codes, get_or, refl, sym, ap, arith}
-use Rattle.std.specs.Prelude.{AllPairs, Contains, IsTrue}
-use Rattle.std.specs.Str.{IsAscii, is_utf8}
-use Rattle.std.proofs.lemmas.Str.{IsUtf8-from_ascii, is_utf8-from_IsUtf8}
-use Rattle.std.proofs.Math.Seq.{get_or-append_seam}
-use Rattle.std.proofs.lemmas.Bool.Decides.{eqb_tells}
-use Rattle.std.proofs.lemmas.List.{get_or_append_left, length-append}
+use Rattle.std.proofs.{Math.Seq.get_or-append_seam, lemmas.Bool.Decides.eqb_tells}
+use Rattle.std.proofs.lemmas.{List.{get_or_append_left, length-append}, Str.{IsUtf8-from_ascii, is_utf8-from_IsUtf8}}
+use Rattle.std.specs.{Prelude.{AllPairs, Contains, IsTrue}, Str.{IsAscii, is_utf8}}
 use Rattle.olap_base.specs.Deciding.{below_is_member}
 use Rattle.olap_base.specs.Instance.{Instance, IsBelow, IsInstance, IsMember, Member, category_of, member_at, nobody, parents_of}
 use Rattle.olap_base.specs.Limits.{most_members}
-use Rattle.olap_instance.specs.Members.{AreSound, HasShortNames, HasTexts, IsMemberId, all_member, with_parents}
 use Rattle.olap_instance.proofs.MembersLemmas.{length-with_parents, member_at-with_parents}
+use Rattle.olap_instance.specs.Members.{AreSound, HasShortNames, HasTexts, IsMemberId, all_member, with_parents}
 
 -- what members and their parents must meet before `all` is added
 pub record AreComplete (ms : Instance) (ps : List (List ℕ)) : Type 0 where

@@ -1,43 +1,23 @@
 -- Instances in the making.
-use Rattle.std.proofs.Common.{◌≡◌, ◌≢◌, ◌+◌, ◌<◌, ◌≤◌, ◌==◌, ◌||◌, ◌++◌, ◌∷◌, ◌∙◌, ◌⊎◌, inl, inr, false, ℕ, zero, suc, List, [], length, map, codes, get_or, Option, Some, None, refl, sym, ap, arith}
-use Rattle.std.specs.Prelude.{Contains, IfSome, IsTrue, is_some, unwrap_or, nat_le}
-use Rattle.std.specs.List.{list_any}
-use Rattle.std.specs.Str.{bytes_eq, is_utf8}
-use Rattle.std.proofs.Math.Seq.{get_or-append_seam}
-use Rattle.std.proofs.lemmas.Bool.Decides.{eqb_tells}
+use Rattle.std.proofs.Common.{rules, ◌≡◌, ◌≢◌, ◌+◌, ◌<◌, ◌≤◌, ◌==◌, ◌||◌, ◌++◌, ◌∷◌, ◌∙◌, ◌⊎◌, inl, inr, false, ℕ, zero, suc, List, [], length, map, codes, get_or, Option, Some, None, refl, sym, ap, arith}
+use Rattle.std.proofs.{Math.Seq.get_or-append_seam, lemmas.Bool.{or_parts, cases_lt}, lemmas.Bool.Decides.eqb_tells}
 use Rattle.std.proofs.lemmas.List.{get_or-map, get_or-set_other, get_or-set_same, get_or_append_left, length-append, length-map, length-set}
-use Rattle.std.proofs.lemmas.List.Elements.{Contains-push_cases}
-use Rattle.std.proofs.lemmas.List.Quantifiers.{all_pairs_push}
-use Rattle.std.proofs.lemmas.Slice.Eq.{bytes_eq-Decides}
-use Rattle.olap_base.specs.Bytes.{semicolon}
-use Rattle.olap_base.proofs.ListLemmas.{AllPairs-from_Distinct, Contains-from_map, Distinct-from_AllPairs, Distinct-map}
-use Rattle.olap_base.specs.Graph.{Graph, IsHierarchy}
-use Rattle.olap_base.specs.Instance.{Instance, Member, category_of, member_at, name_of, nobody}
-use Rattle.olap_base.specs.Limits.{most_members}
-use Rattle.olap_base.specs.Naming.{place_of}
-use Rattle.olap_instance.specs.Drafts.{Draft, HasParent, IsDraft, has_numbers, named_refusal, no_members, parents_so_far, places_of, with_member, with_parent}
-use Rattle.olap_instance.specs.InstanceText.{is_bad_id, is_bad_number, is_too_long}
-use Rattle.olap_instance.specs.Members.{IsMemberId, childless}
-use Rattle.olap_instance.specs.Passes.{ids_in}
-use Rattle.olap_instance.proofs.Completing.{AreComplete}
-use Rattle.olap_instance.proofs.Checks.{absent-at, else-none, good-number, within}
+use Rattle.std.proofs.lemmas.List.{Elements.Contains-push_cases, Quantifiers.all_pairs_push}
+use Rattle.std.{proofs.lemmas.Slice.Eq.bytes_eq-Decides, specs.List.list_any}
+use Rattle.std.specs.{Prelude.{Contains, IfSome, IsTrue, is_some, unwrap_or, nat_le}, Str.{bytes_eq, is_utf8}}
 use Rattle.olap_base.proofs.GeneralLemmas.{not_zero, none_from_is_some}
-use Rattle.std.proofs.lemmas.Bool.{or_parts, cases_lt}
+use Rattle.olap_base.proofs.ListLemmas.{AllPairs-from_Distinct, Contains-from_map, Distinct-from_AllPairs, Distinct-map}
+use Rattle.olap_base.specs.{Bytes.semicolon, Graph.{Graph, IsHierarchy}}
+use Rattle.olap_base.specs.{Instance.{Instance, Member, category_of, member_at, name_of, nobody}, Limits.most_members}
+use Rattle.olap_base.specs.Naming.{place_of}
+use Rattle.olap_instance.proofs.{Checks.{absent-at, else-none, good-number, within}, Completing.AreComplete}
+use Rattle.olap_instance.specs.Drafts.{Draft, HasParent, IsDraft, has_numbers, named_refusal, no_members, parents_so_far, places_of, with_member, with_parent}
+use Rattle.olap_instance.specs.{InstanceText.{is_bad_id, is_bad_number, is_too_long}, Members.{IsMemberId, childless}}
+use Rattle.olap_instance.specs.Passes.{ids_in}
 
 -- a draft without members
 pub draft-none : (g : Graph) → IsHierarchy g → IsDraft (no_members g)
-draft-none g h = record {
-  kinds_known = let e = h.kinds_known in omega arith;
-  numerals = λ x l. absurd (omega arith);
-  as_many = refl;
-  few = omega arith;
-  ids_differ = λ x y l m e. absurd (omega arith);
-  not_all = λ x l. absurd (omega arith);
-  declared = λ x l. absurd (omega arith);
-  texts = λ x l. absurd (omega arith);
-  parents_are_members = λ x y c. absurd (omega (arith, c.1));
-  parents_differ = λ x i j d ij lj. absurd (omega arith);
-}
+draft-none g h = search rules
 
 -- what is past the end of a list of lists is empty
 past-end : (xs : List (List (Option ℕ))) (x : ℕ) → length xs ≤ x → get_or xs x [] ≡ []
@@ -59,14 +39,7 @@ record IsAccepted (d : Draft) (id : List ℕ) (category : ℕ) (name : List ℕ)
 -- what the refusal tells if there is none
 accepted : (d : Draft) (id : List ℕ) (category : ℕ) (name : List ℕ) → named_refusal d id category name ≡ None
     → IsAccepted d id category name
-accepted d id category name e =
-    let a = else-none (is_bad_id id) _ _ e in
-    let b = else-none (is_too_long id) _ _ a.1 in
-    let c = else-none (category == 0) _ _ b.1 in
-    let n = else-none (is_bad_number (has_numbers d category) name) _ _ c.1 in
-    let f = else-none (bytes_eq id (codes "all") || is_some (place_of id (ids_in d.members))) _ _ n.1 in
-    let g = else-none (nat_le most_members (length d.members + 1)) _ _ f.1 in
-    record { good = a.0; short = b.0; declared = c.0; numeral = n.0; fresh = f.0; room = g.0 }
+accepted d id category name e = grind (arith, else-none)
 
 module _ (d : Draft) (h : IsDraft d) (id : List ℕ) (category : ℕ) (name : List ℕ)
     (passes : named_refusal d id category name ≡ None) where

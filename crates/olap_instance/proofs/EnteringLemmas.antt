@@ -1,20 +1,13 @@
 -- One member more from a record.
-use Rattle.std.proofs.Common.{◌≡◌, ◌≢◌, ◌<◌, ◌==◌, ◌||◌, ◌∙◌, ◌++◌, ◌∷◌, ◌+◌, arith, codes, Option, Bool, cond, true, false, ℕ, List, [], length, map, Some, None, refl, sym, ap}
-use Rattle.std.specs.Prelude.{is_none, is_some, nat_le, unwrap_or}
-use Rattle.std.specs.List.{position_from}
+use Rattle.std.proofs.Common.{◌≡◌, ◌≢◌, ◌<◌, ◌||◌, ◌++◌, ◌∷◌, ◌+◌, arith, codes, Bool, cond, true, false, ℕ, List, [], length, map, Some, None, refl, sym, ap}
+use Rattle.std.proofs.lemmas.{Bool.{false_from_ne_true, or_from}, List.{length-map, map-append}}
+use Rattle.std.{proofs.lemmas.Slice.Eq.bytes_eq-Decides, specs.List.position_from, specs.Prelude.{is_some, nat_le}}
 use Rattle.std.specs.Str.{bytes_eq}
-use Rattle.std.proofs.lemmas.List.{length-map, map-append}
-use Rattle.std.proofs.lemmas.Slice.Eq.{bytes_eq-Decides}
-use Rattle.olap_base.specs.Graph.{Graph, is_number}
-use Rattle.olap_base.specs.Limits.{most_members}
+use Rattle.olap_base.specs.{Graph.{Graph, is_number}, Instance.{Instance, Member}, Limits.most_members, Naming.place_of}
 use Rattle.olap_graph.specs.Lookups.{category_named}
-use Rattle.olap_base.specs.Instance.{Instance, Member}
-use Rattle.olap_base.specs.Naming.{place_of}
-use Rattle.olap_instance.specs.InstanceText.{category_field, category_number, id_field, is_bad_id, is_bad_number, is_no_text, is_too_long, member_fault, member_read, name_field}
-use Rattle.olap_instance.specs.Members.{childless}
-use Rattle.olap_instance.specs.Passes.{ids_in}
 use Rattle.olap_instance.proofs.Passing.{differ-zero, unrefused}
-use Rattle.std.proofs.lemmas.Bool.{false_from_ne_true, or_from}
+use Rattle.olap_instance.specs.InstanceText.{category_field, category_number, id_field, is_bad_id, is_bad_number, is_no_text, is_too_long, member_fault, member_read, name_field}
+use Rattle.olap_instance.specs.{Members.childless, Passes.ids_in}
 
 -- the ids of records are those of their members
 pub ids-read : (g : Graph) (rows : List (List (List ℕ))) → map id_field rows ≡ ids_in (map (member_read g) rows)
@@ -79,12 +72,4 @@ pub entered : (g : Graph) (ids : List (List ℕ)) (n : ℕ) (r : List (List ℕ)
     → map id_field earlier ≡ ids → length earlier ≡ n
     → (member_fault g earlier r ≡ None) × (k ≡ category_number g r)
 entered g ids n r k four text id short name named some numeral other fresh few earlier ei en =
-    let number : category_number g r ≡ k = ap (λ (o : Option ℕ). unwrap_or o 0) named in (
-      unrefused g earlier r (ap (λ (m : ℕ). m == 4) four) text id (or_from _ _ short name)
-          (ap (λ (o : Option ℕ). is_none o) named)
-          (ap (λ (m : ℕ). m == 0) number ∙ differ-zero k some)
-          (ap (λ (m : ℕ). is_bad_number (is_number g m) (name_field r)) number ∙ numeral)
-          (new-id (id_field r) (map id_field earlier) other (ap (place_of (id_field r)) ei ∙ fresh))
-          (room (length earlier) (rw en few)),
-      sym number,
-    )
+    grind (arith, unrefused, or_from, differ-zero, new-id, room)

@@ -1,9 +1,7 @@
 -- The value after bytes, step by step.
 use Rattle.std.proofs.Common.{◌≡◌, ◌≤◌, ◌<◌, ◌-◌, ◌++◌, ◌∷◌, ◌∙◌, ℕ, List, [], drop, length, refl, sym, take, arith}
-use Rattle.std.specs.Int.{w64, from_le_bytes}
+use Rattle.std.{proofs.Math.Seq.take_all, proofs.lemmas.List.length-drop, specs.Int.{w64, from_le_bytes}}
 use Rattle.std.specs.List.{fold}
-use Rattle.std.proofs.Math.Seq.{take_all}
-use Rattle.std.proofs.lemmas.List.{length-drop}
 use Rattle.olap_instance.specs.Hashing.{stepped, value_after, with_byte}
 
 module _ (count point value : ℕ) where

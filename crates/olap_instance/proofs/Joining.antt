@@ -1,42 +1,24 @@
 -- Pieces joined by semicolons, and cut again.
-use Rattle.std.proofs.Common.{◌≡◌, ◌≢◌, ◌+◌, ◌<◌, ◌++◌, ◌∷◌, ◌∙◌, ◌==◌, inl, inr, Bool, false, ℕ, zero, suc, List, [], length, take, get_or, if◌then◌else◌, refl, sym, ap, arith, append_assoc}
-use Rattle.std.specs.Prelude.{All}
-use Rattle.std.specs.List.{join_with_byte, list_any, slice_split}
-use Rattle.std.specs.Str.{IsUtf8}
-use Rattle.std.proofs.lemmas.Bool.Decides.{eqb_tells}
-use Rattle.std.proofs.lemmas.List.{length-append, length-take-le, take_more}
-use Rattle.std.proofs.lemmas.List.Splits.{slice_split_at, slice_split_none}
-use Rattle.std.proofs.lemmas.Str.{IsUtf8-append, IsUtf8-from_ascii, IsUtf8-nil}
-use Rattle.std.proofs.lemmas.Str.Ascii.{IsAscii-from_all}
+use Rattle.std.proofs.Common.{◌≡◌, ◌≢◌, ◌+◌, ◌<◌, ◌++◌, ◌∷◌, ◌==◌, inl, inr, Bool, false, ℕ, zero, suc, List, [], length, take, get_or, if◌then◌else◌, refl, arith, append_assoc}
+use Rattle.std.proofs.lemmas.{Bool.or_parts, Bool.Decides.eqb_tells, Grind.common_steps}
+use Rattle.std.proofs.lemmas.List.{length-append, length-take-le, take_more, Splits.{slice_split_at, slice_split_none}}
+use Rattle.std.proofs.lemmas.Str.{IsUtf8-append, IsUtf8-from_ascii, IsUtf8-nil, Ascii.IsAscii-from_all}
+use Rattle.std.specs.{List.{join_with_byte, list_any, slice_split}, Prelude.All, Str.IsUtf8}
 use Rattle.olap_base.specs.Bytes.{semicolon}
 use Rattle.olap_instance.specs.InstanceText.{pieces_of}
-use Rattle.std.proofs.lemmas.Bool.{or_parts}
 
 -- one piece more, after others
 join-next : (y : List ℕ) (ys : List (List ℕ)) (x : List ℕ)
     → join_with_byte semicolon (y ∷ (ys ++ x ∷ [])) ≡ join_with_byte semicolon (y ∷ ys) ++ semicolon ∷ x
 join-next y [] x = refl
-join-next y (z ∷ zs) x =
-    ap (λ (t : List ℕ). y ++ semicolon ∷ t) (join-next z zs x)
-    ∙ sym (append_assoc y (semicolon ∷ join_with_byte semicolon (z ∷ zs)) (semicolon ∷ x))
+join-next y (z ∷ zs) x = search (append_assoc, join-next z zs x)
 
 -- one piece more, after those before it
 pub join-more : (ids : List (List ℕ)) (i : ℕ) (old new : List ℕ) → i < length ids → old
     ≡ join_with_byte semicolon (take i ids)
     → new ≡ old ++ (if i == 0 then get_or ids i [] else semicolon ∷ get_or ids i [])
     → new ≡ join_with_byte semicolon (take (i + 1) ids)
-join-more ids i old new l eo en =
-    en ∙ ap (λ (t : List ℕ). t ++ (if i == 0 then get_or ids i [] else semicolon ∷ get_or ids i [])) eo
-    ∙ by (take i ids) (length-take-le i ids (omega arith)) ∙ ap (join_with_byte semicolon) (sym (take_more ids i [] l))
-  where
-    by : (before : List (List ℕ)) → length before ≡ i
-        → join_with_byte semicolon before ++ (if i == 0 then get_or ids i [] else semicolon ∷ get_or ids i [])
-        ≡ join_with_byte semicolon (before ++ get_or ids i [] ∷ [])
-    by [] e = rw (← e) refl
-    by (y ∷ ys) e = elim (eqb_tells i 0) [
-      | inl t ↦ let z = t.1 in absurd (omega arith)
-      | inr f ↦ rw f.0 (sym (join-next y ys (get_or ids i [])))
-    ]
+join-more ids i old new l eo en = grind (arith, common_steps, length-take-le, take_more, eqb_tells, join-next)
 
 -- where none is so, each isn't
 none-any : (f : ℕ → Bool) (xs : List ℕ) → list_any f xs ≡ false → All (λ x. f x ≡ false) xs
@@ -53,9 +35,12 @@ split-joined : (y : List ℕ) (ys : List (List ℕ)) → IsPiece y → All IsPie
     → slice_split (λ b. b == semicolon) (join_with_byte semicolon (y ∷ ys)) ≡ y ∷ ys
 split-joined y [] h t = slice_split_none (λ b. b == semicolon) y (none-any (λ b. b == semicolon) y h.1)
 split-joined y (z ∷ zs) h t =
-    slice_split_at (λ b. b == semicolon) y semicolon (join_with_byte semicolon (z ∷ zs))
-    (none-any (λ b. b == semicolon) y h.1) refl
-    ∙ ap (λ (r : List (List ℕ)). y ∷ r) (split-joined z zs (t 0 [] (omega arith)) (λ i d l. t (suc i) d (omega arith)))
+    grind (
+      arith,
+      slice_split_at,
+      none-any,
+      split-joined z zs (t 0 [] (omega arith)) (λ i d l. t (suc i) d (omega arith)),
+    )
 
 -- and are no empty text
 some-byte : (y : List ℕ) (ys : List (List ℕ)) → IsPiece y → length (join_with_byte semicolon (y ∷ ys)) ≢ 0

@@ -2,19 +2,14 @@
 --     linked-seen      one field more has no fault
 --     linked-parents   its parents are the last list
 --     linked-fault     its fault is the first
-use Rattle.std.proofs.Common.{◌≡◌, ◌<◌, ◌+◌, ◌++◌, ◌∷◌, ◌∙◌, ℕ, suc, List, [], drop, get_or, length, map, take, Option, None, Ok, Err, Result, refl, sym, ap, arith}
-use Rattle.std.specs.Prelude.{MatchResult}
+use Rattle.std.proofs.Common.{◌≡◌, ◌<◌, ◌+◌, ◌++◌, ◌∷◌, ◌∙◌, ℕ, suc, List, [], drop, get_or, length, map, take, Option, Ok, Err, Result, refl, sym, ap, arith}
 use Rattle.std.proofs.Math.Seq.{drop-cons, drop-length}
-use Rattle.std.proofs.lemmas.List.{length-append, length-map, map-append, take_more}
-use Rattle.olap_base.specs.declared.ids.MemberId.{MemberId}
-use Rattle.olap_records.specs.Faults.{first_fault, or_after}
-use Rattle.olap_records.proofs.Seeing.{HasSeen, see-all, see-fault, see-more}
+use Rattle.std.{proofs.lemmas.List.{length-append, length-map, map-append, take_more}, specs.Prelude.MatchResult}
+use Rattle.olap_base.specs.declared.{ids.MemberId.MemberId, refusals.Fault.Fault, refusals.Refusal.Refusal}
+use Rattle.olap_records.{proofs.Seeing.{HasSeen, see-all, see-fault, see-more}, specs.Faults.{first_fault, or_after}}
 use Rattle.olap_instance.specs.InstanceText.{parents_fault, parents_field, parents_read, pieces_fault, pieces_of}
 use Rattle.olap_instance.specs.Passes.{AddsParents, AreBelow, FieldsPass, PassesSecond, field_fault, field_read, numbers_of, parents_in}
-use Rattle.olap_instance.specs.Refusals.{IsFaultCause, IsRecordCause}
-use Rattle.olap_instance.specs.declared.refusals.InstanceKind.{InstanceKind}
-use Rattle.olap_base.specs.declared.refusals.Fault.{Fault}
-use Rattle.olap_base.specs.declared.refusals.Refusal.{Refusal}
+use Rattle.olap_instance.specs.{Refusals.{IsFaultCause, IsRecordCause}, declared.refusals.InstanceKind.InstanceKind}
 use Rattle.olap_base.specs.declared.refusals.Refusal.TheVariants as refusal
 
 -- one list more
@@ -75,10 +70,7 @@ linked-below ids field stamps old new good b m l =
 pub fields-pass : (ids all parents : List (List ℕ)) (n : ℕ) → n ≡ length all
     → HasSeen (field_fault ids) all (take n all) (drop n all) → parents ≡ map (field_read ids) (take n all)
     → FieldsPass ids all parents
-fields-pass ids all parents n e seen h =
-    let none : drop n all ≡ [] = rw e (drop-length all) in
-    let s = see-all (field_fault ids) all (take n all) (drop n all) seen none in
-    (s.1, h ∙ ap (map (field_read ids)) (sym s.0))
+fields-pass ids all parents n e seen h = grind (arith, drop-length, see-all)
 
 -- ---- records
 
@@ -110,10 +102,7 @@ pub of-records : {T : Type 0} (ids : List (List ℕ)) (rows : List (List (List �
     (λ e. IsFaultCause (first_fault (field_fault ids) [] fields) e)
     → MatchResult result (λ _. PassesSecond ids rows parents)
     (λ e. IsFaultCause (first_fault (parents_fault ids) [] rows) e)
-of-records ids rows fields parents e (Ok v) h =
-    let none : first_fault (field_fault ids) [] (map parents_field rows) ≡ None =
-    ap (first_fault (field_fault ids) []) (sym e) ∙ h.0 in
-    (sym (faults-same ids [] [] rows refl) ∙ none, h.1 ∙ ap (map (field_read ids)) e ∙ reads-same ids rows)
+of-records ids rows fields parents e (Ok v) h = grind (arith, faults-same, reads-same)
 of-records ids rows fields parents e (Err x) h =
     let same : first_fault (field_fault ids) [] fields ≡ first_fault (parents_fault ids) [] rows =
     ap (first_fault (field_fault ids) []) e ∙ faults-same ids [] [] rows refl in

@@ -1,9 +1,8 @@
 -- Lists that stand in one list: one more, one more item, and the list at a place.
 --     count-lists     there are as many lists as places where one begins
 use Rattle.std.proofs.Common.{◌≡◌, ◌≤◌, ◌<◌, ◌+◌, ◌-◌, ◌++◌, ◌∷◌, ◌∙◌, ℕ, zero, suc, List, [], length, get_or, take, drop, refl, ap, arith}
-use Rattle.std.specs.List.{slice_range}
-use Rattle.std.proofs.lemmas.List.{drop-append-le, length-append, length-drop, take-append-le}
 use Rattle.std.proofs.Math.Seq.{take-append-add}
+use Rattle.std.{proofs.lemmas.List.{drop-append-le, length-append, length-drop, take-append-le}, specs.List.slice_range}
 use Rattle.olap_instance.specs.ListsInside.{AreAscending, lists_from}
 
 -- ---- places in order

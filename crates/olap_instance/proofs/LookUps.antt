@@ -1,13 +1,10 @@
 -- What is looked up in an instance, by what it keeps.
 use Rattle.std.proofs.Common.{◌≡◌, ◌<◌, ◌∙◌, ℕ, List, [], Option, Some, None, length, map, get_or, sym, ap, arith}
 use Rattle.std.proofs.lemmas.List.{get_or-map, length-map}
-use Rattle.olap_base.specs.Instance.{Member, member_at, parents_of}
-use Rattle.olap_base.specs.Naming.{place_of}
-use Rattle.olap_instance.specs.Passes.{numbers_of, parents_in}
-use Rattle.olap_instance.specs.InstanceInside.{IsSound, instance_of}
-use Rattle.olap_instance.specs.declared.instances.Instance.TheInside.{Inside}
-use Rattle.olap_instance.proofs.PlaceFacts.{place-within}
+use Rattle.olap_base.specs.{Instance.{Member, member_at, parents_of}, Naming.place_of}
 use Rattle.olap_instance.proofs.MembersLemmas.{ids-with_parents, length-with_parents, member_at-with_parents}
+use Rattle.olap_instance.{proofs.PlaceFacts.place-within, specs.InstanceInside.{IsSound, instance_of}}
+use Rattle.olap_instance.specs.{Passes.{numbers_of, parents_in}, declared.instances.Instance.TheInside.Inside}
 
 module _ (a : Inside) (s : IsSound a) where
   abbrev rows : List (List ℕ)

@@ -1,24 +1,15 @@
 -- What is read of a text of an instance is what it means.
 use Rattle.std.proofs.Common.{◌≡◌, ◌∙◌, ◌+◌, ◌∷◌, ◌++◌, ap, ℕ, Bool, cond, List, [], length, map, Option, Some, None, Result, Ok, refl}
-use Rattle.std.specs.Prelude.{◌==◌, ◌||◌, Err, codes, nat_le, not, zip}
-use Rattle.std.specs.List.{list_any}
-use Rattle.std.specs.Option.{option_map}
-use Rattle.std.specs.Result.{result_map_both}
-use Rattle.std.specs.Str.{bytes_eq}
-use Rattle.olap_base.specs.Following.{goes_on}
-use Rattle.olap_base.specs.Graph.{Graph, is_number}
-use Rattle.olap_base.specs.Instance.{Instance, Member}
-use Rattle.olap_base.specs.Limits.{most_members}
-use Rattle.olap_base.specs.Naming.{place_of}
-use Rattle.olap_base.specs.declared.refusals.Fault.{Fault}
+use Rattle.std.specs.{List.list_any, Option.option_map, Prelude.{◌==◌, ◌||◌, Err, codes, nat_le, not, zip}}
+use Rattle.std.specs.{Result.result_map_both, Str.bytes_eq}
+use Rattle.olap_base.specs.{Following.goes_on, Graph.{Graph, is_number}, Instance.{Instance, Member}}
+use Rattle.olap_base.specs.{Limits.most_members, Naming.place_of, declared.refusals.Fault.Fault}
 use Rattle.olap_graph.specs.Lookups.{category_named}
-use Rattle.olap_records.specs.Faults.{first_fault}
-use Rattle.olap_records.specs.Tables.{all_read, at_record, named, or_read}
 use Rattle.olap_records.proofs.TableLemmas.{all_read-named, check-named, given-named, or_value, table_meant-named}
+use Rattle.olap_records.specs.{Faults.first_fault, Tables.{all_read, at_record, named, or_read}}
 use Rattle.olap_instance.specs.InstanceMeaning.{instance_meant, member_meant, parent_meant, parents_meant}
 use Rattle.olap_instance.specs.InstanceText.{body_read, category_field, header, id_field, ids_of, instance_read, is_bad_id, is_bad_number, is_known, is_no_text, is_too_long, member_fault, member_read, name_field, parent_read, parents_fault, parents_field, parents_read, piece_fault, pieces_of, whole_read}
-use Rattle.olap_instance.specs.Kinds.{name_of_kind}
-use Rattle.olap_instance.specs.Members.{all_member, childless}
+use Rattle.olap_instance.specs.{Kinds.name_of_kind, Members.{all_member, childless}}
 use Rattle.olap_instance.specs.declared.refusals.InstanceKind.{InstanceKind}
 use Rattle.olap_instance.specs.declared.refusals.InstanceKind.TheVariants as kind
 
@@ -58,7 +49,8 @@ module _ (g : Graph) (before : List (List (List ℕ))) (r : List (List ℕ)) whe
       (Ok (childless (id_field r) c (name_field r))) None _ refl)))
 
   -- a member without its parents
-  member-named : member_meant g before r ≡ or_value (option_map name_of_kind (member_fault g before r)) (member_read g r)
+  member-named : member_meant g before r
+      ≡ or_value (option_map name_of_kind (member_fault g before r)) (member_read g r)
   member-named =
       check (not (length r == 4)) kind.FieldCount _ _ _
       (check (is_no_text r) kind.BadUtf8 _ _ _
@@ -131,7 +123,8 @@ module _ (g : Graph) where
       ap (λ r. both r (all_read (parents_meant (ids_of rows)) [] rows))
       (all_read-named (member_meant g) name_of_kind (member_fault g) (member_read g) (member-named g) rows)
       ∙ ap (both (or_value (option_map (λ q. (q.0, name_of_kind q.1)) first) (map (member_read g) rows)))
-      (all_read-named (parents_meant (ids_of rows)) name_of_kind (parents_fault (ids_of rows)) (parents_read (ids_of rows))
+      (all_read-named (parents_meant (ids_of rows)) name_of_kind
+      (parents_fault (ids_of rows)) (parents_read (ids_of rows))
       (parents-named (ids_of rows)) rows)
       ∙ two-passes first second (map (member_read g) rows) (map (parents_read (ids_of rows)) rows)
       ∙ ap (λ (ms : Instance). named name_of_kind (or_read first (or_read second (Ok (ms ++ all_member ∷ [])))))

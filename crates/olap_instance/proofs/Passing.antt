@@ -1,16 +1,12 @@
 -- Records that pass each check, and lists of records that are members' own.
 use Rattle.std.proofs.Common.{◌≡◌, ◌≢◌, ◌+◌, ◌<◌, ◌≤◌, ◌==◌, ◌||◌, ◌∷◌, inl, inr, not, Bool, true, false, ℕ, zero, suc, List, [], length, map, get_or, None, refl, ap, arith}
+use Rattle.std.{proofs.lemmas.Bool.Decides.eqb_tells, proofs.lemmas.List.Elements.All-map, specs.List.list_any}
 use Rattle.std.specs.Prelude.{All, is_none, nat_le, nat_lt}
-use Rattle.std.specs.List.{list_any}
-use Rattle.std.proofs.lemmas.Bool.Decides.{eqb_tells}
-use Rattle.std.proofs.lemmas.List.Elements.{All-map}
-use Rattle.olap_base.specs.Graph.{Graph, is_number}
+use Rattle.olap_base.specs.{Graph.{Graph, is_number}, Instance.{Instance, Member, member_at}}
 use Rattle.olap_base.specs.Limits.{most_members, most_text_bytes}
-use Rattle.olap_base.specs.Instance.{Instance, Member, member_at}
 use Rattle.olap_graph.specs.Lookups.{category_named}
 use Rattle.olap_instance.specs.InstanceText.{id_field, category_field, category_number, is_bad_id, is_bad_number, is_known, is_no_text, is_too_long, name_field, member_fault}
-use Rattle.olap_instance.specs.Passes.{ids_in}
-use Rattle.olap_instance.specs.Printing.{member_fields}
+use Rattle.olap_instance.specs.{Passes.ids_in, Printing.member_fields}
 
 -- ---- lists
 

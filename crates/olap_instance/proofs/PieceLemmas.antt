@@ -1,13 +1,9 @@
 -- Pieces of a field of parents, and the stamps of the members that they name.
-use Rattle.std.proofs.Common.{◌≡◌, ◌++◌, ◌∷◌, ◌∙◌, ◌||◌, ◌==◌, inl, inr, Bool, true, false, ℕ, List, [], map, get_or, Some, refl, sym, ap}
-use Rattle.std.specs.List.{list_any}
+use Rattle.std.proofs.Common.{rules, arith, ◌≡◌, ◌++◌, ◌∷◌, ◌∙◌, ◌||◌, ◌==◌, inl, inr, Bool, true, ℕ, List, [], map, get_or, Some, refl, sym, ap}
+use Rattle.std.{proofs.lemmas.Bool.Decides.eqb_tells, proofs.lemmas.Slice.Eq.bytes_eq-Decides, specs.List.list_any}
 use Rattle.std.specs.Str.{bytes_eq}
-use Rattle.std.proofs.lemmas.Bool.Decides.{eqb_tells}
-use Rattle.std.proofs.lemmas.Slice.Eq.{bytes_eq-Decides}
-use Rattle.olap_base.specs.Naming.{place_of}
-use Rattle.olap_instance.specs.InstanceText.{parent_read}
-use Rattle.olap_instance.proofs.PlaceFacts.{id-at-place}
-use Rattle.olap_base.proofs.ListLemmas.{same_truth}
+use Rattle.olap_base.{proofs.ListLemmas.same_truth, specs.Naming.place_of}
+use Rattle.olap_instance.{proofs.PlaceFacts.id-at-place, specs.InstanceText.parent_read}
 
 -- pieces are equal exactly if they name one member
 pub same-piece : (ids : List (List ℕ)) (p q : List ℕ) (m n : ℕ) → place_of p ids ≡ Some m → place_of q ids ≡ Some n
@@ -50,17 +46,8 @@ any-same ids p m (q ∷ before) (n ∷ found) e h =
 
 -- any of a list with one item more
 pub any-push : {X : Type 0} (f : X → Bool) (xs : List X) (x : X) → list_any f (xs ++ x ∷ []) ≡ (list_any f xs || f x)
-any-push f [] x = or-false (f x)
-  where
-    or-false : (b : Bool) → (b || false) ≡ b
-    or-false true = refl
-    or-false false = refl
-any-push f (y ∷ ys) x = by (f y) (any-push f ys x)
-  where
-    by : (b : Bool) → list_any f (ys ++ x ∷ []) ≡ (list_any f ys || f x)
-        → (b || list_any f (ys ++ x ∷ [])) ≡ ((b || list_any f ys) || f x)
-    by true e = refl
-    by false e = e
+any-push f [] x = search rules
+any-push f (y ∷ ys) x = grind (arith, any-push f ys x)
 
 -- the places of pieces, where each has one
 pub places-read : (ids ps : List (List ℕ)) (found : List ℕ) → map (λ p. place_of p ids) ps ≡ map Some found

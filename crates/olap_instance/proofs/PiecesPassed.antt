@@ -1,13 +1,8 @@
 -- What the pieces of a field so far have given.
-use Rattle.std.proofs.Common.{◌≡◌, ◌++◌, ◌∷◌, ◌∙◌, ℕ, List, [], map, Some, sym, ap}
-use Rattle.std.specs.Option.{option_map}
-use Rattle.std.proofs.lemmas.List.{map-append}
+use Rattle.std.proofs.{Common.{arith, ◌≡◌, ◌++◌, ◌∷◌, ◌∙◌, ℕ, List, [], map, Some, sym}, lemmas.List.map-append}
 use Rattle.olap_base.specs.Naming.{place_of}
 use Rattle.olap_records.proofs.Seeing.{HasSeen, see-all}
-use Rattle.olap_instance.specs.InstanceText.{piece_fault}
-use Rattle.olap_instance.specs.Passes.{AreParents}
-use Rattle.olap_instance.specs.declared.refusals.InstanceKind.{InstanceKind}
-use Rattle.olap_instance.proofs.PieceLemmas.{places-read}
+use Rattle.olap_instance.{proofs.PieceLemmas.places-read, specs.InstanceText.piece_fault, specs.Passes.AreParents}
 
 -- one piece more names a member
 pub places-more : (ids before : List (List ℕ)) (piece : List ℕ) (found now : List ℕ) (m : ℕ)
@@ -19,8 +14,4 @@ places-more ids before piece found now m h ep en =
 -- where all pieces have passed, the members that they name are the parents
 pub passed-all : (ids ps before left : List (List ℕ)) (found : List ℕ) → HasSeen (piece_fault ids) ps before left
     → left ≡ [] → map (λ p. place_of p ids) before ≡ map Some found → AreParents ids ps found
-passed-all ids ps before left found seen none h =
-    let all = see-all (piece_fault ids) ps before left seen none in (
-      ap (option_map (λ (p : ℕ × InstanceKind). p.1)) all.1,
-      places-read ids ps found (rw all.0 h),
-    )
+passed-all ids ps before left found seen none h = grind (arith, see-all, places-read)

@@ -1,22 +1,15 @@
 -- What the place of an id tells.
 use Rattle.std.proofs.Common.{◌≡◌, ◌≢◌, ◌+◌, ◌<◌, ◌∷◌, ◌∙◌, Bool, true, false, cond, ℕ, zero, suc, List, [], length, map, get_or, Some, refl, sym, ap, arith, zero-add}
-use Rattle.std.specs.List.{position_from}
-use Rattle.std.specs.Str.{bytes_eq}
-use Rattle.std.proofs.lemmas.Slice.Eq.{bytes_eq-Decides}
-use Rattle.std.proofs.lemmas.List.{length-map}
-use Rattle.olap_base.specs.Instance.{Instance}
-use Rattle.olap_base.specs.Naming.{place_of}
-use Rattle.std.proofs.lemmas.Bool.{false_from_ne_true}
+use Rattle.std.proofs.lemmas.{Bool.false_from_ne_true, List.length-map, Slice.Eq.bytes_eq-Decides}
+use Rattle.std.specs.{List.position_from, Str.bytes_eq}
+use Rattle.olap_base.specs.{Instance.Instance, Naming.place_of}
 
 -- the place of an id that stands nowhere before
 pub first-at : (x : List ℕ) (ids : List (List ℕ)) (n m : ℕ) → m < length ids → get_or ids m [] ≡ x
     → ((j : ℕ) → j < m → get_or ids j [] ≢ x)
     → position_from (bytes_eq x) n ids ≡ Some (n + m)
 first-at x [] n m l e none = absurd (omega arith)
-first-at x (y ∷ ys) n zero l e none =
-    let t = (bytes_eq-Decides x y).1 (sym e) in
-    let k : n ≡ n + 0 = omega arith in
-    rw t (ap (λ (i : ℕ). Some i) k)
+first-at x (y ∷ ys) n zero l e none = grind (arith, bytes_eq-Decides)
 first-at x (y ∷ ys) n (suc m) l e none =
     let f = false_from_ne_true (bytes_eq x y) (λ t. none 0 (omega arith) (sym ((bytes_eq-Decides x y).0 t))) in
     let k : (n + 1) + m ≡ n + suc m = omega arith in
@@ -29,9 +22,7 @@ AreDistinct ids = (i j : ℕ) → i < length ids → j < length ids → get_or i
 -- among distinct ids each is found at its place
 pub place-of-id : (ids : List (List ℕ)) (m : ℕ) → AreDistinct ids → m < length ids
     → place_of (get_or ids m []) ids ≡ Some m
-place-of-id ids m d l =
-    first-at (get_or ids m []) ids 0 m l refl (λ j b e. let same : j ≡ m = d j m (omega arith) l e in
-    absurd (omega arith)) ∙ ap (λ (i : ℕ). Some i) (zero-add m)
+place-of-id ids m d l = grind (arith, first-at, zero-add)
 
 -- what is found has the id
 found-from : (x : List ℕ) (ids : List (List ℕ)) (n i : ℕ) → position_from (bytes_eq x) n ids ≡ Some i
@@ -49,10 +40,7 @@ found-from x (y ∷ ys) n i e = by (bytes_eq x y) refl e (found-from x ys (n + 1
 -- at the place that is found stands the id
 pub id-at-place : (x : List ℕ) (ids : List (List ℕ)) (i : ℕ) → place_of x ids ≡ Some i
     → (i < length ids) × (get_or ids i [] ≡ x)
-id-at-place x ids i e =
-    let r = found-from x ids 0 i e in
-    let s : i ≡ r.0 = omega (arith, r.1) in
-    rw s (r.2, r.3)
+id-at-place x ids i e = grind (arith, found-from)
 
 -- what is found lies within the list
 pub place-within : (x : List ℕ) (ids : List (List ℕ)) (i : ℕ) → place_of x ids ≡ Some i → i < length ids

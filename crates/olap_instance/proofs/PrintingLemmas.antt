@@ -1,17 +1,11 @@
 -- One record more of a printed instance.
-use Rattle.std.proofs.Common.{◌≡◌, ◌+◌, ◌<◌, ◌++◌, ◌∷◌, ◌∙◌, ℕ, List, [], length, map, take, get_or, refl, sym, ap, subst}
-use Rattle.std.specs.Prelude.{All, Contains, OnOk, Result}
-use Rattle.std.specs.List.{join_with_byte}
-use Rattle.std.proofs.lemmas.List.{map-append, take_more}
-use Rattle.std.proofs.lemmas.List.Elements.{Contains-get_or}
-use Rattle.olap_base.specs.Bytes.{semicolon}
-use Rattle.olap_base.proofs.ListLemmas.{Contains-map}
-use Rattle.olap_base.specs.Graph.{Graph}
-use Rattle.olap_base.specs.Instance.{Instance, Member, member_at, nobody}
-use Rattle.olap_base.specs.declared.ids.MemberId.{MemberId}
+use Rattle.std.proofs.Common.{arith, ◌≡◌, ◌+◌, ◌<◌, ◌++◌, ◌∷◌, ◌∙◌, ℕ, List, [], length, map, take, get_or, refl, ap, subst}
+use Rattle.std.proofs.lemmas.{Grind.common_steps, List.{map-append, take_more}, List.Elements.Contains-get_or}
+use Rattle.std.specs.{List.join_with_byte, Prelude.{All, Contains, OnOk, Result}}
+use Rattle.olap_base.{proofs.ListLemmas.Contains-map, specs.Bytes.semicolon, specs.Graph.Graph}
+use Rattle.olap_base.specs.{Instance.{Instance, Member, member_at}, declared.ids.MemberId.MemberId}
 use Rattle.olap_graph.specs.Lookups.{name_of_category}
-use Rattle.olap_records.specs.Texts.{text_of_row, text_of_rows}
-use Rattle.olap_records.proofs.ReadingBack.{texts-push}
+use Rattle.olap_records.{proofs.ReadingBack.texts-push, specs.Texts.{text_of_row, text_of_rows}}
 use Rattle.olap_instance.specs.Printing.{member_fields, parent_ids}
 
 -- the text grew by one member's record
@@ -19,12 +13,7 @@ pub rows-more : (top : List (List ℕ)) (f : Member → List (List ℕ)) (ms : I
     → k < length ms
     → out ≡ text_of_rows (top ∷ map f (take k ms)) → new ≡ out ++ text_of_row (f (member_at ms k))
     → new ≡ text_of_rows (top ∷ map f (take (k + 1) ms))
-rows-more top f ms k out new l eo en =
-    let m = member_at ms k in
-    let more : map f (take (k + 1) ms) ≡ map f (take k ms) ++ f m ∷ [] =
-    ap (map f) (take_more ms k nobody l) ∙ map-append f (take k ms) (m ∷ []) in
-    en ∙ ap (λ (t : List ℕ). t ++ text_of_row (f m)) eo ∙ sym (texts-push (top ∷ map f (take k ms)) (f m))
-    ∙ ap (λ (t : List (List (List ℕ))). text_of_rows (top ∷ t)) (sym more)
+rows-more top f ms k out new l eo en = grind (arith, common_steps, take_more, map-append, texts-push)
 
 -- the ids of the members that a list names
 ids-named : (i : Instance) (ms : List MemberId)

@@ -1,40 +1,28 @@
 -- A printed instance reads back as itself.
 use Rattle.std.proofs.Common.{◌≡◌, ◌≢◌, ◌+◌, ◌-◌, ◌<◌, ◌≤◌, ◌==◌, ◌++◌, ◌∷◌, ◌∙◌, true, false, ℕ, suc, List, [], length, map, take, drop, codes, get_or, Option, Some, None, Ok, refl, sym, ap, subst, arith}
-use Rattle.std.specs.Prelude.{All, AllPairs, Contains, is_some, nat_le}
-use Rattle.std.specs.List.{join_with_byte, list_any}
-use Rattle.std.specs.Str.{IsUtf8, bytes_eq, is_utf8}
-use Rattle.std.specs.Cmp.Lexicographic.{pointwise}
+use Rattle.std.proofs.lemmas.Bool.{false_from_ne_true, or_from}
 use Rattle.std.proofs.lemmas.List.{get_or-map, get_or-take, length-map, length-take, length-take-le, map-append, take_more, take_all}
 use Rattle.std.proofs.lemmas.List.Elements.{All-map, Contains-get_or}
 use Rattle.std.proofs.lemmas.Option.{get_or_from_slice_get, slice_get_within}
 use Rattle.std.proofs.lemmas.Slice.Eq.{bytes_eq-Decides, slice_eq-Decides}
-use Rattle.std.proofs.lemmas.Str.{IsUtf8-from_is_utf8, is_utf8-from_IsUtf8}
-use Rattle.olap_base.specs.Bytes.{semicolon}
-use Rattle.olap_base.specs.Deciding.{contains_cons}
-use Rattle.olap_base.proofs.ListLemmas.{contains_head}
+use Rattle.std.{proofs.lemmas.Str.{IsUtf8-from_is_utf8, is_utf8-from_IsUtf8}, specs.Cmp.Lexicographic.pointwise}
+use Rattle.std.specs.{List.{join_with_byte, list_any}, Prelude.{All, AllPairs, Contains, is_some, nat_le}}
+use Rattle.std.specs.Str.{IsUtf8, bytes_eq, is_utf8}
+use Rattle.olap_base.{proofs.ListLemmas.contains_head, specs.Bytes.semicolon, specs.Deciding.contains_cons}
 use Rattle.olap_base.specs.Graph.{Graph, IsHierarchy, is_number}
 use Rattle.olap_base.specs.Instance.{Instance, IsInstance, IsMember, Member, category_of, member_at, nobody}
-use Rattle.olap_base.specs.Limits.{most_members}
-use Rattle.olap_base.specs.Naming.{place_of}
+use Rattle.olap_base.specs.{Limits.most_members, Naming.place_of}
 use Rattle.olap_graph.specs.Lookups.{category_named, name_of_category}
-use Rattle.olap_records.specs.Faults.{first_fault}
-use Rattle.olap_records.specs.Records.{records_of}
-use Rattle.olap_records.proofs.FaultLemmas.{none-iff}
-use Rattle.olap_records.proofs.ReadingBack.{text-back}
+use Rattle.olap_records.{proofs.FaultLemmas.none-iff, proofs.ReadingBack.text-back, specs.Faults.first_fault}
+use Rattle.olap_records.specs.{Records.records_of, Tables.begins_with}
+use Rattle.olap_instance.proofs.{BuilderSteps.not-found, CategoryNames.{category-utf8, named-category}}
+use Rattle.olap_instance.proofs.{Checks.number-good, Joining.{IsPiece, pieces-joined, utf8-joined}}
+use Rattle.olap_instance.proofs.Passing.{all-full, any-none, differ-zero, four-texts, ids-kept, round, rows-full, short, unrefused}
+use Rattle.olap_instance.proofs.{PieceLemmas.places-read, PlaceFacts.{AreDistinct, place-of-id}}
 use Rattle.olap_instance.specs.InstanceText.{header, id_field, is_known, is_too_long, ids_of, instance_read, member_fault, members_read, parent_read, parents_fault, piece_fault, pieces_of, whole_read}
-use Rattle.olap_instance.specs.Made.{IsMadeFor}
-use Rattle.olap_instance.specs.Members.{AllHasNoParents, HasShortNames, HasTexts, all_member}
+use Rattle.olap_instance.specs.{Made.IsMadeFor, Members.{AllHasNoParents, HasShortNames, HasTexts, all_member}}
 use Rattle.olap_instance.specs.Passes.{ids_in}
 use Rattle.olap_instance.specs.Printing.{instance_rows, member_fields, others, parent_ids, text_of_instance}
-use Rattle.olap_instance.proofs.CategoryNames.{category-utf8, named-category}
-use Rattle.olap_instance.proofs.Joining.{IsPiece, pieces-joined, utf8-joined}
-use Rattle.olap_instance.proofs.PieceLemmas.{places-read}
-use Rattle.olap_instance.proofs.PlaceFacts.{AreDistinct, place-of-id}
-use Rattle.olap_instance.proofs.BuilderSteps.{not-found}
-use Rattle.olap_instance.proofs.Checks.{number-good}
-use Rattle.olap_instance.proofs.Passing.{all-full, any-none, differ-zero, four-texts, ids-kept, round, rows-full, short, unrefused}
-use Rattle.olap_records.specs.Tables.{begins_with}
-use Rattle.std.proofs.lemmas.Bool.{false_from_ne_true, or_from}
 
 -- records without faults stand for their members
 read-of : (g : Graph) (records : List (List (List ℕ))) (i : Instance) → begins_with header records ≡ true

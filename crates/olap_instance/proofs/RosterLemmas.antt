@@ -5,18 +5,13 @@
 --     kept-more     an id, a category and a name more keep what a roster keeps
 --     members-more  and they are a member more
 use Rattle.std.proofs.Common.{◌≡◌, ◌<◌, ◌^◌, ◌∷◌, ◌++◌, ◌∙◌, ℕ, zero, suc, List, [], None, get_or, map, length, refl, ap, sym, arith}
-use Rattle.std.proofs.lemmas.List.{length-append, length-map, map-append}
-use Rattle.std.specs.List.{position}
-use Rattle.std.specs.Str.{bytes_eq}
-use Rattle.std.proofs.lemmas.Iterator.Adapters.{position_from-zero}
+use Rattle.std.proofs.lemmas.{Iterator.Adapters.position_from-zero, List.{length-append, length-map, map-append}}
+use Rattle.std.specs.{List.position, Str.bytes_eq}
 use Rattle.indexmap.specs.IndexSet.{insert_key}
-use Rattle.olap_base.specs.Instance.{Instance, Member, member_at}
-use Rattle.olap_base.specs.Naming.{place_of}
-use Rattle.olap_base.specs.declared.ids.CatId.{CatId}
-use Rattle.olap_instance.specs.Members.{childless}
+use Rattle.olap_base.specs.{Instance.{Instance, member_at}, Naming.place_of, declared.ids.CatId.CatId}
+use Rattle.olap_instance.{proofs.Index.id-last, specs.Members.childless}
 use Rattle.olap_instance.specs.RosterInside.{IsRoster, members_from, members_of_roster}
 use Rattle.olap_instance.specs.declared.rosters.Roster.TheInside.{Inside}
-use Rattle.olap_instance.proofs.Index.{id-last}
 
 -- their ids are these
 pub ids-members_from : (ids : List (List ℕ)) (cs : List ℕ) (names : List (List ℕ)) → length cs ≡ length ids

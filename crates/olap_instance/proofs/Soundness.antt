@@ -1,34 +1,23 @@
 -- What the records of a text stand for is a dimension instance, made for the graph.
 use Rattle.std.proofs.Common.{◌≡◌, ◌≢◌, ◌+◌, ◌<◌, ◌≤◌, ◌==◌, ◌++◌, ◌∷◌, ◌∙◌, ◌⊎◌, inl, inr, Bool, true, false, ℕ, zero, suc, List, [], length, map, take, drop, codes, get_or, length-take, Option, Some, None, Ok, Err, if◌then◌else◌, refl, sym, ap, arith}
-use Rattle.std.specs.Prelude.{IsSome, IsTrue, nat_le}
-use Rattle.std.specs.List.{list_any}
-use Rattle.std.specs.Str.{is_utf8}
-use Rattle.std.proofs.lemmas.Bool.Decides.{eqb_tells}
-use Rattle.std.proofs.Math.Seq.{get_or-append_seam}
+use Rattle.std.proofs.{Math.Seq.get_or-append_seam, lemmas.Bool.or_parts, lemmas.Bool.Decides.eqb_tells}
 use Rattle.std.proofs.lemmas.List.{get_or_append_left, get_or-map, get_or-take, length-append, length-map, map-append}
-use Rattle.std.proofs.lemmas.Option.{slice_get-get_or}
-use Rattle.std.proofs.lemmas.Slice.Eq.{bytes_eq-Decides}
-use Rattle.olap_base.specs.Bytes.{semicolon}
-use Rattle.olap_base.specs.Graph.{Graph, IsCategory, is_number}
+use Rattle.std.{proofs.lemmas.Option.slice_get-get_or, proofs.lemmas.Slice.Eq.bytes_eq-Decides, specs.List.list_any}
+use Rattle.std.specs.{Prelude.{IsSome, IsTrue, nat_le}, Str.is_utf8}
+use Rattle.olap_base.specs.{Bytes.semicolon, Graph.{Graph, IsCategory, is_number}}
+use Rattle.olap_base.specs.{Instance.{Instance, Member, category_of, member_at, name_of, nobody}, Limits.most_members}
 use Rattle.olap_numerals.specs.Numerals.{number_of}
-use Rattle.olap_base.specs.Instance.{Instance, Member, category_of, member_at, name_of, nobody}
-use Rattle.olap_base.specs.Limits.{most_members}
 use Rattle.olap_graph.specs.Lookups.{category_named, names_of}
-use Rattle.olap_records.specs.Faults.{field, first_fault}
-use Rattle.olap_records.proofs.FaultLemmas.{none-iff}
-use Rattle.olap_instance.specs.InstanceText.{body_read, category_field, category_number, header, id_field, ids_of, is_too_long, member_fault, member_read, members_read, name_field, parents_fault, parents_field, parents_read, piece_fault, pieces_of, whole_read}
-use Rattle.olap_instance.specs.Members.{AreSound, HasShortNames, HasTexts, all_member, with_parents}
-use Rattle.olap_instance.specs.declared.refusals.InstanceKind.{InstanceKind}
-use Rattle.olap_instance.specs.Laws.{IsReadFor, ReadIsInstance}
-use Rattle.olap_instance.specs.declared.refusals.InstanceKind.TheVariants as kind
-use Rattle.olap_instance.specs.Made.{IsMadeFor}
-use Rattle.olap_instance.specs.Passes.{PassesFirst, PassesSecond, ids_in}
-use Rattle.olap_instance.proofs.Completing.{AreComplete, complete-names, complete-sound}
-use Rattle.olap_instance.proofs.EnteringLemmas.{ids-read}
-use Rattle.olap_instance.proofs.PlaceFacts.{place-within}
-use Rattle.olap_instance.proofs.Checks.{IsGood, absent-at, four, fresh-parts, good, good-number, no-second, place-inside, places-differ, there, within}
+use Rattle.olap_records.{proofs.FaultLemmas.none-iff, specs.Faults.{field, first_fault}}
 use Rattle.olap_records.specs.Tables.{begins_with, or_read}
-use Rattle.std.proofs.lemmas.Bool.{or_parts}
+use Rattle.olap_instance.proofs.Checks.{IsGood, absent-at, four, fresh-parts, good, good-number, no-second, place-inside, places-differ, there, within}
+use Rattle.olap_instance.proofs.{Completing.{AreComplete, complete-names, complete-sound}, EnteringLemmas.ids-read}
+use Rattle.olap_instance.proofs.PlaceFacts.{place-within}
+use Rattle.olap_instance.specs.InstanceText.{body_read, category_field, category_number, header, id_field, ids_of, is_too_long, member_fault, member_read, members_read, name_field, parents_fault, parents_field, parents_read, piece_fault, pieces_of, whole_read}
+use Rattle.olap_instance.specs.{Laws.{IsReadFor, ReadIsInstance}, Made.IsMadeFor}
+use Rattle.olap_instance.specs.Members.{AreSound, HasShortNames, HasTexts, all_member, with_parents}
+use Rattle.olap_instance.specs.{Passes.{PassesFirst, PassesSecond, ids_in}, declared.refusals.InstanceKind.InstanceKind}
+use Rattle.olap_instance.specs.declared.refusals.InstanceKind.TheVariants as kind
 
 -- ---- records
 

@@ -1,16 +1,11 @@
 -- Stamps: the mark stands at the members that the pieces of one field have named so far.
-use Rattle.std.proofs.Common.{◌≡◌, ◌≢◌, ◌≤◌, ◌<◌, ◌++◌, ◌∷◌, ◌∙◌, ◌==◌, inl, inr, true, false, ℕ, List, [], length, slice_index, slice_set, map, Some, None, refl, sym, ap, arith, length-set}
+use Rattle.std.proofs.Common.{◌≡◌, ◌≢◌, ◌≤◌, ◌<◌, ◌++◌, ◌∷◌, ◌∙◌, ◌==◌, inl, inr, ℕ, List, [], length, slice_index, slice_set, map, Some, None, sym, arith, length-set}
+use Rattle.std.proofs.lemmas.{Bool.ne_eqb, Bool.Decides.eqb_tells, List.{get_or-set_other, get_or-set_same}}
 use Rattle.std.specs.List.{list_any}
-use Rattle.std.proofs.lemmas.Bool.Decides.{eqb_tells}
-use Rattle.std.proofs.lemmas.List.{get_or-set_other, get_or-set_same}
+use Rattle.olap_instance.{proofs.PieceLemmas.{any-push, any-same}, specs.InstanceText.piece_fault}
 use Rattle.olap_instance.specs.Passes.{AreBelow, AreStamped}
-use Rattle.olap_base.specs.Naming.{place_of}
-use Rattle.std.specs.Str.{bytes_eq}
-use Rattle.olap_instance.specs.InstanceText.{piece_fault}
+use Rattle.olap_base.{proofs.GeneralLemmas.{or_false, or_true, eqb_same}, specs.Naming.place_of}
 use Rattle.olap_instance.specs.declared.refusals.InstanceKind.TheVariants as kind
-use Rattle.olap_instance.proofs.PieceLemmas.{any-push, any-same}
-use Rattle.olap_base.proofs.GeneralLemmas.{or_false, or_true, eqb_same}
-use Rattle.std.proofs.lemmas.Bool.{ne_eqb}
 
 -- where no stamp is as high as the mark, it stands at no member
 pub stamped-none : (stamps : List ℕ) (mark : ℕ) → AreBelow stamps mark → AreStamped stamps mark []
@@ -47,16 +42,10 @@ below-higher stamps low high h b m l = let s = b m l in omega arith
 pub named-twice : (ids : List (List ℕ)) (p : List ℕ) (m : ℕ) (before : List (List ℕ)) (found stamps : List ℕ) (mark : ℕ)
     → place_of p ids ≡ Some m → map (λ q. place_of q ids) before ≡ map Some found → AreStamped stamps mark found
     → m < length stamps → slice_index stamps m ≡ mark → piece_fault ids before p ≡ Some kind.DuplicateParent
-named-twice ids p m before found stamps mark e h s l t =
-    let again : list_any (bytes_eq p) before ≡ true =
-    any-same ids p m before found e h ∙ sym (s m l) ∙ ap (λ n. n == mark) t ∙ eqb_same mark in
-    rw (e, again) refl
+named-twice ids p m before found stamps mark e h s l t = grind (arith, any-same, eqb_same)
 
 -- a piece that names a member for the first time
 pub named-once : (ids : List (List ℕ)) (p : List ℕ) (m : ℕ) (before : List (List ℕ)) (found stamps : List ℕ) (mark : ℕ)
     → place_of p ids ≡ Some m → map (λ q. place_of q ids) before ≡ map Some found → AreStamped stamps mark found
     → m < length stamps → slice_index stamps m ≢ mark → piece_fault ids before p ≡ None
-named-once ids p m before found stamps mark e h s l t =
-    let first : list_any (bytes_eq p) before ≡ false =
-    any-same ids p m before found e h ∙ sym (s m l) ∙ ne_eqb (slice_index stamps m) mark t in
-    rw (e, first) refl
+named-once ids p m before found stamps mark e h s l t = grind (arith, any-same, ne_eqb, slice_index)

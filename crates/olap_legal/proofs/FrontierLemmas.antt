@@ -1,15 +1,13 @@
 -- The walk upwards from one member: what is reached, and what is listed.
 use Rattle.std.proofs.Common.{◌≡◌, ℕ, ◌<◌, List, [], ◌∷◌, ◌++◌, length, get_or, set, refl, ap, sym, subst, ◌∙◌, inl, inr, arith}
-use Rattle.std.specs.Prelude.{Contains, replicate}
 use Rattle.std.proofs.lemmas.List.{length-replicate, get_or-replicate}
 use Rattle.std.proofs.lemmas.List.Elements.{Contains-append_left, Contains-push, Contains-push_cases, Contains-get_or}
-use Rattle.olap_base.specs.Deciding.{contains_cases}
+use Rattle.std.specs.Prelude.{Contains, replicate}
+use Rattle.olap_base.{proofs.ListLemmas.Contains-nil, specs.Deciding.contains_cases}
 use Rattle.olap_base.specs.Instance.{Instance, IsBelow, category_of, parents_of}
-use Rattle.olap_legal.proofs.ParentLemmas.{places}
 use Rattle.olap_base.specs.Steps.{Steps, Steps.here, Steps.step, Steps-append, Steps-from_reaches, reaches_from_Steps}
-use Rattle.olap_base.proofs.ListLemmas.{Contains-nil}
+use Rattle.olap_legal.proofs.{ParentLemmas.places, RisingLemmas.{same_in, from_in, own_set}}
 use Rattle.olap_legal.specs.Rows.{none, IsBounded, IsIn, IsRise, Splits, IsVisit, Meets, IsFrontier}
-use Rattle.olap_legal.proofs.RisingLemmas.{same_in, from_in, own_set}
 
 -- the walk begins at x
 pub frontier_start : {i : Instance} {n x : ℕ} {row list : List ℕ} → IsBounded i n → x < length i

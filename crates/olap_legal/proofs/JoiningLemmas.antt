@@ -1,25 +1,18 @@
 -- Rows that are joined, and the table that they make.
 use Rattle.std.proofs.Common.{◌≡◌, ◌≢◌, ℕ, zero, suc, ◌+◌, ◌<◌, ◌≤◌, List, [], ◌∷◌, ◌++◌, Bool, true, false, length, get_or, set, take, refl, ap, sym, subst, ◌∙◌, inl, inr, arith, length-append, get_or-set_same, get_or-set_other}
-use Rattle.std.proofs.Math.ListN.{length-set}
-use Rattle.std.specs.Prelude.{Contains, replicate}
-use Rattle.std.proofs.lemmas.List.{length-replicate, length-take, get_or-replicate}
+use Rattle.std.proofs.{Math.ListN.length-set, lemmas.List.{length-replicate, length-take, get_or-replicate}}
 use Rattle.std.proofs.lemmas.List.Elements.{Contains-append_left, Contains-push_cases}
-use native.Mathlib.Decide.{ℕ_discrete}
-use Rattle.olap_base.specs.Instance.{Instance, IsBelow, Reaches, category_of, parents_of}
-use Rattle.olap_base.specs.Reaching.{reaches_is}
-use Rattle.olap_base.specs.Steps.{Steps, Steps.here, Steps.step, Steps-from_reaches, reaches_from_Steps}
+use Rattle.std.specs.Prelude.{Contains, replicate}
 use Rattle.olap_base.proofs.ListLemmas.{Contains-nil}
-use Rattle.olap_graph.proofs.MarkLemmas.{take_cases, take_before, take_last}
-use Rattle.olap_graph.specs.Marking.{unmarked_count}
+use Rattle.olap_base.specs.{Instance.{Instance, IsBelow, Reaches, category_of, parents_of}, Reaching.reaches_is}
+use Rattle.olap_base.specs.Steps.{Steps, Steps.here, Steps.step, Steps-from_reaches, reaches_from_Steps}
+use Rattle.olap_graph.{proofs.MarkLemmas.{take_cases, take_before, take_last}, specs.Marking.unmarked_count}
 use Rattle.olap_graph.specs.Tables.{IsMarked}
-use Rattle.olap_legal.specs.Joining.{AreJoined, AreMembers, AreRows, HasRow, IsEither, IsJoin, left}
-use Rattle.olap_legal.specs.Rows.{none, IsBounded, IsIn, IsRise}
-use Rattle.olap_legal.specs.Marks.{IsMarking}
-use Rattle.olap_legal.specs.Laying.{AreDistinct, IsLaid, cell}
-use Rattle.olap_legal.specs.Slots.{no_slot, slot_of}
-use Rattle.olap_legal.specs.Tables.{IsTable}
-use Rattle.olap_legal.specs.declared.tables.Table.{Table}
 use Rattle.olap_legal.proofs.RisingLemmas.{same_in, kept_in, from_in, own_set, take_within}
+use Rattle.olap_legal.specs.Joining.{AreJoined, AreMembers, AreRows, HasRow, IsEither, IsJoin, left}
+use Rattle.olap_legal.specs.{Laying.{AreDistinct, IsLaid, cell}, Marks.IsMarking, Rows.{none, IsBounded, IsIn, IsRise}}
+use Rattle.olap_legal.specs.{Slots.{no_slot, slot_of}, Tables.IsTable, declared.tables.Table.Table}
+use native.Mathlib.Decide.{ℕ_discrete}
 
 -- ---- one place
 

@@ -1,22 +1,14 @@
 -- Where the cells of the table stand, and what is read and written there.
 use Rattle.std.proofs.Common.{◌≡◌, ◌≢◌, ℕ, ◌+◌, ◌<◌, ◌≤◌, ◌⊎◌, List, [], ◌∷◌, ◌++◌, length, get_or, ap, sym, subst, ◌∙◌, inl, inr, arith, length-append, eq-eqb}
-use Rattle.std.proofs.Math.ListN.{get_or-append}
-use Rattle.std.specs.Prelude.{replicate}
-use Rattle.std.proofs.lemmas.Bool.{cases_lt, cond-true, cond-false, ne_eqb}
-use Rattle.std.proofs.lemmas.List.{get_or-replicate, get_or_at, get_or_default}
-use native.Mathlib.Decide.{ℕ_discrete}
-use Rattle.olap_base.specs.Graph.{Graph}
-use Rattle.olap_base.specs.Instance.{Instance, category_of}
+use Rattle.std.proofs.{Math.ListN.get_or-append, lemmas.Bool.{cases_lt, cond-true, cond-false, ne_eqb}}
+use Rattle.std.{proofs.lemmas.List.{get_or-replicate, get_or_at, get_or_default}, specs.Prelude.replicate}
+use Rattle.olap_base.specs.{Graph.Graph, Instance.{Instance, category_of}}
 use Rattle.olap_base.specs.Steps.{Steps-from_reaches, reaches_from_Steps}
-use Rattle.olap_legal.specs.Joining.{IsEither}
-use Rattle.olap_legal.specs.Laying.{AreStarts, IsLaid, cell}
-use Rattle.olap_legal.specs.Rows.{none, IsBounded, AreLinked}
+use Rattle.olap_legal.proofs.{ParentLemmas.edges_along, SlotLemmas.slots_done, TableLemmas.reached_inside}
+use Rattle.olap_legal.specs.{Joining.IsEither, Laying.{AreStarts, IsLaid, cell}, Rows.{none, IsBounded, AreLinked}}
 use Rattle.olap_legal.specs.Slots.{AreListed, IsOrdered, IsSlots, count_of, no_slot, order_of, slot_of}
-use Rattle.olap_legal.specs.declared.slots.Slots.{Slots}
-use Rattle.olap_legal.specs.declared.tables.Table.{Table}
-use Rattle.olap_legal.proofs.ParentLemmas.{edges_along}
-use Rattle.olap_legal.proofs.SlotLemmas.{slots_done}
-use Rattle.olap_legal.proofs.TableLemmas.{reached_inside}
+use Rattle.olap_legal.specs.declared.{slots.Slots.Slots, tables.Table.Table}
+use native.Mathlib.Decide.{ℕ_discrete}
 
 -- ---- where rows begin
 

@@ -1,19 +1,14 @@
 -- Steps of a marking.
 use Rattle.std.proofs.Common.{◌≡◌, ◌≢◌, ℕ, ◌+◌, ◌<◌, ◌≤◌, List, [], ◌∷◌, ◌++◌, length, get_or, set, take, Bool, true, false, refl, ap, sym, subst, ◌∙◌, inl, inr, arith, length-append}
-use Rattle.std.proofs.Math.ListN.{length-set}
+use Rattle.std.proofs.{Math.ListN.length-set, lemmas.Bool.cases_Bool}
+use Rattle.std.proofs.lemmas.List.Elements.{Contains-append_left, Contains-push, Contains-push_cases, Contains-get_or}
 use Rattle.std.specs.Prelude.{Contains}
-use Rattle.std.proofs.lemmas.List.Elements.{Contains-append_left, Contains-push, Contains-push_cases}
-use Rattle.olap_base.specs.Instance.{Instance, category_of, parents_of}
+use Rattle.olap_base.{proofs.ListLemmas.Contains-nil, specs.Instance.{Instance, category_of, parents_of}}
 use Rattle.olap_base.specs.declared.ids.MemberId.{MemberId}
-use Rattle.std.proofs.lemmas.List.Elements.{Contains-get_or}
-use Rattle.std.proofs.lemmas.Bool.{cases_Bool}
-use Rattle.olap_graph.specs.Marking.{unmarked_count}
-use Rattle.olap_graph.specs.Tables.{IsMarked}
 use Rattle.olap_graph.proofs.MarkLemmas.{same_marked, kept_marked, from_marked, unmarked_set, take_cases, take_before, take_last, mark_is}
+use Rattle.olap_graph.specs.{Marking.unmarked_count, Tables.IsMarked}
 use Rattle.olap_legal.proofs.ParentLemmas.{IsParentAt, parent_member, places, take_read, taken_fewer}
-use Rattle.olap_base.proofs.ListLemmas.{Contains-nil}
-use Rattle.olap_legal.specs.Marks.{IsPassed, IsMarking, Hits, MarkGives}
-use Rattle.olap_legal.specs.Rows.{IsBounded}
+use Rattle.olap_legal.specs.{Marks.{IsPassed, IsMarking, Hits, MarkGives}, Rows.IsBounded}
 
 -- no parent is marked
 pub marking_none : (i : Instance) (c : ℕ) (marks : List Bool) (list : List ℕ) → IsMarking i c [] marks marks list list
@@ -78,12 +73,6 @@ module _ (i : Instance) (c : ℕ) (ps : List ℕ) (k : ℕ) (before marks : List
         fewer = let u = unmarked_set marks p l n in let f = v.fewer in omega (arith, length-append list (p ∷ []));
       }
 
--- the same marking, of equal lists
-pub marking_as : {i : Instance} {c : ℕ} {ps : List ℕ} {before marks after : List Bool} {old list new : List ℕ}
-    → after ≡ marks → new ≡ list → IsMarking i c ps before marks old list → IsMarking i c ps before after old new
-marking_as {i} {c} {ps} {before} {marks} {after} {old} {list} {new} e f v =
-    subst (λ r. IsMarking i c ps before r old new) (sym e) (subst (λ l. IsMarking i c ps before marks old l) (sym f) v)
-
 -- what the code does at the k-th parent, which isn't of the category c
 module _ {i : Instance} {z k c : ℕ} {m : MemberId} (at : IsParentAt i z k m) {before marks : List Bool}
     {old list : List ℕ} (v : IsMarking i c (take k (parents_of i z)) before marks old list)
@@ -108,7 +97,7 @@ module _ {i : Instance} {z k c : ℕ} {m : MemberId} (at : IsParentAt i z k m) {
     marking_pushed e =
         let inside = subst (λ j. j < length marks) at.is mark_inside in
         let t = marking_push i c (parents_of i z) k before marks old list at.inside v apart inside (mark_of false e) in
-        marking_as (ap (λ j. set marks j true) at.is) (ap (λ j. list ++ j ∷ []) at.is) t
+        rw at.is t
 
     -- it is marked
     pub marking_skipped : r ≡ true → IsMarking i c (take (k + 1) (parents_of i z)) before marks old list

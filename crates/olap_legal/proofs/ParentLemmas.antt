@@ -1,12 +1,9 @@
 -- The parents of a member, read from the instance's list of ids, and the edges that lead along with them.
 use Rattle.std.proofs.Common.{◌≡◌, ℕ, ◌<◌, ◌≤◌, List, length, map, get_or, take, [], ◌∷◌, ◌++◌, ◌+◌, length-append, ap, sym, subst, ◌∙◌, arith}
+use Rattle.std.proofs.lemmas.List.{get_or-map, length-map, take_all, Elements.{Contains-get_or, Contains-push}}
 use Rattle.std.specs.Prelude.{Contains}
-use Rattle.std.proofs.lemmas.List.{get_or-map, length-map, take_all}
-use Rattle.std.proofs.lemmas.List.Elements.{Contains-get_or, Contains-push}
-use Rattle.olap_base.specs.Graph.{Graph, HasEdge}
-use Rattle.olap_base.specs.Instance.{Instance, IsBelow, category_of, parents_of}
-use Rattle.olap_base.specs.Steps.{Steps, Steps.here, Steps.step}
-use Rattle.olap_base.specs.declared.ids.MemberId.{MemberId}
+use Rattle.olap_base.specs.{Graph.{Graph, HasEdge}, Instance.{Instance, IsBelow, category_of, parents_of}}
+use Rattle.olap_base.specs.{Steps.{Steps, Steps.here, Steps.step}, declared.ids.MemberId.MemberId}
 use Rattle.olap_legal.specs.Rows.{AreLinked}
 
 -- what stands past the end of a list of ids

@@ -1,19 +1,15 @@
 -- Steps of a visit, and of the walk upwards.
 use Rattle.std.proofs.Common.{◌≡◌, ◌≢◌, ℕ, zero, suc, ◌+◌, ◌<◌, ◌≤◌, ◌⊎◌, List, [], ◌∷◌, ◌++◌, length, get_or, set, take, Bool, true, false, cond, refl, ap, sym, subst, ◌∙◌, inl, inr, arith, length-append, get_or-set_same, get_or-set_other}
-use Rattle.std.proofs.Math.ListN.{length-set}
-use Rattle.std.specs.Prelude.{Contains, ◌==◌}
-use Rattle.std.proofs.lemmas.Bool.Decides.{nat_tests}
+use Rattle.std.proofs.{Math.ListN.length-set, lemmas.Bool.Decides.nat_tests, lemmas.List.get_or_default}
 use Rattle.std.proofs.lemmas.List.Elements.{Contains-append_left, Contains-push, Contains-push_cases}
-use native.Mathlib.Decide.{ℕ_discrete}
-use Rattle.olap_base.specs.Limits.{most_members}
-use Rattle.olap_base.specs.Deciding.{contains_cases}
-use Rattle.olap_base.specs.Instance.{Instance, category_of, parents_of}
+use Rattle.std.specs.Prelude.{Contains, ◌==◌}
+use Rattle.olap_base.{proofs.ListLemmas.Contains-nil, specs.Deciding.contains_cases}
+use Rattle.olap_base.specs.{Instance.{Instance, category_of, parents_of}, Limits.most_members}
 use Rattle.olap_base.specs.declared.ids.MemberId.{MemberId}
 use Rattle.olap_graph.proofs.MarkLemmas.{take_cases, take_before, take_last}
 use Rattle.olap_legal.proofs.ParentLemmas.{IsParentAt, parent_member, places, take_read}
-use Rattle.std.proofs.lemmas.List.{get_or_default}
-use Rattle.olap_base.proofs.ListLemmas.{Contains-nil}
 use Rattle.olap_legal.specs.Rows.{none, IsBounded, IsIn, IsRow, free_count, IsVisit, Meets, VisitGives}
+use native.Mathlib.Decide.{ℕ_discrete}
 
 -- an element of the first few is one of all
 pub take_within : (ps : List ℕ) (k y : ℕ) → Contains (take k ps) y → Contains ps y
@@ -176,12 +172,6 @@ visit_meets i ps k before row old list q h l e n apart v =
       same_category = sym same;
       apart = λ r. apart (sym r);
     }
-
--- the same visit, of equal lists
-pub visit_as : {i : Instance} {ps before row after old list new : List ℕ} → after ≡ row → new ≡ list
-    → IsVisit i ps before row old list → IsVisit i ps before after old new
-visit_as {i} {ps} {before} {row} {after} {old} {list} {new} e f v =
-    subst (λ r. IsVisit i ps before r old new) (sym e) (subst (λ l. IsVisit i ps before row old l) (sym f) v)
 
 -- a parent's category has a place
 pub visit_room : {i : Instance} {z k n : ℕ} {m : MemberId} {before row old list : List ℕ} → IsParentAt i z k m

@@ -1,13 +1,11 @@
 -- Slots of categories, as they are given out.
 use Rattle.std.proofs.Common.{◌≡◌, ◌≢◌, ℕ, ◌+◌, ◌*◌, ◌<◌, ◌≤◌, List, [], ◌∷◌, ◌++◌, length, get_or, set, ap, sym, subst, ◌∙◌, arith, length-append, get_or-set_same, get_or-set_other}
-use Rattle.std.proofs.Math.ListN.{get_or-append, length-set}
-use Rattle.std.proofs.Math.Nat.{mul-le-mul_right}
-use Rattle.std.specs.Prelude.{replicate}
-use Rattle.std.proofs.lemmas.List.{get_or-replicate, get_or_at, length-replicate}
-use native.Mathlib.Decide.{ℕ_discrete}
+use Rattle.std.proofs.Math.{ListN.{get_or-append, length-set}, Nat.mul-le-mul_right}
+use Rattle.std.{proofs.lemmas.List.{get_or-replicate, get_or_at, length-replicate}, specs.Prelude.replicate}
 use Rattle.olap_base.specs.Graph.{Graph, CategoryReaches}
 use Rattle.olap_legal.specs.Slots.{AreListed, IsListing, IsOrdered, IsSlots, no_slot, place}
 use Rattle.olap_legal.specs.declared.slots.Slots.{Slots}
+use native.Mathlib.Decide.{ℕ_discrete}
 
 -- a place of an earlier row stands before the later row
 pub earlier : (n k x d : ℕ) → x < k → d < n → x * n + d < k * n

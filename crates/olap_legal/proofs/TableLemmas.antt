@@ -1,15 +1,11 @@
 -- The table of ancestors, row after row.
 use Rattle.std.proofs.Common.{◌≡◌, ◌≢◌, ℕ, ◌+◌, ◌<◌, ◌≤◌, List, length, get_or, ap, sym, subst, ◌∙◌, arith}
-use native.Mathlib.Decide.{ℕ_discrete}
-use Rattle.olap_base.specs.Limits.{most_members}
 use Rattle.olap_base.specs.Instance.{Instance, IsBelow, IsMemberOf, Reaches, ReachesCategory, category_of}
+use Rattle.olap_base.specs.{Limits.most_members, Reaching.reaches_is}
 use Rattle.olap_base.specs.Steps.{Steps, Steps.here, Steps.step, Steps-from_reaches}
-use Rattle.olap_base.specs.Reaching.{reaches_is}
-use Rattle.olap_legal.specs.Rows.{none, IsBounded, IsRise, Splits}
-use Rattle.olap_legal.specs.Ancestors.{IsAncestor}
-use Rattle.olap_legal.specs.Laying.{IsLaid, cell}
-use Rattle.olap_legal.specs.Tables.{IsTable, IsFirstSplit}
-use Rattle.olap_legal.specs.declared.tables.Table.{Table}
+use Rattle.olap_legal.specs.{Ancestors.IsAncestor, Laying.{IsLaid, cell}, Rows.{none, IsBounded, IsRise, Splits}}
+use Rattle.olap_legal.specs.{Tables.{IsTable, IsFirstSplit}, declared.tables.Table.Table}
+use native.Mathlib.Decide.{ℕ_discrete}
 
 -- what a member reaches is a member
 pub reached_inside : (i : Instance) → ((a b : ℕ) → IsBelow i a b → b < length i) → {x y : ℕ} → Steps (IsBelow i) x y

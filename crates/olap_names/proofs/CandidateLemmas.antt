@@ -1,26 +1,20 @@
 -- What the lists of names and the fresh name are, taken together.
-use Rattle.std.proofs.Common.{◌≡◌, suc, ℕ, ◌+◌, ◌<◌, ◌≤◌, List, [], ◌∷◌, ◌++◌, length, get_or, map, true, false, refl, ap, sym, subst, ◌∙◌, arith, inl, inr, ◌⊎◌}
-use Rattle.std.specs.Prelude.{All, AllPairs, Contains, ◌==◌}
-use Rattle.std.specs.Str.{bytes_eq}
-use Rattle.std.specs.Cmp.Lexicographic.{slice_cmp, nat_list_cmp_total}
-use Rattle.std.specs.Ordering.{nat_cmp}
-use Rattle.std.proofs.lemmas.Cmp.{tied_itself}
-use Rattle.std.proofs.lemmas.Bool.{eqb-true, cases_lt}
-use Rattle.std.proofs.lemmas.List.{length-map, length_push, get_or_past, get_or_push, get_or_append_left}
-use Rattle.std.proofs.lemmas.List.Elements.{All-contains}
-use Rattle.std.proofs.lemmas.Slice.Eq.{bytes_eq-Decides}
-use Rattle.olap_base.specs.Graph.{Graph, IsHierarchy, category_count, is_number}
-use Rattle.olap_base.proofs.ListLemmas.{Distinct, Contains-nil, Contains-from_map, Distinct-map, Distinct-from_AllPairs, first_true, second_true}
-use Rattle.olap_ast.specs.Atoms.{Equality, texts_on}
-use Rattle.olap_ast.specs.Pairs.{distinct_pairs, is_same_pair}
-use Rattle.olap_ast.specs.Formula.{Constant.AText, Formula}
-use Rattle.olap_ast.specs.Schema.{Constraint, Schema}
-use Rattle.olap_ast.specs.Constants.{AreInByteOrder, HasKinds, IsBefore, IsConstant, IsFreshName, fresh_candidate}
-use Rattle.olap_ast.specs.Frozen.{AreCandidates, AreNamesOf}
-use Rattle.olap_ast.proofs.ComparedLemmas.{atom_on_names, constant_text, constants_in_order, text_constant}
-use Rattle.olap_names.specs.Names.{IsFreshAmong, Named, atoms, candidates_of, most_others, with_graph}
-use Rattle.olap_names.proofs.Counting.{few_distinct, in_fold}
+use Rattle.std.proofs.Common.{◌≡◌, suc, ℕ, ◌+◌, ◌<◌, ◌≤◌, List, [], ◌∷◌, ◌++◌, length, get_or, map, take, true, false, refl, ap, sym, subst, ◌∙◌, arith, inl, inr}
+use Rattle.std.proofs.lemmas.{Bool.{eqb-true, cases_lt}, Cmp.tied_itself}
+use Rattle.std.proofs.lemmas.List.{take_all, length-map, length_push, get_or_past, get_or_push, get_or_append_left}
+use Rattle.std.proofs.lemmas.{List.Elements.All-contains, Slice.Eq.bytes_eq-Decides}
+use Rattle.std.specs.{Cmp.Lexicographic.{slice_cmp, nat_list_cmp_total}, Ordering.nat_cmp}
+use Rattle.std.specs.{Prelude.{All, AllPairs, Contains, flat_map, ◌==◌}, Str.bytes_eq}
 use Rattle.olap_base.proofs.GeneralLemmas.{below_or_same}
+use Rattle.olap_base.proofs.ListLemmas.{Distinct, Contains-nil, Contains-from_map, Distinct-map, Distinct-from_AllPairs, first_true, second_true}
+use Rattle.olap_base.specs.Graph.{Graph, IsHierarchy, category_count, is_number}
+use Rattle.olap_ast.proofs.ComparedLemmas.{atom_on_names, constant_text, constants_in_order, text_constant}
+use Rattle.olap_ast.specs.Atoms.{Equality, texts_on}
+use Rattle.olap_ast.specs.Constants.{AreInByteOrder, HasKinds, IsBefore, IsConstant, IsFreshName, fresh_candidate}
+use Rattle.olap_ast.specs.{Formula.{Constant.AText, Formula}, Frozen.{AreCandidates, AreNamesOf}}
+use Rattle.olap_ast.specs.{Pairs.{distinct_pairs, is_same_pair}, Schema.{Constraint, Schema}}
+use Rattle.olap_names.proofs.Counting.{few_distinct, in_fold}
+use Rattle.olap_names.specs.Names.{IsFreshAmong, Named, atoms, candidates_of, most_others, with_graph}
 
 -- ---- distinct pairs hold every atom
 
@@ -31,6 +25,16 @@ same_pair a b e =
     let t = (bytes_eq-Decides a.text b.text).0
     (second_true (a.category == b.category) (bytes_eq a.text b.text) e) in
     λ i. record { category = c i; text = t i }
+
+-- ---- what is gathered
+
+-- what was gathered of the constraints and then of the question is gathered of all
+pub gathered_all : {A B C K : Type 0} (on : List A → List B) (of : C → List A) (known : K → C) (ks : List K) (i : ℕ)
+    (xs : List A) {old new : List B} → ((us vs : List A) → on (us ++ vs) ≡ on us ++ on vs) → length ks ≤ i
+    → old ≡ on (flat_map of (map known (take i ks))) → new ≡ old ++ on xs → new ≡ on (flat_map of (map known ks) ++ xs)
+gathered_all on of known ks i xs both all o n =
+    n ∙ ap (λ l. l ++ on xs) (o ∙ ap (λ l. on (flat_map of (map known l))) (take_all i ks all))
+    ∙ sym (both (flat_map of (map known ks)) xs)
 
 -- ---- a category has no more constants than there are pairs
 
@@ -78,9 +82,6 @@ listed_more all n texts new x l o e = record {
             (subst (λ t. AreInByteOrder (Contains (texts_on n all)) t) (sym (get_or_push texts x [] n l.count)) o)
       ]);
 }
-  where
-    below_or_same : (d n : ℕ) → d < n + 1 → (d < n) ⊎ (d ≡ n)
-    below_or_same d n h = grind arith
 
 -- a category of which no atom speaks has no constants
 no_constants : (d : ℕ) (all : List Equality) → ((a : Equality) → Contains all a → a.category ≡ d → ⊥)
@@ -91,6 +92,12 @@ no_constants d all none = record {
   complete = λ text c. absurd (none (record { category = d; text = text }) (atom_on_names d all text c) refl);
 }
 
+-- nor has one after those of which atoms speak
+none_past : (d n : ℕ) (all : List Equality) → All (λ a. a.category < n) all → n ≤ d
+    → AreInByteOrder (Contains (texts_on d all)) []
+none_past d n all w l = no_constants d all (λ a b e. let u : a.category < n =
+    All-contains (λ (x : Equality). x.category < n) all a w b in absurd (omega arith))
+
 -- with all categories that atoms speak of, it is so of each
 pub listed_everywhere : (all : List Equality) (n : ℕ) (texts : List (List (List ℕ))) → All (λ a. a.category < n) all
     → AreListed all n texts → (d : ℕ) → AreInByteOrder (Contains (texts_on d all)) (get_or texts d [])
@@ -98,8 +105,7 @@ listed_everywhere all n texts w l d = elim (cases_lt d n) [
   | inl h ↦ l.each d h
   | inr h ↦ subst (λ t. AreInByteOrder (Contains (texts_on d all)) t)
       (sym (get_or_past texts d [] (let e = l.count in omega arith)))
-      (no_constants d all (λ a b e. let u : a.category < n =
-      All-contains (λ (x : Equality). x.category < n) all a w b in absurd (omega arith)))
+      (none_past d n all w h)
 ]
 
 -- ---- all together
@@ -205,10 +211,7 @@ are_candidates g cs q k h w kinds fresh named = record {
           subst (λ f. IsFreshName (with_graph g cs) q f) (sym (first_past c l)) fresh,
           subst (λ t. AreInByteOrder (λ text. IsConstant (with_graph g cs) q (suc c) (AText text)) t)
               (sym (texts_past c l))
-              (constants_in_order (with_graph g cs) q (suc c) []
-              (no_constants (suc c) (atoms cs q) (λ a b e. let u : a.category < category_count g =
-              All-contains (λ (x : Equality). x.category < category_count g) (atoms cs q) a w b in
-              absurd (omega arith)))),
+              (constants_in_order s q (suc c) [] (none_past (suc c) (category_count g) (atoms cs q) w l)),
         )
 
 -- the first of nk, nk_, .. that is none of the constants of the categories is the fresh name

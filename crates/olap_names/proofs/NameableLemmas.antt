@@ -1,14 +1,9 @@
 -- The names of a valid schema and a question.
 use Rattle.std.proofs.Common.{ℕ, ◌<◌, ◌≤◌, List, subst}
-use Rattle.olap_base.specs.Graph.{Graph, category_count}
-use Rattle.olap_base.specs.Limits.{most_constants}
-use Rattle.olap_ast.specs.Atoms.{Equality}
-use Rattle.olap_ast.specs.Pairs.{pair_count}
-use Rattle.olap_ast.specs.Formula.{Formula}
-use Rattle.olap_ast.specs.Schema.{Constraint}
+use Rattle.olap_base.specs.{Graph.{Graph, category_count}, Limits.most_constants}
+use Rattle.olap_ast.proofs.{AtomLemmas.{AreOf, all_each, has_kinds}, ComparedLemmas.constants_counted}
+use Rattle.olap_ast.specs.{Atoms.Equality, Formula.Formula, Pairs.pair_count, Schema.Constraint}
 use Rattle.olap_ast.specs.Valid.{IsFormulaAt, IsQuestion, IsValidSchema}
-use Rattle.olap_ast.proofs.AtomLemmas.{AreOf, all_each, has_kinds}
-use Rattle.olap_ast.proofs.ComparedLemmas.{constants_counted}
 use Rattle.olap_names.specs.Names.{CanBeNamed, atoms, number_atoms, with_graph}
 
 -- atoms of the graph, few of them, can be named

@@ -1,20 +1,15 @@
 -- The numbers that a category's names are made of: the same for the same constants, and no more than there is room for.
 use Rattle.std.proofs.Common.{◌≡◌, ◌⊎◌, ◌↔◌, ◌+◌, ◌*◌, ◌<◌, ◌≤◌, ℕ, ℤ, pos, ◌+ℤ◌, ◌<ℤ◌, List, [], ◌∷◌, ◌++◌, length, get_or, map, drop, true, Option, Some, None, refl, ap, sym, subst, inl, inr, arith}
-use Rattle.std.specs.Prelude.{AllPairs, Contains, ◌==◌}
-use Rattle.std.specs.Ordering.{int_eq}
-use Rattle.std.proofs.lemmas.Bool.{eqb-true}
-use Rattle.std.proofs.lemmas.Int.{ints}
-use Rattle.std.proofs.lemmas.List.{length-append, length-map}
+use Rattle.std.proofs.lemmas.{Bool.eqb-true, Int.ints, List.{length-append, length-map}}
 use Rattle.std.proofs.lemmas.List.Elements.{Contains-append_left, Contains-append_right, Contains-push}
+use Rattle.std.specs.{Ordering.int_eq, Prelude.{AllPairs, Contains, ◌==◌}}
 use Rattle.olap_base.proofs.ListLemmas.{Contains-from_map, Contains-map, Contains-nil, Distinct, Distinct-from_AllPairs, Distinct-map, contains_head, first_true, second_true}
-use Rattle.olap_ast.specs.Atoms.{AreAscending, Comparison, numbers_on}
+use Rattle.olap_ast.{proofs.ComparedLemmas.atom_on_numbers, specs.Atoms.{AreAscending, Comparison, numbers_on}}
 use Rattle.olap_ast.specs.Pairs.{distinct_numbers, is_same_number}
-use Rattle.olap_ast.proofs.ComparedLemmas.{atom_on_numbers}
+use Rattle.olap_numerals.proofs.{EnteringLemmas.name_cases, OrderLemmas.same_number}
+use Rattle.olap_numerals.proofs.RepresentativeLemmas.{representatives_answer_alike, zero_small}
 use Rattle.olap_numerals.specs.Numerals.{canonical}
 use Rattle.olap_numerals.specs.Representatives.{AreNumberNames, AreRepresentatives, AreSmall, IsLastNear, IsLeast, IsNear, IsNumberName, IsUpTo, before_least, least, representative}
-use Rattle.olap_numerals.proofs.EnteringLemmas.{name_cases}
-use Rattle.olap_numerals.proofs.OrderLemmas.{same_number}
-use Rattle.olap_numerals.proofs.RepresentativeLemmas.{representatives_answer_alike, zero_small}
 use Rattle.olap_names.proofs.Counting.{few_distinct, in_fold}
 
 -- ---- a category has no more numbers than there are pairs

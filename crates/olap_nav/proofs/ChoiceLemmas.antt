@@ -1,8 +1,7 @@
 -- Marks on masks: one that is taken away, how many are left, and the cheapest of those that are marked.
 use Rattle.std.proofs.Common.{◌≡◌, ℕ, zero, suc, ◌+◌, ◌<◌, ◌≤◌, List, [], ◌∷◌, length, Bool, true, false, cond, refl, sym, subst, ◌⊎◌, inl, inr, Option, Some, None, arith}
 use Rattle.olap_base.specs.Views.{View}
-use Rattle.olap_nav.specs.Choices.{IsCheapest, IsCheapestOf, MayServe}
-use Rattle.olap_nav.specs.Plans.{IsNoDearer, rows_in}
+use Rattle.olap_nav.specs.{Choices.{IsCheapest, IsCheapestOf, MayServe}, Plans.{IsNoDearer, rows_in}}
 use Rattle.olap_nav.specs.declared.choice.Plan.{Plan}
 
 -- each mark of the second list stands in the first

@@ -1,15 +1,10 @@
 -- The views that a mask chooses: view by view, and what holds of them because it holds of all views.
 use Rattle.std.proofs.Common.{◌≡◌, ◌≢◌, ℕ, suc, ◌+◌, ◌<◌, List, [], ◌∷◌, ◌++◌, length, get_or, drop, take, Bool, true, false, cond, refl, ap, sym, subst, ◌∙◌, arith}
-use Rattle.std.specs.Prelude.{◌==◌, All, AllPairs}
-use Rattle.std.specs.Int.{bit_at}
-use Rattle.std.proofs.lemmas.List.{map-append, take_more}
-use Rattle.std.proofs.lemmas.List.Elements.{All-cons, All-nil}
-use Rattle.std.proofs.lemmas.List.Kept.{AllPairs-cons}
-use Rattle.olap_base.specs.Instance.{Instance}
-use Rattle.olap_base.specs.Views.{Fact, View, direct_view, direct_views, members}
+use Rattle.std.proofs.lemmas.List.{map-append, take_more, Elements.{All-cons, All-nil}, Kept.AllPairs-cons}
+use Rattle.std.specs.{Int.bit_at, Prelude.{◌==◌, All, AllPairs}}
+use Rattle.olap_base.specs.{Instance.Instance, Views.{Fact, View, direct_view, direct_views, members}}
 use Rattle.olap_nav.specs.Plans.{categories_of}
-use Rattle.olap_view.specs.Seen.{each_view_of, view_of}
-use Rattle.olap_view.specs.Stores.{chosen_from}
+use Rattle.olap_view.specs.{Seen.{each_view_of, view_of}, Stores.chosen_from}
 use Rattle.olap_view.specs.declared.views.View as told
 
 -- ---- view by view

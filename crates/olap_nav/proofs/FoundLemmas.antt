@@ -1,20 +1,14 @@
 -- What is known of a counterexample that was found: its root, and by way of what the root reaches the target.
 use Rattle.std.proofs.Common.{◌≡◌, ℕ, List, Bool, sym, subst, ◌↔◌}
-use Rattle.olap_ast.proofs.SameAtoms.{candidates_too, frozen_too}
-use Rattle.olap_ast.proofs.SourceLemmas.{question_free, question_numberless}
+use Rattle.olap_ast.proofs.{SameAtoms.{candidates_too, frozen_too}, SourceLemmas.{question_free, question_numberless}}
 use Rattle.olap_ast.specs.Formula.{Formula, Formula.Via}
 use Rattle.olap_ast.specs.Frozen.{AreCandidates, Candidates, Frozen, IsFrozen, chosen, name_in, root_place}
-use Rattle.olap_ast.specs.Schema.{Schema}
-use Rattle.olap_ast.specs.Summarizable.{not_by_one}
-use Rattle.olap_base.specs.Graph.{IsBottom, IsCategory, IsHierarchy}
-use Rattle.olap_base.specs.Instance.{ReachesVia}
-use Rattle.olap_base.specs.Views.{View}
-use Rattle.olap_frozen.specs.declared.founding.Found.{Found}
-use Rattle.olap_frozen.specs.LeastFound.{frozen_of}
-use Rattle.olap_frozen.proofs.ChosenInstance as made
-use Rattle.olap_frozen.proofs.ChosenLemmas.{choice_of}
+use Rattle.olap_ast.specs.{Schema.Schema, Summarizable.not_by_one}
+use Rattle.olap_base.specs.{Graph.{IsBottom, IsCategory, IsHierarchy}, Instance.ReachesVia, Views.View}
+use Rattle.olap_frozen.{proofs.ChosenLemmas.choice_of, specs.LeastFound.frozen_of, specs.declared.founding.Found.Found}
 use Rattle.olap_names.specs.Names.{candidates_of}
 use Rattle.olap_nav.specs.Patterns.{AreWays, IsPattern, IsSomeCounterexample, found_instance, found_root}
+use Rattle.olap_frozen.proofs.ChosenInstance as made
 
 -- ---- the root
 

@@ -4,15 +4,11 @@
 -- mask whose views meet it in none or in several therefore doesn't serve: on this very instance a fact at the member is
 -- lost, or counted more than once.
 use Rattle.std.proofs.Common.{◌≡◌, ℕ, suc, ◌+◌, List, [], ◌∷◌, ◌++◌, Bool, true, false, ◌&&◌, cond, refl, ap, ◌∙◌, ◌↔◌, inl, inr}
-use Rattle.std.specs.Prelude.{◌==◌, IsTrue}
-use Rattle.std.specs.Int.{bit_at}
+use Rattle.std.specs.{Int.bit_at, Prelude.{◌==◌, IsTrue}}
 use Rattle.olap_ast.specs.Schema.{Schema}
-use Rattle.olap_base.specs.Instance.{Instance, ReachesVia}
-use Rattle.olap_base.specs.OneFact.{HoldsTimes}
+use Rattle.olap_base.{proofs.ViewLemmas.agree_exactly, specs.Instance.{Instance, ReachesVia}, specs.OneFact.HoldsTimes}
 use Rattle.olap_base.specs.Views.{ExactlyOne, NoneOf, View}
-use Rattle.olap_base.proofs.ViewLemmas.{agree_exactly}
-use Rattle.olap_nav.specs.Patterns.{AreWays, IsPattern, ways_from, ways_in}
-use Rattle.olap_nav.specs.Plans.{Serves, categories_of, sources_in}
+use Rattle.olap_nav.specs.{Patterns.{AreWays, IsPattern, ways_from, ways_in}, Plans.{Serves, categories_of, sources_in}}
 use Rattle.olap_view.specs.Stores.{chosen_from}
 
 -- ---- exactly one is once

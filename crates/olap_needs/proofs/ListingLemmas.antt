@@ -1,23 +1,14 @@
 -- The bottom categories that need a constraint, one category after another.
 use Rattle.std.proofs.Common.{◌≡◌, ◌∙◌, ◌⊎◌, ◌↔◌, ℕ, ◌+◌, ◌<◌, Bool, true, false, true≢false, List, [], ◌∷◌, ◌++◌, append-nil, get_or, map, refl, ap, sym, subst, inl, inr, arith}
-use Rattle.std.specs.Prelude.{AllPairs, Contains, IsTrue, if◌then◌else◌}
 use Rattle.std.proofs.lemmas.List.{map-append}
 use Rattle.std.proofs.lemmas.List.Elements.{Contains-append_cases, Contains-append_left, Contains-append_right, Contains-get_or}
-use Rattle.std.proofs.lemmas.List.Quantifiers.{all_pairs_push}
-use Rattle.olap_base.specs.Deciding.{contains_cases}
-use Rattle.olap_base.specs.Graph.{IsBottom, category_count}
-use Rattle.olap_base.proofs.ListLemmas.{Contains-nil, contains_head}
-use Rattle.olap_ast.specs.Findings.{IsUnsatisfiable}
-use Rattle.olap_ast.specs.Formula.{Formula.Not}
-use Rattle.olap_ast.specs.Questions.{IsImplied}
-use Rattle.olap_ast.specs.Schema.{Schema}
-use Rattle.olap_ast.specs.Trees.{constraint_of, formula_of, numbers_of}
-use Rattle.olap_ast.specs.declared.formulas.Constraint.{Constraint}
-use Rattle.olap_base.specs.declared.ids.CatId.{CatId}
-use Rattle.olap_needs.specs.Laws.{NeedsLeaveMembers}
-use Rattle.olap_needs.specs.Listing.{AreBelow, IsLost, ListsBelow, ListsNeeded}
-use Rattle.olap_needs.specs.Needs.{AreAscending, AreEmptied, AreNeeded, IsNeeded, by_one, need, with_needs}
-use Rattle.olap_needs.specs.declared.needing.Needs.{Needs}
+use Rattle.std.{proofs.lemmas.List.Quantifiers.all_pairs_push, specs.Prelude.{Contains, IsTrue, if◌then◌else◌}}
+use Rattle.olap_base.{proofs.ListLemmas.{Contains-nil, contains_head}, specs.Deciding.contains_cases}
+use Rattle.olap_base.specs.{Graph.category_count, declared.ids.CatId.CatId}
+use Rattle.olap_ast.specs.{Formula.Formula.Not, Questions.IsImplied, Schema.Schema}
+use Rattle.olap_ast.specs.{Trees.{constraint_of, formula_of, numbers_of}, declared.formulas.Constraint.Constraint}
+use Rattle.olap_needs.specs.{Laws.NeedsLeaveMembers, Listing.{AreBelow, IsLost, ListsBelow, ListsNeeded}}
+use Rattle.olap_needs.specs.{Needs.{AreAscending, AreNeeded, IsNeeded, by_one, need}, declared.needing.Needs.Needs}
 
 module _ (P : ℕ → Type 0) where
   -- none are below 0

@@ -1,23 +1,16 @@
 -- The constraints that a target needs: they suffice, they are the weakest, and they are one list.
 use Rattle.std.proofs.Common.{◌≡◌, ◌<◌, ℕ, List, [], ◌∷◌, ◌++◌, map, refl, sym, subst, inl, inr, arith}
-use Rattle.std.specs.Prelude.{Contains, ◌↔◌}
 use Rattle.std.proofs.lemmas.List.Elements.{Contains-append_cases, Contains-append_left, Contains-append_right}
-use native.Mathlib.Decide.{ℕ_discrete}
-use Rattle.olap_base.specs.Deciding.{decide_contains}
-use Rattle.olap_base.specs.Graph.{IsBottom}
-use Rattle.olap_base.specs.Instance.{Instance, IsMemberOf, category_of}
-use Rattle.olap_base.specs.Views.{IsFactTable, ViewsAgree, members}
+use Rattle.std.specs.Prelude.{Contains, ◌↔◌}
 use Rattle.olap_base.proofs.ListLemmas.{Contains-map, Contains-from_map, Contains-nil, contains_head}
-use Rattle.olap_base.proofs.ViewLemmas.{agree_exactly}
-use Rattle.olap_ast.specs.Findings.{IsUnsatisfiable}
-use Rattle.olap_ast.specs.Formula.{Holds}
-use Rattle.olap_ast.specs.Schema.{Constraint, IsLegal, Meets, Schema}
+use Rattle.olap_base.{proofs.ViewLemmas.agree_exactly, specs.Deciding.decide_contains, specs.Graph.IsBottom}
+use Rattle.olap_base.specs.{Instance.{Instance, IsMemberOf, category_of}, Views.{IsFactTable, ViewsAgree, members}}
+use Rattle.olap_ast.proofs.{Decided.decide_holds, OrderedLists.{Apart, same_list}, Summing.one_of}
+use Rattle.olap_ast.specs.{Findings.IsUnsatisfiable, Formula.Holds, Schema.{Constraint, IsLegal, Meets, Schema}}
 use Rattle.olap_ast.specs.Summarizable.{IsSummarizable}
-use Rattle.olap_ast.proofs.Decided.{decide_holds}
-use Rattle.olap_ast.proofs.OrderedLists.{Apart, same_list}
-use Rattle.olap_ast.proofs.Summing.{one_of}
-use Rattle.olap_needs.specs.Needs.{AreAscending, AreNeeded, IsNeeded, by_one, need, with_needs}
 use Rattle.olap_needs.specs.Laws.{EmptiedAreOne, MeetsNeeds, NeedsAreAdded, NeedsAreExact, NeedsAreOne, NeedsAreWeakest, NeedsSuffice, NoneNeeded}
+use Rattle.olap_needs.specs.Needs.{AreAscending, AreNeeded, IsNeeded, by_one, need, with_needs}
+use native.Mathlib.Decide.{ℕ_discrete}
 
 -- an instance is legal with more constraints exactly if it is legal and meets them
 pub legal_with : (s : Schema) (more : List Constraint) (i : Instance)

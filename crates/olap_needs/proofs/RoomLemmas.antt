@@ -1,25 +1,18 @@
 -- With the constraints that are needed a schema stays readable, within the limits.
 use Rattle.std.proofs.Common.{◌≡◌, ◌∙◌, ◌↔◌, ℕ, suc, ◌+◌, ◌*◌, ◌<◌, ◌≤◌, List, [], ◌∷◌, ◌++◌, append-nil, length, map, refl, ap, sym, subst, inl, inr, arith}
-use Rattle.std.specs.Prelude.{Contains, flat_map, max, sum_by}
-use Rattle.std.proofs.lemmas.List.{length-append, length-map}
-use Rattle.std.proofs.lemmas.List.Concat.{flat_map-append}
+use Rattle.std.proofs.lemmas.List.{length-append, length-map, Concat.flat_map-append}
 use Rattle.std.proofs.lemmas.List.Elements.{Contains-append_cases, Contains-append_right}
-use Rattle.std.proofs.lemmas.List.Sums.{sum_by-append, sum_by-cons}
-use Rattle.olap_base.specs.Graph.{IsDeclared}
-use Rattle.olap_base.proofs.ListLemmas.{Contains-from_map, contains_head}
-use Rattle.olap_ast.specs.Atoms.{comparisons, equalities}
-use Rattle.olap_ast.specs.Pairs.{pair_count}
-use Rattle.olap_ast.specs.Schema.{Constraint, Schema}
-use Rattle.olap_ast.specs.Summarizable.{vias}
-use Rattle.olap_ast.specs.Trees.{formula_of}
-use Rattle.olap_ast.specs.Valid.{IsFormulaAt, depth_of, depth_of_terms, node_count, node_count_of_terms}
-use Rattle.olap_ast.specs.declared.formulas.Constraint as stored
+use Rattle.std.{proofs.lemmas.List.Sums.{sum_by-append, sum_by-cons}, specs.Prelude.{Contains, flat_map, max, sum_by}}
+use Rattle.olap_base.{proofs.ListLemmas.{Contains-from_map, contains_head}, specs.Graph.IsDeclared}
 use Rattle.olap_base.specs.Limits.{most_constants, most_constraints, most_depth, most_nodes, most_schema_nodes, most_words}
-use Rattle.olap_ast.proofs.SourceLemmas.{no_more_constants, question_at, question_free, question_numberless}
 use Rattle.olap_ast.proofs.ComparedLemmas.{constants_counted, constraints_counted}
+use Rattle.olap_ast.proofs.SourceLemmas.{no_more_constants, question_at, question_free, question_numberless}
+use Rattle.olap_ast.specs.{Atoms.{comparisons, equalities}, Pairs.pair_count, Schema.{Constraint, Schema}}
+use Rattle.olap_ast.specs.{Summarizable.vias, Trees.formula_of}
+use Rattle.olap_ast.specs.Valid.{IsFormulaAt, depth_of, depth_of_terms, node_count, node_count_of_terms}
 use Rattle.olap_schema.specs.Readable.{AreTexts}
-use Rattle.olap_needs.specs.Needs.{HasRoom, by_one, need, with_needs}
-use Rattle.olap_needs.specs.Laws.{EachNeedIsQuestion, NeedsStayReadable}
+use Rattle.olap_needs.specs.{Laws.{EachNeedIsQuestion, NeedsStayReadable}, Needs.{HasRoom, by_one, need, with_needs}}
+use Rattle.olap_ast.specs.declared.formulas.Constraint as stored
 
 -- ---- atoms
 

@@ -1,15 +1,12 @@
 -- The text of a schema with the constraints that are needed is that of the schema with their lines after it.
-use Rattle.std.proofs.Common.{◌≡◌, ◌∙◌, ℕ, List, [], ◌∷◌, ◌++◌, append_assoc, map, ap, sym}
+use Rattle.std.proofs.{Common.{◌≡◌, ◌∙◌, ℕ, List, ◌∷◌, ◌++◌, append_assoc, map, ap, sym}, lemmas.List.map-append}
 use Rattle.std.specs.Prelude.{zip}
-use Rattle.std.proofs.lemmas.List.{map-append}
 use Rattle.olap_ast.specs.Schema.{Schema}
-use Rattle.olap_needs.specs.Laws.{NeedsAreRead}
+use Rattle.olap_needs.{proofs.RoomLemmas.needs_stay_readable, specs.Laws.NeedsAreRead}
 use Rattle.olap_needs.specs.Needs.{need, needs_text, with_needs}
-use Rattle.olap_needs.proofs.RoomLemmas.{needs_stay_readable}
-use Rattle.olap_schema_text.specs.Judging.{schema_read}
+use Rattle.olap_schema_text.{proofs.PrintLemmas.text_of_lines-append, specs.Judging.schema_read}
 use Rattle.olap_schema_text.specs.Printing.{category_text, constraint_text, edge_text, schema_text, text_of_lines, version_text}
 use Rattle.olap_schema_text.specs.PrintingLaws.{PrintedIsRead}
-use Rattle.olap_schema_text.proofs.PrintLemmas.{text_of_lines-append}
 
 -- the lines after the text
 text_with : (s : Schema) (c : ℕ) (sources bs : List ℕ)

@@ -1,13 +1,9 @@
 -- What the tests of comparisons say.
 --     of_no_number    of a text that spells none
 use Rattle.std.proofs.Common.{◌≡◌, ◌↔◌, ℤ, List, ℕ, Bool, true, false, Some, refl, ap, arith, ◌<ℤ◌, ◌≤ℤ◌}
+use Rattle.std.{proofs.lemmas.Bool.Decides.Decides-and, proofs.lemmas.Int.ints, specs.Option.option_map_or}
 use Rattle.std.specs.Prelude.{int_lt, not}
-use Rattle.std.specs.Option.{option_map_or}
-use Rattle.std.proofs.lemmas.Bool.Decides.{Decides-and}
-use Rattle.std.proofs.lemmas.Int.{ints}
-use Rattle.olap_numerals.specs.Comparing.{Op, compares, is_numbered}
-use Rattle.olap_numerals.specs.Numerals.{number_of}
-use Rattle.olap_numerals.specs.Values.{is_within}
+use Rattle.olap_numerals.specs.{Comparing.{Op, compares, is_numbered}, Numerals.number_of, Values.is_within}
 
 -- the first number is less exactly if the test says so
 pub lt_is : (a b : ℤ) → (int_lt a b ≡ true) ↔ (a <ℤ b)

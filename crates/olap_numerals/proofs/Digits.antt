@@ -1,20 +1,14 @@
 -- Numbers of a few decimal digits, read one after another.
 use Rattle.std.proofs.Common.{◌≡◌, ◌<◌, ◌≤◌, ◌+◌, ◌-◌, ◌*◌, ◌^◌, ℕ, zero, suc, pos, negsuc, neg_ℤ, ◌-ℤ◌, Bool, true, false, cond, List, [], get_or, length, take, Some, refl, ap, sym, subst, ◌∙◌, arith}
-use Rattle.std.proofs.Math.IntN.{+ℤ_idl}
-use Rattle.std.proofs.Math.Nat.{pow-le-pow_right, pow-suc}
+use Rattle.std.proofs.{Math.IntN.+ℤ_idl, Math.Nat.{pow-le-pow_right, pow-suc}, lemmas.Int.{to_z-of_z, to_z_pos}}
+use Rattle.std.proofs.lemmas.{Int.Digits.digits_value_more, Str.digit_value_digit}
+use Rattle.std.proofs.lemmas.Str.Parse.{numerals_by_value, tells_all_ascii_digits, tells_by_index}
+use Rattle.std.specs.{Char.{digit_value, is_ascii_digit}, Int.IsInRange}
+use Rattle.std.specs.Str.Parse.{IsNumeral, digits_value, signed_digits_value, starts_with_minus, without_leading_sign}
+use Rattle.olap_numerals.{proofs.Spelling.{i64-decides, is_i64, numeral-decides}, specs.Values.value_of}
 use native.Mathlib.Decide.{ℕ_discrete}
 use mir.Syntax.{w64}
 use mir.Val.{of_z, to_z}
-use Rattle.std.specs.Char.{digit_value, is_ascii_digit}
-use Rattle.std.specs.Int.{IsInRange}
-use Rattle.std.specs.Str.Parse.{IsNumeral, digits_value, signed_digits_value, starts_with_minus, without_leading_sign}
-use Rattle.std.proofs.lemmas.Bool.Decides.{nat_tests}
-use Rattle.std.proofs.lemmas.Int.{to_z-of_z, to_z_pos}
-use Rattle.std.proofs.lemmas.Int.Digits.{digits_value_more}
-use Rattle.std.proofs.lemmas.Str.{digit_value_digit}
-use Rattle.std.proofs.lemmas.Str.Parse.{numerals_by_value, tells_all_ascii_digits, tells_by_index}
-use Rattle.olap_numerals.specs.Values.{value_of}
-use Rattle.olap_numerals.proofs.Spelling.{i64-decides, is_i64, numeral-decides}
 
 -- a byte that is a digit lies among the digits
 pub digit-within : (b : ℕ) → is_ascii_digit b ≡ true → IsInRange 48 57 b

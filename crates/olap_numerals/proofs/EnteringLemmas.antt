@@ -1,14 +1,12 @@
 -- What stands in a list after a number, and one more or one less, was entered.
 use Rattle.std.proofs.Common.{◌≡◌, ◌∙◌, ◌↔◌, ◌⊎◌, ◌++◌, ℤ, pos, negsuc, neg_ℤ, List, [], ◌∷◌, refl, sym, ap, subst, inl, inr, arith, ◌<ℤ◌, ◌+ℤ◌}
-use Rattle.std.specs.Prelude.{Contains, Some, fold}
-use Rattle.std.specs.Int.{int_min}
 use Rattle.std.proofs.lemmas.Int.{ints}
 use Rattle.std.proofs.lemmas.List.Elements.{Contains-append_left, Contains-append_right, Contains-append_cases}
-use Rattle.olap_base.specs.Deciding.{contains_cases}
-use Rattle.olap_base.proofs.ListLemmas.{contains_head, Contains-nil}
+use Rattle.std.specs.{Int.int_min, Prelude.{Contains, Some, fold}}
+use Rattle.olap_base.{proofs.ListLemmas.{contains_head, Contains-nil}, specs.Deciding.contains_cases}
+use Rattle.olap_numerals.proofs.RepresentativeLemmas.{both_ways, least_is, zero_small}
 use Rattle.olap_numerals.specs.Numerals.{IsSmall, most_number}
 use Rattle.olap_numerals.specs.Representatives.{AreSmall, IsLastNear, IsNumberName, IsUpTo, least}
-use Rattle.olap_numerals.proofs.RepresentativeLemmas.{both_ways, least_is, zero_small}
 
 -- a constant stands for itself
 up_to_self : (n : ℤ) → IsSmall n → IsUpTo (n ∷ []) n
@@ -75,24 +73,24 @@ least_small [] h n e = absurd (cc)
 least_small (m ∷ ns) h n e = let t = least_is m ns in
     let q : fold int_min m ns ≡ n = cc in subst IsSmall q (h (fold int_min m ns) t.is_one)
 
+-- what was there, told in other words, or came: one more
+pub one_more : {A B C D E : Type 0} → A ↔ (B ⊎ C) → B ↔ D → (D ⊎ C) ↔ E → A ↔ E
+one_more entered before both = (
+  λ x. both.0 (elim (entered.0 x) [ inl y ↦ inl (before.0 y) | inr y ↦ inr y ]),
+  λ u. entered.1 (elim (both.1 u) [ inl y ↦ inl (before.1 y) | inr y ↦ inr y ]),
+)
+
+-- of more constants it is so too
+up_to_wider : (ns ms : List ℤ) (a : ℤ) → ((n : ℤ) → Contains ns n → Contains ms n) → IsUpTo ns a → IsUpTo ms a
+up_to_wider ns ms a f (s, inl c) = (s, inl (f a c))
+up_to_wider ns ms a f (s, inr (n, c, e)) = (s, inr (n, f n c, e))
+
 -- one constant more
 pub up_to_push : (ns : List ℤ) (n a : ℤ) → (IsUpTo ns a ⊎ IsUpTo (n ∷ []) a) ↔ IsUpTo (ns ++ n ∷ []) a
 up_to_push ns n a = (
   λ h. elim h [
-    | inl u ↦ (
-      u.0,
-      elim u.1 [
-        | inl c ↦ inl (Contains-append_left ns (n ∷ []) a c)
-        | inr t ↦ inr (t.0, Contains-append_left ns (n ∷ []) t.0 t.1, t.2)
-      ],
-    )
-    | inr u ↦ (
-      u.0,
-      elim u.1 [
-        | inl c ↦ inl (Contains-append_right ns (n ∷ []) a c)
-        | inr t ↦ inr (t.0, Contains-append_right ns (n ∷ []) t.0 t.1, t.2)
-      ],
-    )
+    | inl u ↦ up_to_wider ns (ns ++ n ∷ []) a (Contains-append_left ns (n ∷ [])) u
+    | inr u ↦ up_to_wider (n ∷ []) (ns ++ n ∷ []) a (Contains-append_right ns (n ∷ [])) u
   ],
   λ u. elim u.1 [
     | inl c ↦ elim (Contains-append_cases ns (n ∷ []) a c) [ inl d ↦ inl (u.0, inl d) | inr d ↦ inr (u.0, inl d) ]

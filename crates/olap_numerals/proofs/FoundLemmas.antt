@@ -1,13 +1,10 @@
 -- What is found is the number that the text spells.
 use Rattle.std.proofs.Common.{◌≡◌, ◌∙◌, ◌<◌, ◌≤◌, ◌==◌, ◌&&◌, Bool, true, false, cond, ℕ, ℤ, pos, neg_ℤ, List, [], ◌∷◌, length, Option, Some, None, refl, sym, ap, subst, arith, nat_lt, nat_le}
+use Rattle.std.proofs.lemmas.Bool.{eqb-true, Decides.nat_tests}
 use Rattle.std.specs.Str.Parse.{signed_digits_value, without_leading_sign}
-use Rattle.std.proofs.lemmas.Bool.{eqb-true}
-use Rattle.std.proofs.lemmas.Bool.Decides.{nat_tests}
+use Rattle.olap_numerals.proofs.{NumeralLemmas.small_fits, Spelling.is_i64}
 use Rattle.olap_numerals.specs.Numerals.{digits_in, most_digits, most_number, number_of}
-use Rattle.olap_numerals.specs.Spelling.{has_plus, is_small, small_of}
-use Rattle.olap_numerals.specs.Values.{is_numeral, value_of, value_within}
-use Rattle.olap_numerals.proofs.NumeralLemmas.{small_fits}
-use Rattle.olap_numerals.proofs.Spelling.{is_i64}
+use Rattle.olap_numerals.specs.{Spelling.{has_plus, is_small, small_of}, Values.{is_numeral, value_of, value_within}}
 
 -- without a plus in front the sign is a `-` or none
 same_digits : (text : List ℕ) → has_plus text ≡ false → digits_in text ≡ without_leading_sign text

@@ -1,12 +1,8 @@
 -- The order of numbers, as std's sort has it.
 use Rattle.std.proofs.Common.{◌≡◌, true, ℤ, List, [], ◌∷◌, subst, arith, ◌<ℤ◌, int_cmp, int_eq, is_eq, Ordering, Less, Equal, Greater}
-use Rattle.std.specs.Ordering.{MatchOrdering}
-use Rattle.std.specs.Cmp.{int_ranks}
+use Rattle.std.{proofs.lemmas.List.Elements.All-cons, proofs.lemmas.List.Kept.AllPairs-cons, specs.Cmp.int_ranks}
+use Rattle.std.specs.{List.{All, AllByRecursion}, List.Sorted.IsStrictlySortedBy, Ordering.MatchOrdering}
 use Rattle.std.specs.Prelude.{AllPairs}
-use Rattle.std.specs.List.{All, AllByRecursion}
-use Rattle.std.specs.List.Sorted.{IsStrictlySortedBy}
-use Rattle.std.proofs.lemmas.List.Elements.{All-cons}
-use Rattle.std.proofs.lemmas.List.Kept.{AllPairs-cons}
 
 -- less by the comparison is less
 less_is : (x y : ℤ) → int_cmp x y ≡ Less → x <ℤ y

@@ -1,22 +1,13 @@
 -- What std's parse gives, by the words of this crate.
 use Rattle.std.proofs.Common.{◌≡◌, ◌<◌, ◌==◌, ◌∷◌, inl, inr, ◌^◌, ◌&&◌, ℕ, ℤ, pos, negsuc, neg_ℤ, ◌-◌, Bool, true, false, List, [], length, Result, Ok, Err, Option, Some, None, if◌then◌else◌, refl, sym, ap, true≢false, ◌∙◌, arith, rules, nat_lt}
-use Rattle.std.specs.Bool.{Decides}
-use Rattle.std.specs.Result.{OkIff, result_ok}
-use Rattle.std.specs.Int.RustNames.{FitsSigned}
-use Rattle.std.proofs.lemmas.Bool.{cases_Bool, eqb-true}
-use Rattle.std.proofs.lemmas.Fmt.{IsAscii-from_digits, parse-signed_decimal}
-use Rattle.std.proofs.lemmas.Str.{IsUtf8-from_ascii}
-use Rattle.std.specs.Str.{IsAscii, IsUtf8, all_ascii_digits}
+use Rattle.std.proofs.lemmas.Bool.{cases_Bool, eqb-true, Decides.{Decides-and, Decides-like, Decides-ltb}}
+use Rattle.std.proofs.lemmas.{Fmt.{IsAscii-from_digits, parse-signed_decimal}, Int.ints, Str.IsUtf8-from_ascii}
+use Rattle.std.proofs.lemmas.Str.{Ascii.IsAscii-cons, Parse.{IsNumeralModel, numerals_by_value}}
+use Rattle.std.specs.{Bool.Decides, Fmt.signed_decimal, Int.RustNames.FitsSigned, Int.Signed.mag}
+use Rattle.std.specs.{Result.{OkIff, result_ok}, Str.{IsAscii, IsUtf8, all_ascii_digits}}
 use Rattle.std.specs.Str.Parse.{IsNumeral, ParsesSigned, digits_value, signed_digits_value, without_leading_sign}
-use Rattle.std.proofs.lemmas.Bool.Decides.{Decides-and, Decides-like, Decides-ltb}
-use Rattle.std.proofs.lemmas.Str.Parse.{IsNumeralModel, numerals_by_value}
-use Rattle.std.proofs.lemmas.Int.{ints}
-use Rattle.olap_numerals.specs.Values.{is_numeral, is_within}
-use Rattle.olap_numerals.proofs.ComparingLemmas.{within_is}
+use Rattle.olap_numerals.{proofs.ComparingLemmas.within_is, specs.Values.{is_numeral, is_within}}
 use mir.Syntax.{Width, w64}
-use Rattle.std.specs.Fmt.{signed_decimal}
-use Rattle.std.specs.Int.Signed.{mag}
-use Rattle.std.proofs.lemmas.Str.Ascii.{IsAscii-cons}
 
 -- std's numerals of base ten
 pub own : IsNumeralModel (λ ds. all_ascii_digits ds ≡ true) (digits_value 10)

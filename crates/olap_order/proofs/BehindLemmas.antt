@@ -1,10 +1,8 @@
 -- Orders by this many words: those that the code takes one by one are those of all words.
 use Rattle.std.proofs.Common.{◌≡◌, ◌<◌, ◌≤◌, ◌==◌, ℕ, List, [], ◌∷◌, false, cond, None, Some, length, ap, refl, sym, arith}
-use Rattle.std.proofs.lemmas.Bool.Decides.{nat_tests}
+use Rattle.std.proofs.lemmas.Bool.{le-leb, Decides.nat_tests}
 use Rattle.olap_order.specs.Arguments.{at_least, exactly}
-use Rattle.olap_order.specs.Behind.{by_four, by_one, by_three, by_three_or_more, by_two, by_two_or_more}
-use Rattle.olap_order.specs.Order.{Order}
-use Rattle.std.proofs.lemmas.Bool.{le-leb}
+use Rattle.olap_order.specs.{Behind.{by_four, by_one, by_three, by_three_or_more, by_two, by_two_or_more}, Order.Order}
 
 -- a number isn't a smaller one
 isnt_less : (m n : ℕ) → n < m → (m == n) ≡ false

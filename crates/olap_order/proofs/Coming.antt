@@ -1,12 +1,9 @@
 -- What holds of all that an order comes to, whatever the files are.
 use Rattle.std.proofs.Common.{◌≡◌, List, ℕ, Bool, true, false, cond, length, nat_le, ◌&&◌, ◌==◌, Option, None, Some, refl}
-use Rattle.std.specs.Prelude.{Result, Ok, Err, unwrap_or}
-use Rattle.std.specs.Option.{option_or}
+use Rattle.std.specs.{Option.option_or, Prelude.{Result, Ok, Err, unwrap_or}}
 use Rattle.olap_base.specs.declared.refusals.Fault.{Fault}
-use Rattle.olap_order.specs.Arguments.{at_least, between, exactly}
-use Rattle.olap_order.specs.Families.{asking}
-use Rattle.olap_order.specs.Order.{Done, Order, Read, Told, and_then, ok_or}
-use Rattle.olap_order.specs.Steps.{meaning_or_fault}
+use Rattle.olap_order.specs.{Arguments.{at_least, between, exactly}, Families.asking}
+use Rattle.olap_order.specs.{Order.{Done, Order, Read, Told, and_then, ok_or}, Steps.meaning_or_fault}
 use Rattle.olap_order.specs.declared.status.Status.{Status}
 
 -- ---- orders

@@ -1,23 +1,17 @@
 -- What the shared steps come to.
 use Rattle.std.proofs.Common.{◌≡◌, ℕ, Bool, List, Some, true, false, cond, refl, arith}
-use Rattle.std.specs.Prelude.{◌==◌, codes, Result, Ok, Err}
-use Rattle.std.specs.Str.{bytes_eq}
-use Rattle.olap_ast.specs.Formula.{Formula}
-use Rattle.olap_ast.specs.Schema.{Schema}
-use Rattle.olap_ast.specs.Valid.{IsQuestion}
-use Rattle.olap_base.specs.Graph.{Graph, IsCategory, IsDeclared}
+use Rattle.std.specs.{Prelude.{◌==◌, codes, Result, Ok, Err}, Str.bytes_eq}
+use Rattle.olap_ast.specs.{Formula.Formula, Schema.Schema, Valid.IsQuestion}
+use Rattle.olap_base.{proofs.GeneralLemmas.not_zero, specs.Graph.{Graph, IsCategory, IsDeclared}}
 use Rattle.olap_base.specs.Limits.{most_schema_bytes}
-use Rattle.olap_graph.specs.Lookups.{category_named, names_of}
-use Rattle.olap_graph.proofs.PlaceLemmas.{found}
-use Rattle.olap_order.specs.Order.{Done, Order, and_then, refused}
-use Rattle.olap_order.specs.Outputs.{refusal}
+use Rattle.olap_graph.{proofs.PlaceLemmas.found, specs.Lookups.{category_named, names_of}}
+use Rattle.olap_order.proofs.Coming.{Comes, anything, asked, meant, then_comes, there, told}
+use Rattle.olap_order.specs.{Order.{Done, Order, and_then, refused}, Outputs.refusal}
 use Rattle.olap_order.specs.Steps.{category_word, fault_text, formula_or_fault, formula_word, meaning_or_fault, root_word, schema_file, text_file}
 use Rattle.olap_order.specs.declared.status.Status.TheVariants.{Refused}
-use Rattle.olap_order.proofs.Coming.{Comes, anything, asked, meant, then_comes, there, told}
 use Rattle.olap_schema.specs.Readable.{IsReadable}
 use Rattle.olap_schema_text.specs.Judging.{question_read, schema_read}
 use Rattle.olap_schema_text.specs.Laws.{ReadQuestionsAreValid, ReadSchemasAreReadable}
-use Rattle.olap_base.proofs.GeneralLemmas.{not_zero}
 
 -- the category of a name is one of the graph
 named_category : (g : Graph) (name : List ℕ) (c : ℕ) → category_named g name ≡ Some c → IsCategory g c

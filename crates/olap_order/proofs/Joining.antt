@@ -1,17 +1,11 @@
 -- Families of commands as one program.
 use Rattle.std.proofs.Common.{◌≡◌, ℕ, List, Option, None, Some, Result, MatchOption, ap, refl, subst, sym}
-use Rattle.std.specs.Prelude.{option_map}
-use Rattle.std.specs.Option.{option_or}
-use Rattle.olap_outside.specs.Files.{Files}
-use Rattle.olap_outside.specs.declared.outside.Library.{Ghosts as Library}
-use Rattle.olap_order.specs.Families.{FamilyJudged, IsNoUsage, asking}
-use Rattle.olap_order.specs.Judged.{Gives, GivesTold, Judged}
-use Rattle.olap_order.specs.Order.{Order, Done, Told, Read, and_then}
-use Rattle.olap_order.specs.declared.replies.Reply.{Reply}
-use Rattle.olap_order.specs.declared.replies.Stop.{Stop}
-use Rattle.olap_order.specs.declared.status.Status.{Status}
-use Rattle.olap_order.specs.declared.status.Status.TheVariants.{Usage}
+use Rattle.std.specs.{Option.option_or, Prelude.option_map}
+use Rattle.olap_outside.specs.{Files.Files, declared.outside.Library.{Ghosts as Library}}
 use Rattle.olap_order.proofs.Stepping.{blamed, comes_first, replied, step_reads_none, stuck_too}
+use Rattle.olap_order.specs.{Families.{FamilyJudged, IsNoUsage, asking}, Judged.{Gives, GivesTold, Judged}}
+use Rattle.olap_order.specs.{Order.{Order, Done, Told, Read, and_then}, declared.replies.Reply.Reply}
+use Rattle.olap_order.specs.declared.{replies.Stop.Stop, status.Status.Status}
 
 -- ---- a family's questions as the program's
 

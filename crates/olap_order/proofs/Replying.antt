@@ -1,15 +1,9 @@
 -- Replies to a question that is asked, and to none.
-use Rattle.std.proofs.Common.{◌≡◌, ℕ, List, Result, Ok, Err, subst, sym}
-use Rattle.std.specs.Result.{IsErrAnd}
-use Rattle.olap_order.specs.Judged.{IsVerdict, Replies}
-use Rattle.olap_order.specs.Order.{Order, Done, Told}
-use Rattle.olap_order.specs.Outputs.{refusal}
-use Rattle.olap_order.specs.Refusals.{IsOutOfMemory, IsRefusal}
-use Rattle.olap_order.specs.declared.replies.Reply.{Reply}
-use Rattle.olap_order.specs.declared.replies.Stop.{Stop}
+use Rattle.std.{proofs.Common.{◌≡◌, ℕ, List, Result, Ok, Err, subst, sym}, specs.Result.IsErrAnd}
+use Rattle.olap_order.specs.{Judged.{IsVerdict, Replies}, Order.{Order, Done, Told}, Outputs.refusal}
+use Rattle.olap_order.specs.{Refusals.{IsOutOfMemory, IsRefusal}, declared.replies.Reply.Reply}
+use Rattle.olap_order.specs.declared.{replies.Stop.Stop, status.Status.Status, status.Status.TheVariants.{Refused, Yes}}
 use Rattle.olap_order.specs.declared.replies.Stop.TheVariants as stops
-use Rattle.olap_order.specs.declared.status.Status.{Status}
-use Rattle.olap_order.specs.declared.status.Status.TheVariants.{Refused, Yes}
 
 module _ {Q : Type 0} {answers : Q → Status → List ℕ → Type 0} where
   -- a reply that is done answers what its bytes answer

@@ -1,25 +1,15 @@
 -- Categories that are read from words, one after the other.
 --     IsReadTo     the order of all the words is that of those that are left, after the categories that were read
 use Rattle.std.proofs.Common.{◌≡◌, ℕ, suc, ◌+◌, ◌<◌, ◌≤◌, List, [], ◌∷◌, ◌++◌, length, get_or, drop, true, false, ◌||◌, refl, Result, Ok, Err, ap, sym, subst, ◌∙◌, arith}
-use Rattle.std.specs.Prelude.{All, Contains, IsErrAnd, ◌==◌}
-use Rattle.std.specs.List.{list_any}
-use Rattle.std.proofs.lemmas.Bool.Decides.{nat_tests}
-use Rattle.std.proofs.lemmas.List.{drop_all, drop_more, get_or-map}
-use Rattle.std.proofs.lemmas.List.Elements.{All-append, All-cons}
-use Rattle.std.specs.String.{string_bytes}
+use Rattle.std.proofs.lemmas.{Bool.Decides.nat_tests, List.{drop_all, drop_more, get_or-map}}
+use Rattle.std.{proofs.lemmas.List.Elements.{All-append, All-cons}, specs.List.list_any}
+use Rattle.std.specs.{Prelude.{All, Contains, IsErrAnd, ◌==◌}, String.string_bytes, declared.alloc.Global.Global}
 use Rattle.std.specs.declared.string.String.{String}
-use Rattle.std.specs.declared.alloc.Global.{Global}
-use Rattle.olap_base.specs.Graph.{Graph, IsCategory}
+use Rattle.olap_base.{proofs.ListLemmas.{Distinct, list_any_is}, specs.Graph.{Graph, IsCategory}}
 use Rattle.olap_base.specs.declared.ids.CatId.{CatId}
-use Rattle.olap_base.proofs.ListLemmas.{Distinct, list_any_is}
-use Rattle.olap_ast.proofs.Shape.{Distinct-push}
-use Rattle.olap_order.specs.Judged.{Replies}
-use Rattle.olap_order.specs.Order.{Order, Done, and_then}
-use Rattle.olap_order.specs.Behind.{another_category, categories_from}
-use Rattle.olap_order.specs.Taken.{NoAnswer, PlainStep}
-use Rattle.olap_order.specs.Words.{texts}
-use Rattle.olap_ast.specs.Trees.{numbers_of}
-use Rattle.olap_order.proofs.Stepping.{ends_both}
+use Rattle.olap_ast.{proofs.Shape.Distinct-push, specs.Trees.numbers_of}
+use Rattle.olap_order.{proofs.Stepping.ends_both, specs.Behind.{another_category, categories_from}}
+use Rattle.olap_order.specs.{Judged.Replies, Order.{Order, Done, and_then}, Taken.{NoAnswer, PlainStep}, Words.texts}
 use Rattle.olap_order.specs.declared.replies.Stop.{Stop}
 
 -- what is found among numbered things is found among their numbers

@@ -1,17 +1,12 @@
 -- Steps of an order, one after another.
 use Rattle.std.proofs.Common.{◌≡◌, ◌≤◌, ℕ, List, Option, None, Some, Result, Ok, Err, MatchOption, subst, sym, refl, inl, inr, arith, ◌∙◌}
-use Rattle.std.specs.Prelude.{IsTrue}
-use Rattle.std.specs.Result.{IsErrAnd}
-use Rattle.olap_outside.specs.Faults.{Rose}
-use Rattle.olap_outside.specs.Files.{Files}
-use Rattle.olap_outside.specs.declared.outside.Library.{Ghosts as Library}
-use Rattle.olap_order.specs.Order.{Order, Done, Told, Read, ComesTo, ReadsNoFile, and_then}
+use Rattle.std.specs.{Prelude.IsTrue, Result.IsErrAnd}
+use Rattle.olap_outside.specs.{Faults.Rose, Files.Files, declared.outside.Library.{Ghosts as Library}}
 use Rattle.olap_order.specs.Judged.{Gives, GivesTold, IsBlamed, IsLater, Judged, Replied, Replies}
+use Rattle.olap_order.specs.Order.{Order, Done, Told, Read, ComesTo, ReadsNoFile, and_then}
 use Rattle.olap_order.specs.Taken.{ComesOut, ComesOutTold, IsStuckTold, NoAnswer, FileStep, PlainStep}
-use Rattle.olap_order.specs.declared.status.Status.{Status}
+use Rattle.olap_order.specs.declared.{replies.Reply.Reply, replies.Stop.Stop, status.Status.Status}
 use Rattle.olap_order.specs.declared.status.Status.TheVariants as statuses
-use Rattle.olap_order.specs.declared.replies.Reply.{Reply}
-use Rattle.olap_order.specs.declared.replies.Stop.{Stop}
 use Rattle.olap_order.specs.declared.replies.Stop.TheVariants as stops
 
 -- what follows from what is so of a reply is so of it

@@ -1,11 +1,9 @@
 -- More bytes are taken off the front of what is left.
 use Rattle.std.proofs.Common.{◌≡◌, ◌≤◌, ◌+◌, ◌-◌, ◌∷◌, ◌++◌, ◌∙◌, ℕ, zero, suc, List, [], Option, None, Some, length, take, drop, refl, ap, arith, sym, append_assoc, length-drop}
-use borrow.Rule.Slice.PartMut.{post_of, put_mid}
-use Rattle.std.proofs.Math.Seq.{take-append-add}
-use Rattle.std.proofs.lemmas.List.{length-take-le}
+use Rattle.std.{proofs.Math.Seq.take-append-add, proofs.lemmas.List.length-take-le, specs.Io.KnownBytes.Consumes}
 use Rattle.olap_base.proofs.ListLemmas.{rest_is}
-use Rattle.std.specs.Io.KnownBytes.{Consumes}
 use Rattle.olap_outside.specs.Files.{Takes}
+use borrow.Rule.Slice.PartMut.{post_of, put_mid}
 
 -- after one more read its bytes were taken too
 pub consumes-more : (o m n : Option (List ℕ)) (xs bytes : List ℕ) (room : ℕ) → Consumes o m xs → Takes m n bytes room

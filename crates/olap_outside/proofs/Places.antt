@@ -1,8 +1,7 @@
 -- Files by name, and what is left of one.
 use Rattle.std.proofs.Common.{◌≡◌, ℕ, ◌+◌, ◌-◌, ◌<◌, ◌≤◌, min, subst, List, [], ◌++◌, length, get_or, take, drop, Some, sym, ◌∙◌, ap, arith, drop-cons, length-take, length-drop, length-append}
+use Rattle.std.proofs.{Math.Seq.take-append_seam, lemmas.List.{get_or_read, take-append-drop, drop-drop, drop_all}}
 use Rattle.std.specs.Cmp.Lexicographic.{nat_list_eq_equiv}
-use Rattle.std.proofs.lemmas.List.{get_or_read, take-append-drop, drop-drop, drop_all}
-use Rattle.std.proofs.Math.Seq.{take-append_seam}
 use Rattle.olap_outside.specs.Files.{content_of, file_at, IsPlace, Takes}
 
 -- a file with the name at i, where no file before it has it

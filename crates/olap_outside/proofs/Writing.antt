@@ -1,8 +1,6 @@
 -- Bytes that are written piece by piece.
-use Rattle.std.specs.Prelude.{Bool, IsTrue}
 use Rattle.std.proofs.Common.{subst, ℕ, ◌+◌, ◌-◌, List, [], ◌++◌, length, take, drop, Option, None, Some, sym, ◌∙◌, ap, arith, append_assoc, append-nil}
-use Rattle.std.proofs.Math.Seq.{take-add}
-use Rattle.std.specs.Io.KnownBytes.{Appends}
+use Rattle.std.{proofs.Math.Seq.take-add, specs.Io.KnownBytes.Appends, specs.Prelude.{Bool, IsTrue}}
 use Rattle.olap_base.proofs.ListLemmas.{rest_is}
 
 -- with nothing written, nothing is appended

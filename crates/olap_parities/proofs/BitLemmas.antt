@@ -1,9 +1,8 @@
 -- One bit of a word, and the bits of two words that are added bit by bit.
 use Rattle.std.proofs.Common.{◌≡◌, ℕ, zero, suc, ◌+◌, ◌%◌, ◌^◌, ◌<◌, Bool, false, inl, inr, eqb, refl, ap, sym, ◌∙◌, arith}
-use Rattle.std.specs.Int.{bit_at}
-use Rattle.std.specs.Prelude.{bit_xor}
 use Rattle.std.proofs.lemmas.Bool.{cases_eq, eq-eqb, ne_eqb}
 use Rattle.std.proofs.lemmas.Nat.Bits.{bit_at_xor, bit_at-lt, bit_at-zero, bit_at-pow_same, bit_at-pow_other}
+use Rattle.std.specs.{Int.bit_at, Prelude.bit_xor}
 use Rattle.olap_parities.specs.Sums.{xor}
 
 -- the bit at this place is 1

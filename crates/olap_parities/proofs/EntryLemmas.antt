@@ -1,19 +1,11 @@
 -- Literals of clauses in sets: where the clauses are more than the sets, one of them isn't true.
 use Rattle.std.proofs.Common.{◌≡◌, ℕ, zero, suc, ◌<◌, ◌≤◌, Bool, inl, inr, eqb, List, [], ◌∷◌, ◌++◌, length, get_or, take, refl, ap, sym, ◌∙◌, subst, arith, length-append, Option}
-use Rattle.std.specs.Prelude.{All, Contains}
-use Rattle.std.specs.List.{IsDistinct}
-use Rattle.std.proofs.lemmas.Bool.{cases_eq, eqb-true, ne_eqb}
-use Rattle.std.proofs.lemmas.List.{get_or_append_left, get_or_default, take_all}
-use Rattle.std.proofs.lemmas.List.Elements.{All-contains, All-weaker}
-use Rattle.std.proofs.lemmas.Map.Keys.{IsDistinct-from_apart}
-use Rattle.std.proofs.lemmas.Map.Steps.{length-le_from_distinct_below}
-use Rattle.std.proofs.lemmas.Map.Views.{Contains-from_any}
-use Rattle.std.proofs.Math.Seq.{get_or-append_seam}
-use Rattle.olap_pool.specs.declared.literals.Lit.{Lit}
-use Rattle.olap_pool.specs.Literals.{Holds, Satisfies}
-use Rattle.olap_parities.specs.declared.entries.Entry.{Entry}
-use Rattle.olap_parities.specs.Known.{Knows}
-use Rattle.olap_parities.specs.Entries.{Covers, IsApart, IsAlone, AreAlone}
+use Rattle.std.proofs.{Math.Seq.get_or-append_seam, lemmas.Bool.{cases_eq, eqb-true, ne_eqb}}
+use Rattle.std.proofs.lemmas.List.{get_or_append_left, get_or_default, take_all, Elements.{All-contains, All-weaker}}
+use Rattle.std.proofs.lemmas.Map.{Keys.IsDistinct-from_apart, Steps.length-le_from_distinct_below}
+use Rattle.std.{proofs.lemmas.Map.Views.Contains-from_any, specs.List.IsDistinct, specs.Prelude.{All, Contains}}
+use Rattle.olap_pool.specs.{Literals.{Holds, Satisfies}, declared.literals.Lit.Lit}
+use Rattle.olap_parities.specs.{Entries.{Covers, IsApart, IsAlone, AreAlone}, Known.Knows, declared.entries.Entry.Entry}
 
 -- a literal that is true covers its row
 abbrev pub IsEntered : List (Option Bool) → List Entry → ℕ → Lit → Type 0

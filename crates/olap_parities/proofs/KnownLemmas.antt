@@ -1,11 +1,8 @@
 -- What is known of variables, and of the literals of a clause.
 use Rattle.std.proofs.Common.{◌≡◌, ℕ, ◌<◌, ◌≤◌, ◌⊎◌, inl, inr, Bool, List, length, get_or, take, sym, subst, arith, Option, None}
+use Rattle.std.proofs.lemmas.{Bool.cases_lt, List.{get_or_past, take_all}, List.Elements.All-contains}
 use Rattle.std.specs.Prelude.{All}
-use Rattle.std.proofs.lemmas.Bool.{cases_lt}
-use Rattle.std.proofs.lemmas.List.{get_or_past, take_all}
-use Rattle.std.proofs.lemmas.List.Elements.{All-contains}
-use Rattle.olap_pool.specs.declared.literals.Lit.{Lit}
-use Rattle.olap_pool.specs.Literals.{Holds, Satisfies}
+use Rattle.olap_pool.specs.{Literals.{Holds, Satisfies}, declared.literals.Lit.Lit}
 use Rattle.olap_parities.specs.Known.{Fits, Knows}
 
 -- who is as the table says makes the literal false

@@ -1,7 +1,6 @@
 -- What a row says of the one variable or the two that it has.
 use Rattle.std.proofs.Common.{◌≡◌, ℕ, Bool, true, false, not, [], ◌∷◌, refl, ap, sym, ◌∙◌, subst, arith}
-use Rattle.olap_pool.specs.declared.literals.Lit.{Lit}
-use Rattle.olap_pool.specs.Literals.{Holds, Satisfies, negation}
+use Rattle.olap_pool.specs.{Literals.{Holds, Satisfies, negation}, declared.literals.Lit.Lit}
 use Rattle.olap_parities.specs.Sums.{xor}
 
 -- what is left of a sum after what is true and two parts were taken out is nothing

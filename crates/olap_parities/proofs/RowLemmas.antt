@@ -1,13 +1,11 @@
 -- Rows that are empty, flipped at a column, or added.
 use Rattle.std.proofs.Common.{◌≡◌, ℕ, ◌+◌, ◌*◌, ◌/◌, ◌%◌, ◌^◌, ◌<◌, ◌≤◌, Bool, false, inl, inr, eqb, List, length, get_or, set, replicate, refl, ap, sym, ◌∙◌, subst, arith}
-use Rattle.std.proofs.Math.Path.{ap₂}
-use Rattle.std.specs.Prelude.{bit_xor}
-use Rattle.std.proofs.lemmas.Bool.{cases_eq, cases_lt, eq-eqb, ne_eqb}
+use Rattle.std.proofs.{Math.Path.ap₂, lemmas.Bool.{cases_eq, cases_lt, eq-eqb, ne_eqb}}
 use Rattle.std.proofs.lemmas.List.{get_or_past, get_or-set_same, get_or-set_other, length-set, get_or-replicate, length-replicate}
-use Rattle.std.proofs.lemmas.Nat.{one_shl}
-use Rattle.olap_parities.specs.Sums.{xor, is_bit_one, sum_below, sum_of}
+use Rattle.std.{proofs.lemmas.Nat.one_shl, specs.Prelude.bit_xor}
 use Rattle.olap_parities.proofs.BitLemmas.{is_one, is_one-xor, is_one-zero, is_one-pow}
 use Rattle.olap_parities.proofs.SumLemmas.{sum-same, sum-none, sum-xor, sum-one, xor-false}
+use Rattle.olap_parities.specs.Sums.{xor, is_bit_one, sum_below, sum_of}
 
 -- the first k words are those of a and b added, and the others are a's
 pub record IsAdded (a b words : List ℕ) (k : ℕ) : Type 0 where

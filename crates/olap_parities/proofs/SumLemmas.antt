@@ -1,7 +1,6 @@
 -- Sums modulo 2.
 use Rattle.std.proofs.Common.{◌≡◌, ℕ, zero, suc, ◌<◌, ◌≤◌, Bool, true, false, ◌&&◌, inl, inr, eqb, refl, ap, sym, ◌∙◌, arith}
-use Rattle.std.proofs.Math.Path.{ap₂}
-use Rattle.std.proofs.lemmas.Bool.{cases_eq, eq-eqb, ne_eqb}
+use Rattle.std.proofs.{Math.Path.ap₂, lemmas.Bool.{cases_eq, eq-eqb, ne_eqb}}
 use Rattle.olap_parities.specs.Sums.{xor, sum_below}
 
 -- nothing is added

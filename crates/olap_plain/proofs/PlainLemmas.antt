@@ -1,28 +1,18 @@
 -- What one more fact and one more member change.
 use Rattle.std.proofs.Common.{◌≡◌, ℕ, suc, ◌<◌, List, [], ◌∷◌, length, map, get_or, Bool, true, false, eqb, refl, ap, sym, subst, ◌∙◌, ◌↔◌, ◌⊎◌, arith}
-use Rattle.std.specs.Prelude.{Contains, IsTrue}
-use Rattle.std.specs.Bool.{Decides}
-use Rattle.std.specs.List.{IsAnyAnswer}
-use Rattle.std.proofs.lemmas.List.{get_or-map}
-use Rattle.std.proofs.lemmas.List.Elements.{contains_decides, Decides-contains, filter_map-append}
 use Rattle.std.proofs.lemmas.Bool.Decides.{nat_tests, Decides-eqb}
+use Rattle.std.proofs.lemmas.List.{get_or-map, map-append, take_more, append-nil}
+use Rattle.std.proofs.lemmas.List.Elements.{contains_decides, Decides-contains, filter_map-append, filter-append}
+use Rattle.std.specs.{Bool.{Decides, one_answer}, List.{IsAnyAnswer, range_with_len}}
+use Rattle.std.specs.Prelude.{Contains, IsTrue, ℤ, filter, ◌++◌, Option, Some, None, ◌+◌, ◌≤◌, cond, take, IfSome, filter_map, ◌==◌}
+use Rattle.olap_base.proofs.{ListLemmas.range_more, TotalLemmas.total_push}
 use Rattle.olap_base.specs.Deciding.{Through, Steps-from_through, through_from_Steps, below_is_member}
-use Rattle.olap_base.specs.Steps.{Steps-from_reaches, reaches_from_Steps}
 use Rattle.olap_base.specs.Instance.{Instance, nobody, IsBelow, Reaches, parents_of, category_of}
-use Rattle.std.specs.Prelude.{ℤ, filter, ◌++◌, Option, Some, None, ◌+◌, ◌≤◌, cond, take, IfSome, filter_map, ◌==◌}
-use Rattle.std.specs.List.{range_with_len}
-use Rattle.std.specs.Bool.{one_answer}
-use Rattle.std.proofs.lemmas.List.{take_more, append-nil}
-use Rattle.std.proofs.lemmas.List.Elements.{filter-append}
-use Rattle.olap_base.specs.Reaching.{reaches, reaches_is}
+use Rattle.olap_base.specs.{Reaching.{reaches, reaches_is}, Steps.{Steps-from_reaches, reaches_from_Steps}}
 use Rattle.olap_base.specs.Summaries.{Summary, of_value, total, ◌⊕◌}
 use Rattle.olap_base.specs.Views.{Fact, Row, members, row_at, total_of_facts, values_at}
-use Rattle.olap_base.proofs.TotalLemmas.{total_push}
-use Rattle.olap_plain.specs.declared.viewing.PlainFact.{PlainFact}
 use Rattle.olap_plain.specs.Plain.{instance_of, member_of, fact_of, facts_of, extended, row_of, as_row, IsBounded}
-use Rattle.olap_plain.specs.declared.viewing.PlainRow.{PlainRow}
-use Rattle.olap_plain.specs.declared.viewing.PlainMember.{PlainMember}
-use Rattle.olap_base.proofs.ListLemmas.{range_more}
+use Rattle.olap_plain.specs.declared.viewing.{PlainFact.PlainFact, PlainMember.PlainMember, PlainRow.PlainRow}
 
 -- the test of a member's list of parents
 pub below_is : (ms : List PlainMember) (x y : ℕ) (m : PlainMember) (ps : List ℕ) (r : Bool) → x < length ms
@@ -65,11 +55,6 @@ reaches_by_through i n x y r e d = (
 -- the row of y with these values, if there are any
 abbrev value_row : ℕ → List ℤ → Option (Row ℕ)
 value_row y vs = row_at y (total (map of_value vs))
-
--- a map over two lists
-map-append : {A B : Type 0} (f : A → B) (xs ys : List A) → map f (xs ++ ys) ≡ map f xs ++ map f ys
-map-append f [] ys = refl
-map-append f (x ∷ xs) ys = ap (λ t. f x ∷ t) (map-append f xs ys)
 
 -- one value more extends the row
 direct_row_push : (y : ℕ) (vs : List ℤ) (v : ℤ) → value_row y (vs ++ v ∷ []) ≡ Some (extended y (value_row y vs) v)
@@ -115,9 +100,22 @@ row_step i facts k y d h = ap (λ fs. row_at y (total_of_facts (members i) (fact
     go true = direct_row_push y (values_at (members i) (facts_of (take k facts)) y) (get_or facts k d).value
     go false = ap (value_row y) (append-nil (values_at (members i) (facts_of (take k facts)) y))
 
--- a test by its answer
-pub test_of : (i : Instance) (x y : ℕ) (r b : Bool) → IsTrue r ↔ Reaches i x y → r ≡ b → reaches i x y ≡ b
-test_of i x y r b d e = one_answer (reaches i x y) r (reaches_is i x y) d ∙ e
+-- a row that was right is right after one more fact
+pub row_more : (i : Instance) (facts : List PlainFact) (k y : ℕ) (d : PlainFact) (old new : Option PlainRow)
+    (r b : Bool) → k < length facts → IsTrue r ↔ Reaches i (get_or facts k d).member y → r ≡ b
+    → as_row old ≡ row_at y (total_of_facts (members i) (facts_of (take k facts)) y)
+    → as_row new ≡ row_after y b (as_row old) (get_or facts k d).value
+    → as_row new ≡ row_at y (total_of_facts (members i) (facts_of (take (k + 1) facts)) y)
+row_more i facts k y d old new r b h t e so w =
+    let x = (get_or facts k d).member in
+    let reach : reaches i x y ≡ b = one_answer (reaches i x y) r (reaches_is i x y) t ∙ e in
+    w ∙ sym (row_step i facts k y d h ∙ rw (reach, so) refl)
+
+-- a bound that grows
+pub bound_more : (o : Option PlainRow) (n : ℕ) → IfSome o (λ q. (q.count ≤ n) × IsBounded q.sum q.count)
+    → IfSome o (λ q. (q.count ≤ n + 1) × IsBounded q.sum q.count)
+bound_more None n h = h
+bound_more (Some q) n h = (omega (arith, h.0), h.1)
 
 -- one value more raises the count by one
 pub count_step : (y : ℕ) (o : Option PlainRow) (v : ℤ) (r : PlainRow) (n : ℕ)
@@ -152,18 +150,16 @@ rows_step h p y b o rows e t q =
     go true None t q = rw (t, ← q) (sym (append-nil rows))
     go true (Some r) t q = rw (t, ← q) refl
 
--- the category of a plain member
-pub category_is : (ms : List PlainMember) (y : ℕ) (d : PlainMember) → y < length ms
-    → category_of (instance_of ms) y ≡ (get_or ms y d).category
-category_is ms y d h = ap (λ k. k.category) (get_or-map member_of ms y d nobody h)
+-- the test of a plain member's category, where it is that one and where it isn't
+module _ (ms : List PlainMember) (y c : ℕ) (d : PlainMember) (h : y < length ms) where
+  category_is : category_of (instance_of ms) y ≡ (get_or ms y d).category
+  category_is = ap (λ k. k.category) (get_or-map member_of ms y d nobody h)
 
--- a test of numbers that are equal
-pub passes : (a b c : ℕ) → a ≡ b → b ≡ c → (a == c) ≡ true
-passes a b c e f = grind (arith, nat_tests)
+  pub passes : (get_or ms y d).category ≡ c → (category_of (instance_of ms) y == c) ≡ true
+  passes f = let e = category_is in grind (arith, nat_tests)
 
--- a test of numbers that aren't
-pub fails : (a b c : ℕ) → a ≡ b → (b ≡ c → ⊥) → (a == c) ≡ false
-fails a b c e f = grind (arith, nat_tests)
+  pub fails : ((get_or ms y d).category ≡ c → ⊥) → (category_of (instance_of ms) y == c) ≡ false
+  fails f = let e = category_is in grind (arith, nat_tests)
 
 -- no plain row is no row
 pub none_of : (o : Option PlainRow) → ((r : PlainRow) → o ≡ Some r → ⊥) → as_row o ≡ None

@@ -1,19 +1,13 @@
 -- Each question that an order of this family comes to is about a valid schema, or a size that may be asked for.
 use Rattle.std.proofs.Common.{◌≡◌, ℕ, List, Bool, true, false, cond, Option, None, Some, refl, subst, arith}
 use Rattle.std.proofs.lemmas.Bool.Decides.{nat_tests}
-use Rattle.std.specs.Prelude.{◌≤◌, ◌&&◌, codes, if◌then◌else◌, nat_le, option_and_then}
-use Rattle.std.specs.Str.{bytes_eq}
-use Rattle.olap_base.specs.Limits.{most_generated}
-use Rattle.olap_base.proofs.ListLemmas.{first_true, second_true}
-use Rattle.olap_order.specs.Arguments.{exactly, word}
-use Rattle.olap_order.specs.Order.{Done, and_then}
-use Rattle.olap_order.specs.Steps.{category_word, fault_text, number_word}
+use Rattle.std.specs.{Prelude.{◌≤◌, ◌&&◌, codes, if◌then◌else◌, nat_le, option_and_then}, Str.bytes_eq}
+use Rattle.olap_base.{proofs.ListLemmas.{first_true, second_true}, specs.Limits.most_generated}
 use Rattle.olap_order.proofs.Coming.{Comes, MayCome, asked, may_either, may_exactly, no_order, pass, then_comes, there}
-use Rattle.olap_order.proofs.ComingSteps.{under_schema}
-use Rattle.olap_plans.specs.Commands.{answer_order, generate_order, order_named}
-use Rattle.olap_plans.specs.Existing.{IsAsked}
-use Rattle.olap_plans.specs.Numbers.{number_of, size_of}
-use Rattle.olap_plans.specs.Questions.{ByGenerated, ByPlan}
+use Rattle.olap_order.{proofs.ComingSteps.under_schema, specs.Arguments.{exactly, word}, specs.Order.{Done, and_then}}
+use Rattle.olap_order.specs.Steps.{category_word, fault_text, number_word}
+use Rattle.olap_plans.specs.{Commands.{answer_order, generate_order, order_named}, Existing.IsAsked}
+use Rattle.olap_plans.specs.{Numbers.{number_of, size_of}, Questions.{ByGenerated, ByPlan}}
 use Rattle.olap_plans.specs.Under.{answer_of, answer_under}
 use Rattle.olap_reading.specs.Steps.{legal_file, store_file}
 use Rattle.olap_schema_text.specs.Laws.{ReadSchemasAreReadable}

@@ -1,9 +1,7 @@
 -- Of the masks below a bound that have a property that can be decided, one is the cheapest, or none has it.
-use Rattle.std.proofs.Common.{ℕ, zero, suc, ◌<◌, ◌≤◌, List, refl, sym, subst, inl, inr, arith}
-use Rattle.std.specs.Prelude.{◌⊎◌}
-use Rattle.olap_base.specs.Views.{View}
+use Rattle.std.{proofs.Common.{ℕ, zero, suc, ◌<◌, ◌≤◌, List, refl, sym, subst, inl, inr, arith}, specs.Prelude.◌⊎◌}
+use Rattle.olap_base.{proofs.GeneralLemmas.{at_most_or_greater, same_or_below_suc, less_or_equal}, specs.Views.View}
 use Rattle.olap_nav.specs.Plans.{IsNoDearer, rows_in}
-use Rattle.olap_base.proofs.GeneralLemmas.{at_most_or_greater, same_or_below_suc, less_or_equal}
 
 -- m is the cheapest mask below n that has the property
 pub record IsCheapest (views : List (View ℕ ℕ)) (P : ℕ → Type 0) (n m : ℕ) : Type 0 where

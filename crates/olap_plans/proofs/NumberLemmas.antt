@@ -1,9 +1,7 @@
 -- The number that std's parse gives of a word is the one that the word spells.
 use Rattle.std.proofs.Common.{◌≡◌, ◌==◌, ◌^◌, ◌&&◌, ◌∙◌, ℕ, Bool, true, false, List, Result, Some, None, if◌then◌else◌, ap, sym, length, nat_le, nat_lt, slice_index}
-use Rattle.std.specs.Result.{result_ok}
-use Rattle.std.specs.Str.Parse.{ParsesUnsigned, digits_value}
-use Rattle.olap_numerals.specs.Values.{is_numeral}
-use Rattle.olap_numerals.proofs.Spelling.{ok-where}
+use Rattle.std.specs.{Result.result_ok, Str.Parse.{ParsesUnsigned, digits_value}}
+use Rattle.olap_numerals.{proofs.Spelling.ok-where, specs.Values.is_numeral}
 use Rattle.olap_plans.specs.Numbers.{number_of}
 use Rattle.olap_view.proofs.StoredNumbersLemmas.{without-plus, digits-decides}
 

@@ -1,25 +1,19 @@
 -- There is one answer at most to a question that a plan answers.
 use Rattle.std.proofs.Common.{◌≡◌, ℕ, List, ◌++◌, ap, sym, subst, ◌∙◌, inl, inr, arith}
 use Rattle.std.specs.Prelude.{Ok, Result, Err}
-use Rattle.olap_base.specs.Instance.{Instance}
-use Rattle.olap_base.specs.Limits.{most_facts}
-use Rattle.olap_base.specs.Views.{View, members, rows_from_views}
+use Rattle.olap_base.specs.{Instance.Instance, Limits.most_facts, Views.{View, members, rows_from_views}}
 use Rattle.olap_ast.specs.Schema.{Schema}
 use Rattle.olap_facts.specs.FactMeaning.{facts_meant}
 use Rattle.olap_generate.specs.Generated.{ShowsGenerated, generated_text, stored_views}
-use Rattle.olap_generate.specs.Location.{location_text, region}
-use Rattle.olap_generate.specs.Members.{fact_rows, member_rows}
+use Rattle.olap_generate.specs.{Location.{location_text, region}, Members.{fact_rows, member_rows}}
 use Rattle.olap_instance.specs.InstanceMeaning.{instance_meant}
+use Rattle.olap_nav.{proofs.ChosenLemmas.chosen_direct, specs.PlanText.plan_text}
 use Rattle.olap_nav.specs.Plans.{IsPlan, IsNoDearer, sources_in}
-use Rattle.olap_nav.specs.PlanText.{plan_text}
-use Rattle.olap_nav.proofs.ChosenLemmas.{chosen_direct}
 use Rattle.olap_schema_text.specs.Judging.{schema_read}
-use Rattle.olap_view.specs.Stores.{chosen}
-use Rattle.olap_view.specs.ViewText.{view_text}
+use Rattle.olap_view.specs.{Stores.chosen, ViewText.view_text}
 use Rattle.olap_order.specs.declared.status.Status.{Status}
 use Rattle.olap_plans.specs.Laws.{AnswersAreOne, PlanIsOne, PlansGiveDirectViews}
-use Rattle.olap_plans.specs.Questions.{IsAnswer, Question, ByPlan, ByGenerated}
-use Rattle.olap_plans.specs.Shown.{ShowsPlan}
+use Rattle.olap_plans.specs.{Questions.{IsAnswer, Question, ByPlan, ByGenerated}, Shown.ShowsPlan}
 
 -- ---- plans
 

@@ -1,30 +1,20 @@
 -- Each question that a plan answers has an answer: a target has a plan, or no mask serves it.
-use Rattle.std.proofs.Common.{ℕ, ◌≤◌, ◌^◌, List, ◌++◌, length, refl, inl, inr}
-use Rattle.std.specs.Prelude.{◌⊎◌, codes}
-use native.Mathlib.Decide.{dec_lt}
-use Rattle.olap_base.specs.Deciding.{dec_and, dec_iff}
-use Rattle.olap_base.specs.Instance.{Instance}
-use Rattle.olap_base.specs.Limits.{most_generated}
+use Rattle.std.{proofs.Common.{ℕ, ◌≤◌, ◌^◌, List, ◌++◌, length, refl, inl, inr}, specs.Prelude.{◌⊎◌, codes}}
+use Rattle.olap_base.specs.{Deciding.{dec_and, dec_iff}, Instance.Instance, Limits.most_generated}
 use Rattle.olap_base.specs.Views.{Fact, View, members, rows_from_views}
-use Rattle.olap_ast.specs.Schema.{Schema}
-use Rattle.olap_ast.specs.Summarizable.{IsSummarizable, SummarizableExactlyIfNoneFrozen}
+use Rattle.olap_ast.specs.{Schema.Schema, Summarizable.{IsSummarizable, SummarizableExactlyIfNoneFrozen}}
 use Rattle.olap_ast.specs.Valid.{IsValidSchema}
 use Rattle.olap_exists.specs.Existing.{CounterexamplesExist}
-use Rattle.olap_generate.specs.Generated.{generated_text, stored_views}
-use Rattle.olap_generate.specs.Inputs.{AnInputIsMade, IsMade}
-use Rattle.olap_generate.specs.Location.{location_text, region}
-use Rattle.olap_generate.specs.Served.{RegionsAreServed}
-use Rattle.olap_nav.specs.PlanText.{plan_text}
-use Rattle.olap_nav.specs.Plans.{IsPlan, Serves, sources_in}
-use Rattle.olap_order.specs.Outputs.{refusal}
-use Rattle.olap_order.specs.declared.status.Status.{Status}
+use Rattle.olap_generate.specs.{Generated.{generated_text, stored_views}, Inputs.{AnInputIsMade, IsMade}}
+use Rattle.olap_generate.specs.{Location.{location_text, region}, Served.RegionsAreServed}
+use Rattle.olap_nav.specs.{PlanText.plan_text, Plans.{IsPlan, Serves, sources_in}}
+use Rattle.olap_order.specs.{Outputs.refusal, declared.status.Status.Status}
 use Rattle.olap_order.specs.declared.status.Status.TheVariants.{Yes, Refused}
-use Rattle.olap_plans.specs.Existing.{AnswersExist}
+use Rattle.olap_plans.{proofs.CheapestLemmas.find, specs.Existing.AnswersExist}
 use Rattle.olap_plans.specs.Questions.{ByGenerated, ByPlan, IsAnswer}
-use Rattle.olap_plans.proofs.CheapestLemmas.{find}
 use Rattle.olap_schema_text.specs.Laws.{ReadSchemasAreValid}
-use Rattle.olap_view.specs.Stores.{chosen}
-use Rattle.olap_view.specs.ViewText.{view_text}
+use Rattle.olap_view.specs.{Stores.chosen, ViewText.view_text}
+use native.Mathlib.Decide.{dec_lt}
 
 module _ (counterexamples : CounterexamplesExist) (summarizable : SummarizableExactlyIfNoneFrozen) where
   -- whether a target is summarizable

@@ -1,11 +1,7 @@
 -- A command isn't what is answered by the usage.
 use Rattle.std.proofs.Common.{ℕ, List, Option, None, Some}
-use Rattle.olap_order.specs.Families.{IsNoUsage}
-use Rattle.olap_order.specs.Order.{Done, and_then}
-use Rattle.olap_order.specs.Steps.{number_word}
-use Rattle.olap_plans.specs.Numbers.{number_of, size_of}
-use Rattle.olap_plans.specs.Questions.{ByGenerated}
-use Rattle.olap_plans.specs.Seen.{seen}
+use Rattle.olap_order.specs.{Families.IsNoUsage, Order.{Done, and_then}, Steps.number_word}
+use Rattle.olap_plans.specs.{Numbers.{number_of, size_of}, Questions.ByGenerated, Seen.seen}
 use Rattle.olap_plans.specs.declared.words.Command.{Command}
 use Rattle.olap_plans.specs.declared.words.Command.TheVariants as code
 

@@ -5,29 +5,24 @@
 --     cycle_none        the edges that were decided present hold no cycle
 --     shortcut_none     and no shortcut
 use Rattle.std.proofs.Common.{◌≡◌, ℕ, zero, suc, ◌<◌, List, [], ◌∷◌, length, get_or, Bool, true, false, cond, Option, Some, None, refl, ap, sym, subst, ◌∙◌}
+use Rattle.std.{proofs.lemmas.Bool.{eqb-true, eq-eqb}, specs.List.range_with_len}
 use Rattle.std.specs.Prelude.{Contains, ◌==◌, filter, option_map}
-use Rattle.std.specs.List.{range_with_len}
-use Rattle.olap_base.specs.Deciding.{contains_cons}
-use Rattle.olap_base.specs.Graph.{Edge, Graph, HasEdge, IsCategory, IsHierarchy}
-use Rattle.olap_base.specs.Instance.{Instance}
-use Rattle.olap_base.specs.Steps.{Steps, Steps.here, Steps.step}
 use Rattle.olap_base.proofs.ListLemmas.{Contains-filter, Contains-from_filter, Contains-from_map, Contains-map, Contains-range, contains_head}
+use Rattle.olap_base.{proofs.StepLemmas.wider_climb, specs.Deciding.contains_cons}
+use Rattle.olap_base.specs.{Graph.{Edge, Graph, HasEdge, IsCategory, IsHierarchy}, Instance.Instance}
+use Rattle.olap_base.specs.Steps.{Steps, Steps.here, Steps.step}
 use Rattle.olap_ast.specs.Formula.{Formula}
 use Rattle.olap_ast.specs.Frozen.{Candidates, Frozen, IsFrozen, chosen, instance_of, is_present, name_in}
 use Rattle.olap_ast.specs.Schema.{Schema}
-use Rattle.olap_eval.specs.Partial.{Agrees as Tells}
-use Rattle.olap_eval.specs.Shapes.{HasEdgeThere}
-use Rattle.olap_frozen.specs.Chosen.{IsChoice, IsMet, IsSound, Joins, place_of}
-use Rattle.olap_frozen.proofs.ChosenInstance as made
+use Rattle.olap_eval.specs.{Partial.{Agrees as Tells}, Shapes.HasEdgeThere}
 use Rattle.olap_frozen.proofs.ChosenLemmas.{bit_joins, choice_of, chosen_place, no_edge_joins, place_chosen}
+use Rattle.olap_frozen.specs.Chosen.{IsChoice, IsMet, IsSound, Joins, place_of}
 use Rattle.olap_graph.specs.Lookups.{edge_at, edge_between, edges_from}
 use Rattle.olap_names.specs.Names.{name_at}
 use Rattle.olap_trail.specs.Decisions.{Decided, Decision, HoldsCycle, HoldsShortcut, present_edges, present_graph, status_in, status_of}
-use Rattle.olap_proof.specs.Places.{Naming, index_of, name_of, possible_graph, truth_of_edge}
+use Rattle.olap_proof.specs.{Places.{Naming, index_of, name_of, possible_graph, truth_of_edge}, Seen.is_possible}
 use Rattle.olap_proof.specs.Within.{truth_of}
-use Rattle.olap_proof.specs.Seen.{is_possible}
-use Rattle.std.proofs.lemmas.Bool.{eqb-true, eq-eqb}
-use Rattle.olap_base.proofs.StepLemmas.{wider_climb}
+use Rattle.olap_frozen.proofs.ChosenInstance as made
 
 -- ---- what was decided
 

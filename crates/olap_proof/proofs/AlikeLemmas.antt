@@ -1,25 +1,20 @@
 -- What lines do is the same whichever candidates are taken.
 --     runs_alike      and lines do the same
 use Rattle.std.proofs.Common.{◌≡◌, ℕ, zero, suc, ◌+◌, List, [], ◌∷◌, length, map, Option, Some, None, refl, ap, sym, subst}
-use Rattle.std.specs.Prelude.{option_map}
-use Rattle.std.specs.List.{range_with_len}
-use Rattle.std.specs.Str.{bytes_eq}
+use Rattle.std.specs.{List.range_with_len, Prelude.option_map, Str.bytes_eq}
 use Rattle.olap_base.specs.Graph.{IsDeclared}
-use Rattle.olap_ast.specs.Formula.{Formula}
-use Rattle.olap_ast.specs.Frozen.{AreCandidates, Candidates, text_of_index}
-use Rattle.olap_ast.specs.Schema.{Constraint, Schema}
+use Rattle.olap_ast.{proofs.Determined.{same_first, same_texts}, specs.Formula.Formula}
+use Rattle.olap_ast.specs.{Frozen.{AreCandidates, Candidates, text_of_index}, Schema.{Constraint, Schema}}
 use Rattle.olap_ast.specs.declared.three_values.Truth3.TheVariants.{No}
-use Rattle.olap_ast.proofs.Determined.{same_first, same_texts}
 use Rattle.olap_eval.specs.Partial.{value_at}
 use Rattle.olap_graph.specs.Lookups.{edge_between}
 use Rattle.olap_names.specs.Names.{name_at}
 use Rattle.olap_numerals.specs.Comparing.{is_numbered}
-use Rattle.olap_proof.specs.declared.forms.Form.{Form}
-use Rattle.olap_proof.specs.Places.{Naming, Place, index_of, knowledge, name_of, truth_of_edge, truth_of_name, truth_of_reach}
-use Rattle.olap_proof.specs.Lines.{Line, Line.Asked, Line.Clash, Line.Cycle, Line.Dead, Line.EdgeOrNot, Line.Loose, Line.NameOf, Line.Shortcut, Line.Unmet, Line.Unreached, Line.WayOrNot, line_text}
-use Rattle.olap_proof.specs.Closing.{Closes, IsUnmetAt}
-use Rattle.olap_proof.specs.Certificates.{IsFirstWrong, Open, Open.At, Runs, Runs.more, Runs.none, Steps, Steps.begins, Steps.closes, Steps.edges, Steps.names, Steps.roots, Steps.ways, with_name}
 use Rattle.olap_proof.proofs.ReasonLemmas.{about_of, closes_of, closing}
+use Rattle.olap_proof.specs.Certificates.{IsFirstWrong, Open, Open.At, Runs, Runs.more, Runs.none, Steps, Steps.begins, Steps.closes, Steps.edges, Steps.names, Steps.roots, Steps.ways, with_name}
+use Rattle.olap_proof.specs.{Closing.{Closes, IsUnmetAt}, Lines.{Line, Line.Asked, Line.NameOf, Line.Unmet, line_text}}
+use Rattle.olap_proof.specs.Places.{Naming, Place, index_of, knowledge, name_of, truth_of_edge, truth_of_name, truth_of_reach}
+use Rattle.olap_proof.specs.declared.forms.Form.{Form}
 
 -- the same names, and as many of each category
 pub record Alike (k h : Candidates) : Type 0 where
@@ -68,17 +63,9 @@ module _ (f : Form) (k h : Candidates) (a : Alike k h) where
   unmet_alike p (c ∷ cs) (suc n) m = unmet_alike p cs n m
 
   closes_alike : (s : Schema) (q : Formula) (p : Place) (l : Line) → Closes f s q k p l → Closes f s q h p l
-  closes_alike s q p (EdgeOrNot e) m = m
-  closes_alike s q p (NameOf c) m = m
-  closes_alike s q p (WayOrNot x y) m = m
-  closes_alike s q p (Dead c) m = m
-  closes_alike s q p Cycle m = m
-  closes_alike s q p Shortcut m = m
-  closes_alike s q p (Loose e) m = m
-  closes_alike s q p (Unreached c) m = m
-  closes_alike s q p (Clash x y) m = m
   closes_alike s q p (Unmet n) m = unmet_alike p s.constraints n m
   closes_alike s q p Asked m = subst (λ t. value_at t p.decided.root q ≡ No) (known_alike p) m
+  closes_alike s q p l m = m
 
   -- ---- what lines do
 

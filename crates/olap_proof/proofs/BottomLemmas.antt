@@ -1,22 +1,14 @@
 -- The bottom categories one after another, with their trees, are a certificate.
 use Rattle.std.proofs.Common.{◌≡◌, ℕ, ◌+◌, ◌-◌, ◌<◌, ◌≤◌, List, [], ◌∷◌, ◌++◌, length, map, Bool, true, false, cond, ap, sym, subst, ◌∙◌, arith}
-use Rattle.std.specs.Prelude.{◌==◌, filter, not}
-use Rattle.std.specs.List.{list_any, range_with_len}
-use Rattle.std.proofs.lemmas.List.{append-nil, map-append, map-id}
-use Rattle.std.proofs.lemmas.List.Elements.{filter-append}
-use Rattle.std.proofs.lemmas.List.FromFn.{map-range_with_len_more}
+use Rattle.std.proofs.lemmas.{Bool.false_from_ne_true, List.{append-nil, map-append, map-id}}
+use Rattle.std.proofs.lemmas.List.{Elements.filter-append, FromFn.map-range_with_len_more}
+use Rattle.std.specs.{List.{list_any, range_with_len}, Prelude.{◌==◌, filter, not}}
 use Rattle.olap_base.proofs.ListLemmas.{Contains-filter, Contains-from_filter, Contains-range_at}
 use Rattle.olap_base.specs.Graph.{Edge, Graph, IsBottom, IsDeclared, category_count}
-use Rattle.olap_ast.specs.Formula.{Formula}
-use Rattle.olap_ast.specs.Frozen.{Candidates}
-use Rattle.olap_ast.specs.Schema.{Schema}
-use Rattle.olap_proof.specs.declared.forms.Form.{Form}
+use Rattle.olap_ast.specs.{Formula.Formula, Frozen.Candidates, Schema.Schema}
+use Rattle.olap_proof.proofs.{CertificateLemmas.bottom_listed, PlainTreeLemmas.listed_bottom, TreeTextLemmas.adds_more}
 use Rattle.olap_proof.specs.Certificates.{IsCertificateText, Open.Bottom, Runs, Runs.more, Runs.none, Steps.begins, bottoms_of, head_text, lines_text}
-use Rattle.olap_proof.specs.Trees.{Adds}
-use Rattle.olap_proof.proofs.CertificateLemmas.{bottom_listed}
-use Rattle.olap_proof.proofs.PlainTreeLemmas.{listed_bottom}
-use Rattle.olap_proof.proofs.TreeTextLemmas.{adds_more}
-use Rattle.std.proofs.lemmas.Bool.{false_from_ne_true}
+use Rattle.olap_proof.specs.{Trees.Adds, declared.forms.Form.Form}
 
 -- no edge leads to it
 abbrev pub has_no_child : Graph → ℕ → Bool

@@ -1,14 +1,11 @@
 -- Branches of a tree, by their last choice.
 use Rattle.std.proofs.Common.{◌≡◌, ◌-◌, ◌++◌, List, [], ◌∷◌, length, take, true, refl, ap, sym, subst, ◌∙◌, arith}
-use Rattle.std.proofs.lemmas.List.{length-append}
-use Rattle.std.proofs.Math.Seq.{take-append_seam}
+use Rattle.std.proofs.{Math.Seq.take-append_seam, lemmas.List.length-append}
 use Rattle.olap_base.specs.Graph.{Graph, IsCategory, category_count}
 use Rattle.olap_names.specs.Names.{Named}
-use Rattle.olap_proof.specs.declared.branches.Choice.{Choice}
-use Rattle.olap_proof.specs.declared.branches.Choice.TheVariants.{Edge, Name, Way}
 use Rattle.olap_proof.specs.Branches.{AreLegal, GoesOn, IsBranch, IsLegal, IsNamed, first_of, left_open, siblings, with_choice, with_choices}
-use Rattle.olap_proof.specs.Certificates.{Open, Open.At}
-use Rattle.olap_proof.specs.Places.{Place}
+use Rattle.olap_proof.specs.{Certificates.{Open, Open.At}, Places.Place, declared.branches.Choice.Choice}
+use Rattle.olap_proof.specs.declared.branches.Choice.TheVariants.{Edge, Name, Way}
 
 -- a list without what was put after it
 pub take_last : {A : Type 0} (xs : List A) (y : A) → take (length (xs ++ y ∷ []) - 1) (xs ++ y ∷ []) ≡ xs
@@ -46,8 +43,7 @@ legal_more g k p (y ∷ ys) x h i = (h.0, legal_more g k (with_choice p y) ys x 
 -- what comes first stays so below a choice
 first_of-with_choice : (p : Place) (x : Choice) → first_of (with_choice p x) ≡ first_of p
 first_of-with_choice p (Edge e b) = refl
-first_of-with_choice p (Name c i) = refl
-first_of-with_choice p (Way a b t) = refl
+first_of-with_choice p x = refl
 
 -- choices change neither the graph nor the root
 pub first_of-with_choices : (p : Place) (xs : List Choice) → first_of (with_choices p xs) ≡ first_of p

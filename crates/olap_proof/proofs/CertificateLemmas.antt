@@ -3,31 +3,23 @@
 --     step_refuted                             none is where a line has been, if none is in what it leaves open
 --     runs_refuted                             nor where lines have been that leave nothing open
 use Rattle.std.proofs.Common.{◌≡◌, ℕ, zero, suc, ◌+◌, ◌<◌, List, [], ◌∷◌, ◌++◌, length, get_or, Bool, true, false, not, refl, sym, subst, ◌∙◌, inl, inr, arith}
-use Rattle.std.specs.Prelude.{Contains, ◌==◌}
-use Rattle.std.specs.List.{list_any, range_with_len}
+use Rattle.std.proofs.lemmas.Bool.{eqb-true}
 use Rattle.std.proofs.lemmas.List.Elements.{Contains-append_cases, Contains-append_left, Contains-append_right}
+use Rattle.std.specs.{List.{list_any, range_with_len}, Prelude.{Contains, ◌==◌}}
+use Rattle.olap_base.proofs.ListLemmas.{Contains-filter, Contains-map, Contains-nil, Contains-range, Contains-range_at, contains_head, list_any_is}
 use Rattle.olap_base.specs.Deciding.{contains_cases, decide_reaches}
 use Rattle.olap_base.specs.Graph.{Edge, Graph, IsBottom, IsCategory, IsDeclared, IsHierarchy}
-use Rattle.olap_base.proofs.ListLemmas.{Contains-filter, Contains-map, Contains-nil, Contains-range, Contains-range_at, contains_head, list_any_is}
-use Rattle.olap_ast.specs.Formula.{Formula}
-use Rattle.olap_ast.specs.Frozen.{Candidates, Frozen, IsFrozen, instance_of, name_in}
-use Rattle.olap_ast.specs.Schema.{Schema}
-use Rattle.olap_ast.proofs.Summing.{summarizable_exactly}
+use Rattle.olap_ast.{proofs.Summing.summarizable_exactly, specs.Formula.Formula}
+use Rattle.olap_ast.specs.{Frozen.{Candidates, Frozen, IsFrozen, instance_of, name_in}, Schema.Schema}
 use Rattle.olap_ast.specs.Summarizable.{not_by_one}
-use Rattle.olap_frozen.specs.Chosen.{IsChoice, place_of}
-use Rattle.olap_frozen.proofs.ChosenInstance as made
-use Rattle.olap_frozen.proofs.ChosenLemmas.{choice_of}
+use Rattle.olap_frozen.{proofs.ChosenLemmas.choice_of, specs.Chosen.{IsChoice, place_of}}
 use Rattle.olap_names.specs.Names.{name_at}
 use Rattle.olap_trail.specs.Decisions.{Decision}
-use Rattle.olap_proof.specs.declared.forms.Form.{Form}
-use Rattle.olap_proof.specs.Places.{Naming, Place, Way}
-use Rattle.olap_proof.specs.Lines.{Line}
-use Rattle.olap_proof.specs.Closing.{Closes}
-use Rattle.olap_proof.specs.Certificates.{CertificatesAreRight, Open, Open.At, Open.Bottom, Open.Head, Runs, Runs.more, Runs.none, Steps, Steps.begins, Steps.closes, Steps.edges, Steps.names, Steps.roots, Steps.ways, bottoms_of, indexes_of, start, with_edge, with_name, with_way}
-use Rattle.olap_proof.proofs.AgreeingLemmas.{Like, edges_in, is_there, walk_present}
+use Rattle.olap_proof.proofs.{AgreeingLemmas.{Like, edges_in, is_there, walk_present}, ReasonLemmas.closes_of}
 use Rattle.olap_proof.proofs.WayLemmas.{IsSo, LikeToo, closed_none}
-use Rattle.olap_proof.proofs.ReasonLemmas.{closes_of}
-use Rattle.std.proofs.lemmas.Bool.{eqb-true}
+use Rattle.olap_proof.specs.Certificates.{CertificatesAreRight, Open, Open.At, Open.Bottom, Open.Head, Runs, Runs.more, Runs.none, Steps, Steps.begins, Steps.closes, Steps.edges, Steps.names, Steps.roots, Steps.ways, bottoms_of, indexes_of, start, with_edge, with_name, with_way}
+use Rattle.olap_proof.specs.{Closing.Closes, Lines.Line, Places.{Naming, Place, Way}, declared.forms.Form.Form}
+use Rattle.olap_frozen.proofs.ChosenInstance as made
 
 -- the bottom category has no frozen dimension
 abbrev pub HasNone : Schema → Formula → Candidates → ℕ → Type 0

@@ -2,33 +2,28 @@
 --     joins_decided      a chosen edge was decided present
 --     known_present      what is known to have a member has one
 use Rattle.std.proofs.Common.{◌≡◌, ℕ, zero, suc, ◌<◌, List, [], ◌∷◌, length, map, get_or, Bool, true, false, cond, Option, Some, None, refl, ap, sym, subst, ◌∙◌, ◌⊎◌, inl, inr, arith}
-use Rattle.std.specs.Prelude.{All, Contains, ◌==◌, ◌||◌, ◌≢◌, filter}
-use Rattle.std.specs.List.{list_any, range_with_len}
 use Rattle.std.proofs.lemmas.Bool.{ne_eqb, false_from_ne_true, or_cases, eqb-true, eq-eqb}
 use Rattle.std.proofs.lemmas.List.Elements.{All-contains, All-cons, All-nil, Contains-append_cases, Contains-append_left}
-use Rattle.std.proofs.lemmas.List.FromFn.{get_or-map-range_with_len}
-use native.Mathlib.Decide.{ℕ_discrete}
+use Rattle.std.{proofs.lemmas.List.FromFn.get_or-map-range_with_len, specs.List.{list_any, range_with_len}}
+use Rattle.std.specs.Prelude.{All, Contains, ◌==◌, ◌||◌, ◌≢◌, filter}
+use Rattle.olap_base.proofs.AboveLemmas.{tally-lt}
+use Rattle.olap_base.proofs.ListLemmas.{Contains-filter, Contains-from_filter, Contains-from_map, Contains-from_range, Contains-map, Contains-nil, Contains-range, Distinct, Distinct-from_AllPairs, contains_head, list_any_is}
+use Rattle.olap_base.proofs.StepLemmas.{wider, wider_climb}
 use Rattle.olap_base.specs.Deciding.{contains_cases, contains_cons, decide_category_reaches}
 use Rattle.olap_base.specs.Graph.{CategoryReaches, Edge, Graph, HasEdge, IsCategory, IsHierarchy, category_count}
 use Rattle.olap_base.specs.Reaching.{category_reaches, category_reaches_is}
 use Rattle.olap_base.specs.Steps.{Climb, Climb.climb, Steps, Steps.here, Steps.step, Steps-append, Steps-from_reaches, reaches_from_Steps}
-use Rattle.olap_base.proofs.ListLemmas.{Contains-filter, Contains-from_filter, Contains-from_map, Contains-from_range, Contains-map, Contains-nil, Contains-range, Distinct, Distinct-from_AllPairs, contains_head, list_any_is}
-use Rattle.olap_ast.specs.Frozen.{Candidates, chosen, is_present}
+use Rattle.olap_ast.{proofs.Shape.{left_true, right_true}, specs.Frozen.{Candidates, chosen, is_present}}
 use Rattle.olap_ast.specs.Schema.{Schema}
-use Rattle.olap_ast.proofs.Shape.{left_true, right_true}
-use Rattle.olap_frozen.specs.Chosen.{IsChoice, IsSound, Joins}
-use Rattle.olap_frozen.proofs.ChosenInstance as made
 use Rattle.olap_frozen.proofs.ChosenLemmas.{choice_of, chosen_place, place_chosen}
+use Rattle.olap_frozen.specs.Chosen.{IsChoice, IsSound, Joins}
 use Rattle.olap_graph.specs.Lookups.{edge_at, edges_from}
 use Rattle.olap_trail.specs.Decisions.{Decided, Decision, HoldsCycle, HoldsShortcut, present_edges, present_graph, status_in, status_of}
-use Rattle.olap_proof.specs.FullPlaces.{IsFull}
-use Rattle.olap_proof.specs.Closing.{IsDead, IsLoose}
-use Rattle.olap_proof.specs.Places.{Naming, Place, is_known, leading_edges, possible_graph}
-use Rattle.olap_proof.specs.Seen.{is_possible}
-use Rattle.olap_proof.proofs.AgreeingLemmas.{status_some, walk_present}
-use Rattle.olap_proof.proofs.TallyLemmas.{tally}
-use Rattle.olap_base.proofs.AboveLemmas.{tally-lt}
-use Rattle.olap_base.proofs.StepLemmas.{wider, wider_climb}
+use Rattle.olap_proof.proofs.{AgreeingLemmas.{status_some, walk_present}, TallyLemmas.tally}
+use Rattle.olap_proof.specs.{Closing.{IsDead, IsLoose}, FullPlaces.IsFull}
+use Rattle.olap_proof.specs.{Places.{Naming, Place, is_known, leading_edges, possible_graph}, Seen.is_possible}
+use native.Mathlib.Decide.{ℕ_discrete}
+use Rattle.olap_frozen.proofs.ChosenInstance as made
 
 -- ---- decisions
 

@@ -1,39 +1,28 @@
 -- Whether a line closes a place can be decided; where nothing is left to decide, one does, or there
 -- is a frozen dimension.
-use Rattle.std.specs.Prelude.{◌==◌, ◌&&◌, ◌||◌, ◌≢◌}
-use Rattle.std.proofs.Common.{cond, ◌≡◌, ℕ, zero, suc, ◌<◌, List, [], ◌∷◌, length, Bool, true, false, Option, Some, None, refl, sym, subst, ◌⊎◌, inl, inr}
-use Rattle.std.specs.Prelude.{All, Contains, IsTrue}
-use Rattle.std.specs.List.{range_with_len}
-use Rattle.std.proofs.lemmas.List.Elements.{All-cons, All-head, All-nil, All-tail}
-use native.Mathlib.Decide.{ℕ_discrete}
+use Rattle.std.proofs.Common.{cond, ◌≡◌, ℕ, zero, suc, ◌<◌, List, [], ◌∷◌, length, Bool, true, false, Option, Some, refl, sym, subst, ◌⊎◌, inl, inr}
+use Rattle.std.proofs.lemmas.{Bool.ne_eqb, List.Elements.{All-cons, All-head, All-nil, All-tail}}
+use Rattle.std.specs.{List.range_with_len, Prelude.{◌==◌, ◌&&◌, ◌||◌, ◌≢◌, All, Contains, IsTrue}}
+use Rattle.olap_base.proofs.{DecisionLemmas.dec_not, ListLemmas.{Contains-from_range, Contains-range}, StepLemmas.wider}
 use Rattle.olap_base.specs.Deciding.{dec_and, dec_iff, decide_category_reaches}
 use Rattle.olap_base.specs.Graph.{CategoryReaches, Edge, Graph, HasEdge, IsHierarchy, category_count}
-use Rattle.olap_base.specs.Steps.{Climb, Climb.climb, Steps-from_reaches, reaches_from_Steps}
-use Rattle.olap_base.proofs.ListLemmas.{Contains-from_range, Contains-range}
-use Rattle.olap_ast.specs.Formula.{Formula}
-use Rattle.olap_ast.specs.Frozen.{AreCandidates, Candidates, Frozen, IsFrozen}
-use Rattle.olap_ast.specs.Schema.{Constraint, Schema}
-use Rattle.olap_ast.specs.declared.three_values.Truth3.{Truth3}
-use Rattle.olap_ast.specs.declared.three_values.Truth3.TheVariants.{No, Yes, Unknown}
-use Rattle.olap_eval.specs.Partial.{value_at}
-use Rattle.olap_graph.specs.Lookups.{edge_at, edges_from}
-use Rattle.olap_trail.specs.Decisions.{Decision, HoldsCycle, HoldsShortcut, present_graph, status_of}
-use Rattle.olap_proof.specs.declared.forms.Form.{Form}
-use Rattle.olap_proof.specs.declared.forms.Form.TheVariants.{Long, Short}
-use Rattle.olap_proof.specs.FullPlaces.{FullPlacesClose, IsFull}
-use Rattle.olap_proof.proofs.CycleLemmas.{cyclic_is, shortened_is}
-use Rattle.std.proofs.lemmas.Bool.{ne_eqb}
 use Rattle.olap_base.specs.Reaching.{category_reaches, category_reaches_is}
-use Rattle.olap_proof.specs.Lines.{Line, Line.Asked, Line.Cycle, Line.Dead, Line.Loose, Line.Shortcut, Line.Unmet, Line.Unreached}
-use Rattle.olap_proof.specs.Closing.{Closes, IsAbout, IsDead, IsLoose, IsUnmet, IsUnmetAt}
-use Rattle.olap_proof.specs.Places.{Naming, Place, is_known, knowledge, leading_graph, possible_graph, truth_of_reach}
+use Rattle.olap_base.specs.Steps.{Climb, Climb.climb, Steps-from_reaches, reaches_from_Steps}
+use Rattle.olap_ast.{proofs.Decided.dec_some, specs.Formula.Formula}
+use Rattle.olap_ast.specs.{Frozen.{AreCandidates, Candidates, Frozen, IsFrozen}, Schema.{Constraint, Schema}}
+use Rattle.olap_ast.specs.declared.three_values.Truth3.{Truth3, TheVariants.{No, Yes, Unknown}}
+use Rattle.olap_eval.specs.Partial.{value_at}
+use Rattle.olap_graph.{proofs.TableLemmas.has_edge_at, specs.Lookups.{edge_at, edges_from}}
+use Rattle.olap_trail.specs.Decisions.{Decision, HoldsCycle, HoldsShortcut, present_graph, status_of}
 use Rattle.olap_proof.proofs.ChosenEdgeLemmas.{child_known, joins_possible, leading_joins, reaches_all, sound}
-use Rattle.olap_proof.proofs.FullPlaceLemmas.{frozen_there, value_of_place}
+use Rattle.olap_proof.proofs.{CycleLemmas.{cyclic_is, shortened_is}, FullPlaceLemmas.{frozen_there, value_of_place}}
 use Rattle.olap_proof.proofs.ReasonLemmas.{unmet_inside}
-use Rattle.olap_graph.proofs.TableLemmas.{has_edge_at}
-use Rattle.olap_ast.proofs.Decided.{dec_some}
-use Rattle.olap_base.proofs.DecisionLemmas.{dec_not}
-use Rattle.olap_base.proofs.StepLemmas.{wider}
+use Rattle.olap_proof.specs.Closing.{Closes, IsAbout, IsDead, IsLoose, IsUnmet, IsUnmetAt}
+use Rattle.olap_proof.specs.FullPlaces.{FullPlacesClose, IsFull}
+use Rattle.olap_proof.specs.Lines.{Line, Line.Asked, Line.Cycle, Line.Dead, Line.Loose, Line.Shortcut, Line.Unmet, Line.Unreached}
+use Rattle.olap_proof.specs.Places.{Naming, Place, is_known, knowledge, leading_graph, possible_graph, truth_of_reach}
+use Rattle.olap_proof.specs.declared.forms.Form.{Form, TheVariants.{Long, Short}}
+use native.Mathlib.Decide.{ℕ_discrete}
 
 -- ---- decisions
 
@@ -48,17 +37,14 @@ dec_true false = no (λ e. cc)
 
 -- and what was decided of an edge
 pub dec_status : (o : Option Bool) (b : Bool) → Dec (o ≡ Some b)
-dec_status None b = no (λ e. cc)
 dec_status (Some true) true = yes refl
-dec_status (Some true) false = no (λ e. cc)
-dec_status (Some false) true = no (λ e. cc)
 dec_status (Some false) false = yes refl
+dec_status o b = no (λ e. cc)
 
 -- and whether a value is known to be false
 pub dec_false : (v : Truth3) → Dec (v ≡ No)
 dec_false No = yes refl
-dec_false Yes = no (λ e. cc)
-dec_false Unknown = no (λ e. cc)
+dec_false v = no (λ e. cc)
 
 -- and whether all of it have
 pub dec_all : {A : Type 0} (P : A → Type 0) → ((x : A) → Dec (P x)) → (xs : List A) → Dec (All P xs)

@@ -1,7 +1,6 @@
 -- Cycles and shortcuts as chains of edges and as steps.
 use Rattle.std.proofs.Common.{◌↔◌}
-use Rattle.olap_base.specs.Graph.{Graph}
-use Rattle.olap_base.specs.Steps.{Climb-from_leads, leads_from_Climb}
+use Rattle.olap_base.specs.{Graph.Graph, Steps.{Climb-from_leads, leads_from_Climb}}
 use Rattle.olap_trail.specs.Decisions.{HoldsCycle, HoldsShortcut}
 use Rattle.olap_proof.specs.Closing.{IsCyclic, IsShortened}
 

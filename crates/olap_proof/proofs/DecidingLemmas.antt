@@ -1,29 +1,22 @@
 -- What a line does at a place can be decided.
 use Rattle.std.proofs.Common.{◌≡◌, ℕ, suc, zero, ◌<◌, ◌+◌, List, [], ◌∷◌, length, map, true, false, Option, Some, None, refl, sym, subst, inl, inr}
-use Rattle.std.specs.Prelude.{◌⊎◌}
-use Rattle.std.proofs.Math.Bool.{Bool-discrete}
-use native.Mathlib.Decide.{ℕ_discrete}
-use mathlib.Core.List.{List-discrete}
+use Rattle.std.{proofs.Math.Bool.Bool-discrete, specs.Prelude.◌⊎◌}
+use Rattle.olap_base.{proofs.DecisionLemmas.{dec_some_below, dec_not}, specs.Deciding.{dec_and, dec_iff, dec_or}}
 use Rattle.olap_base.specs.Graph.{Graph, IsCategory}
-use Rattle.olap_base.specs.Deciding.{dec_and, dec_iff, dec_or}
-use Rattle.olap_ast.specs.Formula.{Formula}
-use Rattle.olap_ast.specs.Frozen.{Candidates}
-use Rattle.olap_ast.specs.Schema.{Constraint, Schema}
+use Rattle.olap_ast.specs.{Formula.Formula, Frozen.Candidates, Schema.{Constraint, Schema}}
 use Rattle.olap_eval.specs.Partial.{value_at}
 use Rattle.olap_graph.specs.Lookups.{edge_at, edges_from}
-use Rattle.olap_proof.specs.declared.forms.Form.{Form}
-use Rattle.olap_proof.specs.declared.forms.Form.TheVariants.{Long, Short}
-use Rattle.olap_proof.specs.Certificates.{Open, Open.At, Open.Bottom, Open.Head, Steps, Steps.begins, Steps.roots, bottom_text, bottoms_of, head_text, start}
-use Rattle.olap_proof.specs.Doing.{Does, leaves_open}
-use Rattle.olap_proof.specs.Lines.{IsNoStep, Line, Line.Asked, Line.Clash, Line.Cycle, Line.Dead, Line.EdgeOrNot, Line.Loose, Line.NameOf, Line.Shortcut, Line.Unmet, Line.Unreached, Line.WayOrNot, line_text}
-use Rattle.olap_proof.specs.Closing.{IsAbout, IsUnmetAt, IsClash, IsDead, IsLoose, IsUnmet, IsUnreached}
-use Rattle.olap_proof.specs.Places.{Place, index_of, is_known, knowledge, leads, truth_of_reach, way_of}
-use Rattle.olap_proof.proofs.CycleLemmas.{cyclic_is, shortened_is}
-use Rattle.olap_proof.proofs.DoingLemmas.{does_step, step_does}
-use Rattle.olap_proof.proofs.StepLemmas.{step_bottom, step_head}
-use Rattle.olap_trail.specs.Decisions.{present_graph, status_of}
 use Rattle.olap_proof.proofs.ClosingLemmas.{dec_dead, dec_loose, dec_cycle, dec_shortcut, dec_status, dec_false, dec_all}
-use Rattle.olap_base.proofs.DecisionLemmas.{dec_some_below, dec_not}
+use Rattle.olap_proof.proofs.{CycleLemmas.{cyclic_is, shortened_is}, DoingLemmas.{does_step, step_does}}
+use Rattle.olap_proof.proofs.StepLemmas.{step_bottom, step_head}
+use Rattle.olap_proof.specs.Certificates.{Open, Open.At, Open.Bottom, Open.Head, Steps, Steps.begins, Steps.roots, bottom_text, bottoms_of, head_text, start}
+use Rattle.olap_proof.specs.{Closing.{IsAbout, IsUnmetAt, IsClash, IsUnmet, IsUnreached}, Doing.{Does, leaves_open}}
+use Rattle.olap_proof.specs.Lines.{IsNoStep, Line, Line.Asked, Line.Clash, Line.Cycle, Line.Dead, Line.EdgeOrNot, Line.Loose, Line.NameOf, Line.Shortcut, Line.Unmet, Line.Unreached, Line.WayOrNot, line_text}
+use Rattle.olap_proof.specs.Places.{Place, index_of, is_known, knowledge, leads, truth_of_reach, way_of}
+use Rattle.olap_proof.specs.declared.forms.Form.{Form, TheVariants.{Long, Short}}
+use Rattle.olap_trail.specs.Decisions.{present_graph, status_of}
+use native.Mathlib.Decide.{ℕ_discrete}
+use mathlib.Core.List.{List-discrete}
 
 -- ---- numbers below another
 

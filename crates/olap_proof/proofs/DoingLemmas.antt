@@ -1,18 +1,13 @@
 -- A line does what it says, and nothing else.
 use Rattle.std.proofs.Common.{◌≡◌, ℕ, ◌<◌, ◌^◌, List, [], length, refl, sym, subst, ◌∙◌}
 use Rattle.olap_base.specs.Graph.{IsHierarchy}
-use Rattle.olap_ast.specs.Formula.{Formula}
-use Rattle.olap_ast.specs.Frozen.{Candidates}
-use Rattle.olap_ast.specs.Schema.{Schema}
-use Rattle.olap_proof.specs.declared.forms.Form.{Form}
-use Rattle.olap_proof.specs.Places.{Place}
-use Rattle.olap_proof.specs.Lines.{Line, Line.Asked, Line.Clash, Line.Cycle, Line.Dead, Line.EdgeOrNot, Line.Loose, Line.NameOf, Line.Shortcut, Line.Unmet, Line.Unreached, Line.WayOrNot, line_text}
-use Rattle.olap_proof.specs.Closing.{Closes, IsAbout}
-use Rattle.olap_proof.specs.Certificates.{Open, Open.At, Steps, Steps.edges, Steps.names, Steps.ways}
-use Rattle.olap_proof.specs.Doing.{Does, leaves_open}
-use Rattle.olap_proof.proofs.OneLineLemmas.{line_once}
+use Rattle.olap_ast.specs.{Formula.Formula, Frozen.Candidates, Schema.Schema}
+use Rattle.olap_proof.proofs.{OneLineLemmas.line_once, ReasonLemmas.closing}
 use Rattle.olap_proof.proofs.StepLemmas.{AtStep, AtStep.by_edge, AtStep.by_name, AtStep.by_reason, AtStep.by_way, step_at}
-use Rattle.olap_proof.proofs.ReasonLemmas.{closing}
+use Rattle.olap_proof.specs.Certificates.{Open, Open.At, Steps, Steps.edges, Steps.names, Steps.ways}
+use Rattle.olap_proof.specs.{Closing.{Closes, IsAbout}, Doing.{Does, leaves_open}}
+use Rattle.olap_proof.specs.{Lines.{Line, Line.EdgeOrNot, Line.NameOf, Line.WayOrNot, line_text}, Places.Place}
+use Rattle.olap_proof.specs.declared.forms.Form.{Form}
 
 -- a line does what it says
 pub does_step : (f : Form) (s : Schema) (q : Formula) (k : Candidates) (p : Place) (l : Line) → IsAbout s l
@@ -20,14 +15,7 @@ pub does_step : (f : Form) (s : Schema) (q : Formula) (k : Candidates) (p : Plac
 does_step f s q k p (EdgeOrNot e) a d = edges a d
 does_step f s q k p (NameOf c) a d = names (d.0, a) d.1
 does_step f s q k p (WayOrNot x y) a d = ways d.0 a.0 a.1 d.1
-does_step f s q k p (Dead c) a d = closing (Dead c) a d
-does_step f s q k p Cycle a d = closing Cycle a d
-does_step f s q k p Shortcut a d = closing Shortcut a d
-does_step f s q k p (Loose e) a d = closing (Loose e) a d
-does_step f s q k p (Unreached c) a d = closing (Unreached c) a d
-does_step f s q k p (Clash x y) a d = closing (Clash x y) a d
-does_step f s q k p (Unmet n) a d = closing (Unmet n) a d
-does_step f s q k p Asked a d = closing Asked a d
+does_step f s q k p l a d = closing l a d
 
 -- a line that closes does that
 closes_does : (f : Form) (s : Schema) (q : Formula) (k : Candidates) (p : Place) (l : Line) → Closes f s q k p l
@@ -35,14 +23,7 @@ closes_does : (f : Form) (s : Schema) (q : Formula) (k : Candidates) (p : Place)
 closes_does f s q k p (EdgeOrNot e) h = absurd h
 closes_does f s q k p (NameOf c) h = absurd h
 closes_does f s q k p (WayOrNot x y) h = absurd h
-closes_does f s q k p (Dead c) h = (h, refl)
-closes_does f s q k p Cycle h = (h, refl)
-closes_does f s q k p Shortcut h = (h, refl)
-closes_does f s q k p (Loose e) h = (h, refl)
-closes_does f s q k p (Unreached c) h = (h, refl)
-closes_does f s q k p (Clash x y) h = (h, refl)
-closes_does f s q k p (Unmet n) h = (h, refl)
-closes_does f s q k p Asked h = (h, refl)
+closes_does f s q k p l h = (h, refl)
 
 -- what bytes do is what some line says
 pub step_does : (f : Form) (s : Schema) (q : Formula) (k : Candidates) (p : Place) (bytes : List ℕ) (new : List Open)

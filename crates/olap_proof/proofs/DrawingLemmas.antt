@@ -1,24 +1,16 @@
 -- Tables of what each category reaches: what drawing and closing them does.
-use Rattle.std.proofs.Common.{◌≡◌, ℕ, ◌+◌, ◌<◌, ◌⊎◌, ◌↔◌, List, length, set, Bool, true, false, refl, ap, sym, subst, ◌∙◌, inl, inr, arith}
-use Rattle.std.specs.FinSet.{contains, insert, union}
-use Rattle.std.proofs.Math.ListN.{length-set}
-use Rattle.olap_base.specs.Graph.{CategoryReaches, Graph, HasEdge, category_count}
-use Rattle.olap_base.specs.Steps.{Steps, Steps.here, Steps.step, Steps-append, Steps-from_reaches, reaches_from_Steps}
-use Rattle.olap_bits.specs.Sets.{members}
-use Rattle.olap_bits.specs.declared.sets.CatSet.{CatSet}
-use Rattle.olap_graph.specs.Lookups.{edge_at}
-use Rattle.olap_graph.specs.Rows.{AreOwn, Has, IsClosure, row}
-use Rattle.olap_graph.proofs.RowLemmas.{has_insert, has_inside, has_union, row_other, row_same}
-use Rattle.olap_trail.specs.Trails.{decisions_of}
-use Rattle.olap_trail.specs.declared.decisions.Decision.{Decision as OneDecision}
-use Rattle.olap_proof.specs.KeptWays.{leading_way}
-use Rattle.olap_proof.specs.Places.{Place, leading_graph}
-use Rattle.olap_proof.specs.Seen.{AreOfGraph, LeadsHere, SeenDecisions, decision_at}
-use Rattle.olap_proof.specs.Tables.{Draws, IsTable}
-use Rattle.olap_proof.specs.Walking.{IsIn, SeenFrom, SeenUpTo}
-use Rattle.olap_proof.proofs.SeenLemmas.{leading_seen, seen_present, seen_way}
-use Rattle.std.proofs.lemmas.Bool.{cases_eq}
+use Rattle.std.proofs.Common.{◌≡◌, ℕ, ◌+◌, ◌<◌, ◌⊎◌, ◌↔◌, List, length, get_or, set, Bool, true, false, refl, ap, sym, subst, ◌∙◌, inl, inr, arith}
+use Rattle.std.{proofs.Math.ListN.length-set, proofs.lemmas.Bool.cases_eq, specs.FinSet.{contains, insert, union}}
 use Rattle.olap_base.proofs.GeneralLemmas.{below_or_same}
+use Rattle.olap_base.specs.Graph.{CategoryReaches, Edge, Graph, HasEdge, category_count}
+use Rattle.olap_base.specs.Steps.{Steps, Steps.here, Steps.step, Steps-append, Steps-from_reaches, reaches_from_Steps}
+use Rattle.olap_bits.specs.{Sets.members, declared.sets.CatSet.CatSet}
+use Rattle.olap_graph.proofs.RowLemmas.{has_insert, has_inside, has_union, row_other, row_read, row_same}
+use Rattle.olap_graph.specs.{Lookups.edge_at, Rows.{AreOwn, Has, IsClosure, row}}
+use Rattle.olap_trail.specs.{Trails.decisions_of, declared.decisions.Decision.{Decision as OneDecision}}
+use Rattle.olap_proof.{proofs.SeenLemmas.{leading_seen, seen_present, seen_way}, specs.KeptWays.leading_way}
+use Rattle.olap_proof.specs.{Places.{Place, leading_graph}, Seen.{AreOfGraph, LeadsHere, SeenDecisions, decision_at}}
+use Rattle.olap_proof.specs.{Tables.{Draws, IsTable}, Walking.{IsIn, SeenFrom, SeenUpTo}}
 
 -- ---- one set more
 
@@ -77,31 +69,40 @@ draws_join {W} g Seen After New old mid k x h l is reached cases = record {
 
 -- ---- edges and ways, one after another
 
-module _ {W : ℕ} (g : Graph) (takes : ℕ → Bool) (child parent : ℕ → ℕ) (i : ℕ) (old mid : List (CatSet W))
-    (h : Draws g (SeenUpTo takes child parent i) old mid) where
+module _ {W : ℕ} (g : Graph) (takes : ℕ → Bool) (edge : ℕ → Edge) (i : ℕ) (old mid : List (CatSet W))
+    (h : Draws g (SeenUpTo takes (λ j. (edge j).child) (λ j. (edge j).parent) i) old mid) where
+  -- the edges so far, and one more
+  abbrev Seen : ℕ → ℕ → ℕ → Type 0
+  Seen n = SeenUpTo takes (λ j. (edge j).child) (λ j. (edge j).parent) n
+
   -- one edge more is drawn
-  pub draws_edge : (k q : ℕ) (x : CatSet W) → child i ≡ k → parent i ≡ q → k < length mid
-      → members x ≡ insert (row mid k) q → HasEdge g k q
-      → Draws g (SeenUpTo takes child parent (i + 1)) old (set mid k x)
-  draws_edge k q x c p l e edge =
-      draws_join g (SeenUpTo takes child parent i) (SeenUpTo takes child parent (i + 1)) (λ d. q ≡ d) old mid k x h l
-      (λ d. (
-        λ m. elim ((has_insert (row mid k) q d).0 (subst (λ s. IsIn s d) e m)) [ inl a ↦ inr a | inr b ↦ inl b ],
-        λ o. subst (λ s. IsIn s d) (sym e) ((has_insert (row mid k) q d).1 (elim o [ inl b ↦ inr b | inr a ↦ inl a ])),
+  pub draws_edge : (k : ℕ) (e : Edge) (r x : CatSet W) {rows : List (CatSet W)} → edge i ≡ e → k ≡ e.child
+      → e.child < length mid → r ≡ get_or mid k r → members x ≡ insert (members r) e.parent
+      → HasEdge g (edge i).child (edge i).parent → rows ≡ set mid k x → Draws g (Seen (i + 1)) old rows
+  draws_edge k e r x ends at l read own joined is =
+      let inside : k < length mid = omega (arith, l, at) in
+      let from = ap (λ (y : Edge). y.child) ends ∙ sym at in
+      let to = ap (λ (y : Edge). y.parent) ends in
+      let new = own ∙ ap (λ s. insert s e.parent) (row_read mid k r inside read) in
+      rw is (draws_join g (Seen i) (Seen (i + 1)) (λ d. (edge i).parent ≡ d) old mid k x h inside
+      (λ d. let m = has_insert (row mid k) e.parent d in (
+        λ y. elim (m.0 (subst (λ s. IsIn s d) new y)) [ inl a ↦ inr (to ∙ a) | inr b ↦ inl b ],
+        λ o. subst (λ s. IsIn s d) (sym new) (m.1 (elim o [ inl b ↦ inr b | inr a ↦ inl (sym to ∙ a) ])),
       ))
-      (λ d a. subst (λ y. CategoryReaches g k y) a (reaches_from_Steps (step edge here)))
+      (λ d a. subst (λ y. CategoryReaches g y d) from
+      (subst (λ y. CategoryReaches g (edge i).child y) a (reaches_from_Steps (step joined here))))
       (λ a b s. elim (below_or_same s.0 i s.1) [
         | inl z ↦ inl (s.0, z, s.2, s.3, s.4)
-        | inr z ↦ inr (sym s.3 ∙ ap child z ∙ c, sym p ∙ ap parent (sym z) ∙ s.4)
-      ])
+        | inr z ↦ inr (sym s.3 ∙ ap (λ j. (edge j).child) z ∙ from, ap (λ j. (edge j).parent) (sym z) ∙ s.4)
+      ]))
 
   -- one that isn't taken is passed over
-  pub draws_skip : takes i ≡ false → Draws g (SeenUpTo takes child parent (i + 1)) old mid
-  draws_skip not = draws_less g (SeenUpTo takes child parent i) (SeenUpTo takes child parent (i + 1)) old mid h
+  pub draws_skip : {rows : List (CatSet W)} → takes i ≡ false → rows ≡ mid → Draws g (Seen (i + 1)) old rows
+  draws_skip not is = rw is (draws_less g (Seen i) (Seen (i + 1)) old mid h
       (λ a b s. elim (below_or_same s.0 i s.1) [
         | inl z ↦ (s.0, z, s.2, s.3, s.4)
         | inr z ↦ absurd (let w : false ≡ true = sym not ∙ ap takes (sym z) ∙ s.2 in cc)
-      ])
+      ]))
 
 -- all to which ways lead from one category more
 pub draws_all : {W : ℕ} (g : Graph) (Leads : ℕ → ℕ → Type 0) (i : ℕ) (old mid : List (CatSet W)) (x to : CatSet W)

@@ -1,18 +1,14 @@
 -- What the edges that were decided present hold.
 use Rattle.std.proofs.Common.{◌≡◌, ℕ, ◌<◌, ◌↔◌, List, [], ◌∷◌, length, true, false, subst, sym, inl, inr}
-use Rattle.std.specs.Prelude.{Contains, filter}
 use Rattle.std.proofs.lemmas.List.Elements.{Contains-append_cases, Contains-append_left, Contains-get_or}
-use Rattle.olap_base.specs.Graph.{Edge, Graph, HasEdge}
-use Rattle.olap_base.specs.Steps.{Climb, Climb.climb}
-use Rattle.olap_base.proofs.ListLemmas.{Contains-filter, Contains-map, Contains-only}
+use Rattle.std.specs.Prelude.{Contains, filter}
+use Rattle.olap_base.proofs.{ListLemmas.{Contains-filter, Contains-map, Contains-only}, StepLemmas.wider_climb}
+use Rattle.olap_base.specs.{Graph.{Edge, Graph, HasEdge}, Steps.{Climb, Climb.climb}}
 use Rattle.olap_graph.specs.Lookups.{edge_at}
 use Rattle.olap_trail.specs.Decisions.{Decided, Decision, HoldsCycle, HoldsShortcut, present_edges, present_graph, present_with}
-use Rattle.olap_trail.specs.Trails.{decision_of, decisions_of}
-use Rattle.olap_trail.specs.declared.decisions.Decision.{Decision as OneDecision}
+use Rattle.olap_trail.specs.{Trails.{decision_of, decisions_of}, declared.decisions.Decision.{Decision as OneDecision}}
+use Rattle.olap_proof.{proofs.CycleLemmas.{cyclic_is, shortened_is}, specs.Closing.{IsCyclic, IsShortened}}
 use Rattle.olap_proof.specs.Seen.{decision_at}
-use Rattle.olap_proof.specs.Closing.{IsCyclic, IsShortened}
-use Rattle.olap_proof.proofs.CycleLemmas.{cyclic_is, shortened_is}
-use Rattle.olap_base.proofs.StepLemmas.{wider_climb}
 
 -- a decision that says present draws its edge
 pub drawn_edge : (t : Decided) (ds : List OneDecision) → t.decisions ≡ decisions_of ds → (k : ℕ) → k < length ds

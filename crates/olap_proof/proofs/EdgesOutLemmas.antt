@@ -1,7 +1,6 @@
 -- The edges out of a category, one after another.
 use Rattle.std.proofs.Common.{◌≡◌, ℕ, ◌<◌, List, length, get_or, map, subst, sym}
-use Rattle.std.specs.Prelude.{All}
-use Rattle.std.proofs.lemmas.List.{get_or-map, length-map}
+use Rattle.std.{proofs.lemmas.List.{get_or-map, length-map}, specs.Prelude.All}
 use Rattle.olap_base.specs.declared.ids.EdgeId.{EdgeId}
 
 -- what holds of all of them holds of each

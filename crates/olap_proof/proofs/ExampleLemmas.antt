@@ -1,21 +1,18 @@
 -- Lines that are a certificate.
 use Rattle.std.proofs.Common.{◌≡◌, ℕ, List, [], ◌∷◌, Bool, true, false, cond, Some, refl, ap, ◌∙◌, inl, inr, arith}
-use Rattle.std.specs.Prelude.{◌&&◌, not}
-use Rattle.std.proofs.lemmas.List.Elements.{All-cons, All-nil}
+use Rattle.std.{proofs.lemmas.List.Elements.{All-cons, All-nil}, specs.Prelude.{◌&&◌, not}}
 use Rattle.olap_base.specs.Reaching.{category_reaches, category_reaches_is}
 use Rattle.olap_base.specs.Steps.{Steps.here, Steps.step, reaches_from_Steps}
-use Rattle.olap_ast.specs.Frozen.{Candidates}
-use Rattle.olap_ast.specs.ThreeValues.{value_of, value_of_both, value_of_one}
-use Rattle.olap_ast.specs.declared.three_values.Truth3.{Truth3}
-use Rattle.olap_ast.specs.declared.three_values.Truth3.TheVariants.{No, Yes, Unknown}
+use Rattle.olap_ast.specs.{Frozen.Candidates, ThreeValues.{value_of, value_of_both, value_of_one}}
+use Rattle.olap_ast.specs.declared.three_values.Truth3.{Truth3, TheVariants.{No, Yes, Unknown}}
 use Rattle.olap_trail.specs.Decisions.{status_of}
-use Rattle.olap_proof.specs.declared.forms.Form.TheVariants.{Long, Short}
-use Rattle.olap_proof.specs.Places.{Place, Way, leading_graph, possible_graph, truth_of_reach}
-use Rattle.olap_proof.specs.Lines.{Line.Asked, Line.Clash, Line.Dead}
-use Rattle.olap_proof.specs.Closing.{Closes}
-use Rattle.olap_proof.specs.Certificates.{Runs.more, Runs.none, Steps.begins, Steps.edges, Steps.roots, Steps.ways}
-use Rattle.olap_proof.specs.Examples.{ChainIsCertified, ChainIsShortlyCertified, chain, city_not_by_store}
 use Rattle.olap_proof.proofs.ReasonLemmas.{closing}
+use Rattle.olap_proof.specs.Certificates.{Runs.more, Runs.none, Steps.begins, Steps.edges, Steps.roots, Steps.ways}
+use Rattle.olap_proof.specs.Closing.{Closes}
+use Rattle.olap_proof.specs.Examples.{ChainIsCertified, ChainIsShortlyCertified, chain, city_not_by_store}
+use Rattle.olap_proof.specs.Lines.{Line.Asked, Line.Clash, Line.Dead}
+use Rattle.olap_proof.specs.Places.{Place, Way, leading_graph, possible_graph, truth_of_reach}
+use Rattle.olap_proof.specs.declared.forms.Form.TheVariants.{Long, Short}
 
 -- the place where the edge from Store to City was decided, after these ways
 abbrev linked : Bool → List Way → Place

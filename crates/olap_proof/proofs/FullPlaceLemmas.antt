@@ -1,44 +1,30 @@
 -- Where nothing is left to decide: the frozen dimension that was decided, and that it is one where no line closes.
 use Rattle.std.proofs.Common.{◌≡◌, ℕ, ℤ, zero, suc, ◌<◌, ◌≤◌, List, [], length, map, get_or, Bool, true, false, cond, Option, Some, None, refl, ap, sym, subst, ◌∙◌, inl, inr, arith}
-use Rattle.std.specs.Prelude.{◌&&◌, ◌||◌, ◌≢◌, codes, option_map}
-use Rattle.std.specs.List.{range_with_len}
-use Rattle.std.specs.Str.{bytes_eq}
-use Rattle.std.proofs.lemmas.List.{length-map}
-use Rattle.std.proofs.lemmas.List.FromFn.{get_or-map-range_with_len, length-range_with_len}
-use Rattle.std.proofs.lemmas.Slice.Eq.{bytes_eq-Decides}
-use Rattle.olap_base.specs.Graph.{Edge, Graph, HasEdge, IsHierarchy, category_count, is_number}
-use Rattle.olap_base.specs.Instance.{Instance}
+use Rattle.std.proofs.lemmas.{Bool.{or_cases, eqb-true}, List.length-map}
+use Rattle.std.proofs.lemmas.{List.FromFn.{get_or-map-range_with_len, length-range_with_len}, Slice.Eq.bytes_eq-Decides}
+use Rattle.std.specs.{List.range_with_len, Prelude.{◌&&◌, ◌||◌, ◌≢◌, codes, option_map}, Str.bytes_eq}
+use Rattle.olap_base.proofs.StepLemmas.{wider}
+use Rattle.olap_base.specs.{Graph.{Edge, Graph, HasEdge, IsHierarchy, category_count, is_number}, Instance.Instance}
 use Rattle.olap_base.specs.Reaching.{category_reaches, category_reaches_is}
 use Rattle.olap_base.specs.Steps.{Steps, Steps-from_reaches, reaches_from_Steps}
-use Rattle.olap_ast.specs.Constants.{IsNameOf}
-use Rattle.olap_ast.specs.Formula.{Formula, Holds, IsNumbered}
+use Rattle.olap_ast.{proofs.Shape.right_true, specs.Constants.IsNameOf, specs.Formula.{Formula, Holds, IsNumbered}}
 use Rattle.olap_ast.specs.Frozen.{AreCandidates, Candidates, Frozen, IsFrozen, instance_of, is_present, name_in, text_of_index}
-use Rattle.olap_ast.specs.Schema.{Schema}
-use Rattle.olap_ast.proofs.Shape.{right_true}
-use Rattle.olap_ast.specs.declared.three_values.Truth3.TheVariants.{No, Yes, Unknown}
-use Rattle.olap_eval.specs.Partial.{Agrees as Tells, Completes, value_at}
+use Rattle.olap_ast.specs.{Schema.Schema, declared.three_values.Truth3.TheVariants.{No, Yes, Unknown}}
+use Rattle.olap_eval.{proofs.PartialLemmas.values_are_truths, specs.Partial.{Agrees as Tells, Completes, value_at}}
 use Rattle.olap_eval.specs.Shapes.{HasEdgeThere, HasNameThere, HasNumberThere, ReachesThere}
-use Rattle.olap_eval.proofs.PartialLemmas.{values_are_truths}
+use Rattle.olap_frozen.proofs.{ChosenLemmas.{bit_joins, edge_inside, no_edge_joins}, LeafLemmas.name_of_kind}
 use Rattle.olap_frozen.specs.Chosen.{AreNames, IsChoice, IsMet, IsSound, Joins, place_of}
-use Rattle.olap_frozen.proofs.ChosenInstance as made
-use Rattle.olap_frozen.proofs.ChosenLemmas.{bit_joins, edge_inside, no_edge_joins}
 use Rattle.olap_graph.specs.Lookups.{edge_between}
 use Rattle.olap_names.specs.Names.{name_at}
 use Rattle.olap_numerals.specs.Comparing.{Op, is_numbered}
 use Rattle.olap_trail.specs.Decisions.{Decided, Decision, status_in}
-use Rattle.olap_proof.specs.declared.forms.Form.{Form}
-use Rattle.olap_proof.specs.declared.forms.Form.TheVariants.{Long, Short}
+use Rattle.olap_proof.proofs.{AgreeingLemmas.walk_present, ChosenEdgeLemmas.{bit_of, bits_of, edges_chosen}}
+use Rattle.olap_proof.{proofs.ToldLemmas.{IsTold, formula_told, truth_told, unmet_listed}, specs.Closing.IsUnmetAt}
 use Rattle.olap_proof.specs.FullPlaces.{IsFull}
-use Rattle.olap_proof.specs.Closing.{IsUnmetAt}
 use Rattle.olap_proof.specs.Places.{Naming, Place, index_of, is_known, is_top, knowledge, leading_edges, leading_graph, name_of, possible_graph, truth_of_edge, truth_of_name, truth_of_reach}
-use Rattle.olap_proof.proofs.AgreeingLemmas.{walk_present}
-use Rattle.olap_proof.specs.Within.{truth_of}
-use Rattle.olap_proof.proofs.ToldLemmas.{IsTold, formula_told, truth_told, unmet_listed}
+use Rattle.olap_proof.specs.{Within.truth_of, declared.forms.Form.Form, declared.forms.Form.TheVariants.{Long, Short}}
+use Rattle.olap_frozen.proofs.ChosenInstance as made
 use Rattle.olap_proof.proofs.ChosenEdgeLemmas as laws
-use Rattle.olap_proof.proofs.ChosenEdgeLemmas.{bit_of, bits_of, edges_chosen}
-use Rattle.olap_frozen.proofs.LeafLemmas.{name_of_kind}
-use Rattle.std.proofs.lemmas.Bool.{or_cases, eqb-true}
-use Rattle.olap_base.proofs.StepLemmas.{wider}
 
 -- the top is 0
 top_zero : (m : Form) (b : ℕ) → is_top m b ≡ true → b ≡ 0

@@ -1,18 +1,12 @@
 -- A text is a certificate, or has a first wrong line.
 use Rattle.std.proofs.Common.{◌≡◌, ℕ, suc, zero, ◌<◌, ◌+◌, List, [], ◌∷◌, ◌++◌, length, refl, ap, sym, subst, ◌∙◌, inl, inr, arith}
-use Rattle.std.specs.Prelude.{◌⊎◌, ◌≢◌}
-use Rattle.std.proofs.lemmas.List.{append_assoc, length-append}
-use native.Mathlib.Decide.{ℕ_discrete}
+use Rattle.std.{proofs.lemmas.List.{append_assoc, length-append}, specs.Prelude.{◌⊎◌, ◌≢◌}}
 use Rattle.olap_base.specs.Deciding.{dec_and, dec_iff, dec_or}
-use Rattle.olap_ast.specs.Formula.{Formula}
-use Rattle.olap_ast.specs.Frozen.{Candidates}
-use Rattle.olap_ast.specs.Schema.{Schema}
-use Rattle.olap_proof.specs.declared.forms.Form.{Form}
-use Rattle.olap_proof.specs.Certificates.{IsCertificateText, Open, Open.Head, Runs, Runs.more, Runs.none, Steps, lines_text}
-use Rattle.olap_proof.specs.Judged.{TextsAreJudged}
-use Rattle.olap_proof.specs.Certificates.{IsFirstWrong}
-use Rattle.olap_proof.proofs.StepLemmas.{FirstStep, FirstStep.first, first_step}
-use Rattle.olap_proof.proofs.DecidingLemmas.{dec_step}
+use Rattle.olap_ast.specs.{Formula.Formula, Frozen.Candidates, Schema.Schema}
+use Rattle.olap_proof.proofs.{DecidingLemmas.dec_step, StepLemmas.{nothing_runs, runs_first}}
+use Rattle.olap_proof.specs.Certificates.{IsCertificateText, Open, Open.Head, Runs, Runs.more, Runs.none, Steps, lines_text, IsFirstWrong}
+use Rattle.olap_proof.specs.{Judged.TextsAreJudged, declared.forms.Form.Form}
+use native.Mathlib.Decide.{ℕ_discrete}
 
 -- ---- a text cut at an LF
 
@@ -83,14 +77,8 @@ module _ (f : Form) (s : Schema) (q : Formula) (k : Candidates) where
     parts = refl;
     run = none;
     too_early = λ e. absurd (cc);
-    stuck = λ line later end e run. nothing line end run;
+    stuck = λ line later end e run. let z : line ∷ [] ≡ [] = nothing_runs f s q k run refl in cc;
   })
-    where
-      nothing : (line : List ℕ) (end : List Open) → Runs f s q k (line ∷ []) [] end → ⊥
-      nothing line end run = go (first_step f s q k run line [] refl)
-        where
-          go : FirstStep f s q k line [] [] end → ⊥
-          go (first o new rest e step r) = cc
   judge (suc n) (o ∷ os) rest l = go (dec_cut (λ line. (new : List Open) × Steps f s q k line o new)
       (λ line. dec_step f s q k line o) rest) (judge n)
     where
@@ -104,14 +92,8 @@ module _ (f : Form) (s : Schema) (q : Formula) (k : Candidates) where
         parts = refl;
         run = none;
         too_early = λ e h. cc;
-        stuck = λ line later end e run. none_there
-            (line, later, e, steps line end (first_step f s q k run line [] refl));
+        stuck = λ line later end e run. let w = runs_first f s q k run in none_there (line, later, e, (w.0, w.1));
       })
-        where
-          steps : (line : List ℕ) (end : List Open) → FirstStep f s q k line [] (o ∷ os) end
-              → (new : List Open) × Steps f s q k line o new
-          steps line end (first x new r e step run) =
-              let z : x ≡ o = cc in (new, subst (λ y. Steps f s q k line y new) z step)
       go (yes t) again = ahead (again (t.3.0 ++ os) t.1 (let h = shorter t.0 t.1 rest t.2 in omega (arith, h)))
         where
           ahead : Certified (t.3.0 ++ os) t.1 ⊎ Stuck (t.3.0 ++ os) t.1 → Certified (o ∷ os) rest ⊎ Stuck (o ∷ os) rest

@@ -1,23 +1,16 @@
 -- Decisions on ways, each on a way that was undecided, and the tables beside them.
 use Rattle.std.proofs.Common.{◌≡◌, ◌≢◌, ℕ, ◌<◌, ◌↔◌, ◌++◌, List, [], ◌∷◌, Bool, true, false, Option, None, Some, arith, drop, length, map, replicate, take, set, eqb, refl, ap, sym, subst, ◌∙◌, inl, inr}
-use Rattle.std.specs.Prelude.{◌==◌, ◌&&◌, ◌||◌, Contains, if◌then◌else◌, not}
-use Rattle.std.specs.FinSet.{contains, contains-empty, empty, insert, remove}
-use Rattle.std.specs.Ordering.{nat_cmp}
-use Rattle.std.proofs.lemmas.List.{length-replicate, map_push, take_at}
+use Rattle.std.proofs.lemmas.{Bool.{and_from, cases_eq, eqb-true, eq-eqb}, List.{length-replicate, map_push, take_at}}
 use Rattle.std.proofs.lemmas.List.Elements.{Contains-append_left, Contains-push, Contains-push_cases}
-use Rattle.olap_base.specs.Limits.{most_categories}
-use Rattle.olap_base.specs.Deciding.{contains_cases, contains_cons}
+use Rattle.std.specs.{FinSet.{contains, contains-empty, empty, insert, remove}, Ordering.nat_cmp}
+use Rattle.std.specs.Prelude.{◌==◌, ◌&&◌, ◌||◌, Contains, if◌then◌else◌, not}
 use Rattle.olap_base.proofs.ListLemmas.{Contains-nil, contains_head, first_true, same_truth, second_true}
-use Rattle.olap_bits.specs.Sets.{members}
-use Rattle.olap_bits.specs.declared.sets.CatSet.{CatSet}
-use Rattle.olap_bits.proofs.CatSetLemmas.{in_insert, in_remove}
-use Rattle.olap_graph.specs.Rows.{row}
-use Rattle.olap_graph.proofs.RowLemmas.{row_other, row_same}
+use Rattle.olap_base.specs.{Deciding.{contains_cases, contains_cons}, Limits.most_categories}
+use Rattle.olap_bits.{proofs.CatSetLemmas.{in_insert, in_remove}, specs.Sets.members, specs.declared.sets.CatSet.CatSet}
+use Rattle.olap_graph.{proofs.RowLemmas.{row_other, row_same}, specs.Rows.row}
 use Rattle.olap_proof.specs.KeptTables.{AreOnce, AreSaid, AreTables}
+use Rattle.olap_proof.specs.{KeptWays.{IsPut, IsTakenOut, leading_way, status_of_marks, way_kept}, Places.{Way, way_of}}
 use Rattle.olap_proof.specs.declared.ways.Way.{Way as OneWay}
-use Rattle.olap_proof.specs.KeptWays.{IsPut, IsTakenOut, leading_way, status_of_marks, way_kept}
-use Rattle.olap_proof.specs.Places.{Way, way_of}
-use Rattle.std.proofs.lemmas.Bool.{and_from, cases_eq, eqb-true, eq-eqb}
 use Rattle.olap_trail.proofs.TakingLemmas.{row_none}
 
 -- ---- decisions

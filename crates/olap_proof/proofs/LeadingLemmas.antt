@@ -1,26 +1,18 @@
 -- What a line does in a tree, and above one.
 use Rattle.std.proofs.Common.{◌≡◌, ◌==◌, ℕ, ◌+◌, ◌++◌, List, [], ◌∷◌, length, map, true, false, codes, refl, ap, sym, subst, ◌∙◌}
 use Rattle.std.specs.Prelude.{Contains, Some}
-use Rattle.olap_base.specs.Graph.{Graph, IsCategory, category_count}
+use Rattle.olap_base.{proofs.ListLemmas.list_any_is, specs.Graph.{Graph, IsCategory, category_count}}
 use Rattle.olap_base.specs.declared.ids.CatId.{CatId}
-use Rattle.olap_base.proofs.ListLemmas.{list_any_is}
 use Rattle.olap_graph.specs.Lookups.{name_of_category}
 use Rattle.olap_names.specs.Names.{Named}
-use Rattle.olap_proof.specs.declared.advancing.Effect.TheVariants.{Still, Closed}
-use Rattle.olap_proof.specs.declared.asking.Asked.{Asked}
-use Rattle.olap_proof.specs.declared.branches.Choice.{Choice}
-use Rattle.olap_proof.specs.declared.forms.Form.{Form}
-use Rattle.olap_proof.specs.declared.stages.Branch.{Branch}
-use Rattle.olap_proof.specs.declared.stages.Stage.{Stage}
-use Rattle.olap_proof.specs.declared.stages.Stage.TheVariants as stage
-use Rattle.olap_proof.specs.Advancing.{Advances}
-use Rattle.olap_proof.specs.Asking.{IsAsked, names_in, question_in, schema_in}
+use Rattle.olap_proof.proofs.{LineLemmas.{parted, unparted}, StageLemmas.{bottom_runs, place_runs}}
+use Rattle.olap_proof.specs.{Advancing.Advances, Asking.{IsAsked, names_in, question_in, schema_in}}
 use Rattle.olap_proof.specs.Branches.{IsBranch, first_of, left_open}
-use Rattle.olap_proof.specs.Certificates.{Open, Open.At, Open.Bottom, bottom_text, start}
-use Rattle.olap_proof.specs.Places.{Place}
+use Rattle.olap_proof.specs.{Certificates.{Open, Open.At, Open.Bottom, bottom_text, start}, Places.Place}
 use Rattle.olap_proof.specs.Stages.{IsStage, RunsFor, StepsTo, bottoms_from, open_at}
-use Rattle.olap_proof.proofs.LineLemmas.{parted, unparted}
-use Rattle.olap_proof.proofs.StageLemmas.{bottom_runs, place_runs}
+use Rattle.olap_proof.specs.declared.{advancing.Effect.TheVariants.{Still, Closed}, asking.Asked.Asked}
+use Rattle.olap_proof.specs.declared.{branches.Choice.Choice, forms.Form.Form, stages.Branch.Branch, stages.Stage.Stage}
+use Rattle.olap_proof.specs.declared.stages.Stage.TheVariants as stage
 
 -- ---- the line above a tree
 

@@ -2,21 +2,15 @@
 --     pair_..              two names with a space between them
 --     edge_..              the edge between two categories
 use Rattle.std.proofs.Common.{◌≡◌, ℕ, zero, suc, ◌<◌, ◌≤◌, ◌++◌, List, [], ◌∷◌, length, get_or, Option, Some, None, refl, ap, sym, subst, ◌∙◌, ◌↔◌, inl, inr, codes, arith}
-use Rattle.std.specs.Prelude.{Contains, IfSome, IsNone, IsSome}
-use Rattle.std.specs.Option.{option_map}
-use Rattle.std.specs.Str.{bytes_eq}
-use Rattle.std.proofs.lemmas.List.Elements.{Contains-append_right, Contains-get_or}
-use Rattle.std.proofs.lemmas.Slice.Eq.{bytes_eq-Decides}
-use Rattle.olap_base.specs.declared.ids.CatId.{CatId}
-use Rattle.olap_base.specs.declared.ids.EdgeId.{EdgeId}
-use Rattle.olap_base.specs.Deciding.{contains_cases, contains_cons}
+use Rattle.std.proofs.lemmas.{List.Elements.{Contains-append_right, Contains-get_or}, Slice.Eq.bytes_eq-Decides}
+use Rattle.std.specs.{Option.option_map, Prelude.{Contains, IfSome, IsNone, IsSome}, Str.bytes_eq}
+use Rattle.olap_base.{proofs.ListLemmas.{Contains-nil, contains_head}, specs.Deciding.{contains_cases, contains_cons}}
 use Rattle.olap_base.specs.Graph.{Edge, Graph, HasEdge, IsCategory, IsCategoryName, IsHierarchy, IsLetterOrDigit}
-use Rattle.olap_base.proofs.ListLemmas.{Contains-nil, contains_head}
-use Rattle.olap_graph.specs.Lookups.{category_named, edge_at, edge_between, joins, name_of_category, names_of}
-use Rattle.olap_graph.proofs.PlaceLemmas.{found, joins-Decides, missing}
-use Rattle.olap_proof.specs.Lines.{edge_words, way_words}
+use Rattle.olap_base.specs.declared.ids.{CatId.CatId, EdgeId.EdgeId}
+use Rattle.olap_graph.proofs.{NamesApart.names_differ, PlaceLemmas.{found, joins-Decides, missing}}
 use Rattle.olap_graph.proofs.TableLemmas.{has_edge_at}
-use Rattle.olap_graph.proofs.NamesApart.{names_differ}
+use Rattle.olap_graph.specs.Lookups.{category_named, edge_at, edge_between, joins, name_of_category, names_of}
+use Rattle.olap_proof.specs.Lines.{edge_words, way_words}
 
 -- ---- marks
 

@@ -1,12 +1,8 @@
 -- Marks in bytes, and numbers that bytes spell.
 use Rattle.std.proofs.Common.{◌≡◌, ℕ, ◌<◌, ◌≤◌, ◌^◌, List, length, take, get_or, Result, Ok, Err, sym, ap, subst, ◌∙◌, arith}
-use Rattle.std.specs.Prelude.{Contains}
-use Rattle.std.specs.Fmt.{decimal}
-use Rattle.std.specs.Str.{IsUtf8}
+use Rattle.std.proofs.lemmas.{Fmt.{IsAscii-decimal, parse-decimal}, List.{get_or-take, get_or_default, length-take-le}}
+use Rattle.std.{proofs.lemmas.Str.IsUtf8-from_ascii, specs.Fmt.decimal, specs.Prelude.Contains, specs.Str.IsUtf8}
 use Rattle.std.specs.Str.Parse.{ParsesUnsigned}
-use Rattle.std.proofs.lemmas.Fmt.{IsAscii-decimal, parse-decimal}
-use Rattle.std.proofs.lemmas.List.{get_or-take, get_or_default, length-take-le}
-use Rattle.std.proofs.lemmas.Str.{IsUtf8-from_ascii}
 
 -- no mark stands in all of the bytes
 pub none_within : (bytes : List ℕ) (mark i : ℕ) → length bytes ≤ i

@@ -1,20 +1,15 @@
 -- A line's bytes are those of one line only.
 use Rattle.std.proofs.Common.{◌≡◌, ◌⊎◌, ℕ, zero, suc, ◌<◌, ◌^◌, List, length, Option, Some, None, refl, ap, sym, ◌∙◌, inl, inr, arith}
-use Rattle.std.specs.Fmt.{decimal}
-use Rattle.std.proofs.lemmas.Fmt.{decimal_injective}
-use Rattle.olap_base.specs.Graph.{Graph, IsCategory, IsHierarchy}
+use Rattle.std.{proofs.lemmas.Fmt.decimal_injective, specs.Fmt.decimal}
+use Rattle.olap_base.{proofs.GeneralLemmas.some_same, specs.Graph.{Graph, IsCategory, IsHierarchy}}
 use Rattle.olap_ast.specs.Schema.{Schema}
+use Rattle.olap_graph.proofs.{NamesApart.names_differ, TableLemmas.has_edge_at}
 use Rattle.olap_graph.specs.Lookups.{edge_at, name_of_category}
-use Rattle.olap_proof.specs.declared.lines.Word.{Word}
-use Rattle.olap_proof.specs.declared.lines.Word.TheVariants as word
-use Rattle.olap_proof.specs.Lines.{Line, Line.Asked, Line.Clash, Line.Cycle, Line.Dead, Line.EdgeOrNot, Line.Loose, Line.NameOf, Line.Shortcut, Line.Unmet, Line.Unreached, Line.WayOrNot, edge_words, line_text, way_words}
-use Rattle.olap_proof.specs.Closing.{IsAbout}
-use Rattle.olap_proof.specs.Reading.{first_of, rest_of, word_text}
 use Rattle.olap_proof.proofs.LineLemmas.{name_plain, pair_once, unparted}
-use Rattle.olap_proof.proofs.ReadingLemmas.{joined_once, line_joined, word_plain, words_differ}
-use Rattle.olap_graph.proofs.TableLemmas.{has_edge_at}
-use Rattle.olap_graph.proofs.NamesApart.{names_differ}
-use Rattle.olap_base.proofs.GeneralLemmas.{some_same}
+use Rattle.olap_proof.{proofs.ReadingLemmas.{joined_once, line_joined, word_plain, words_differ}, specs.Closing.IsAbout}
+use Rattle.olap_proof.specs.Lines.{Line, Line.Asked, Line.Clash, Line.Cycle, Line.Dead, Line.EdgeOrNot, Line.Loose, Line.NameOf, Line.Shortcut, Line.Unmet, Line.Unreached, Line.WayOrNot, edge_words, line_text, way_words}
+use Rattle.olap_proof.specs.{Reading.{first_of, rest_of, word_text}, declared.lines.Word.Word}
+use Rattle.olap_proof.specs.declared.lines.Word.TheVariants as word
 
 -- what stands after the first word
 data Args : Type 0 where
@@ -30,13 +25,11 @@ args_of (EdgeOrNot e) = Edged e
 args_of (NameOf c) = Named c
 args_of (WayOrNot a b) = Paired a b
 args_of (Dead c) = Named c
-args_of Cycle = Nothing
-args_of Shortcut = Nothing
 args_of (Loose e) = Edged e
 args_of (Unreached c) = Named c
 args_of (Clash a b) = Paired a b
 args_of (Unmet n) = Numbered n
-args_of Asked = Nothing
+args_of l = Nothing
 
 -- its bytes
 abbrev rest_text : Graph → Args → Option (List ℕ)
@@ -49,16 +42,7 @@ rest_text g (Numbered n) = Some (decimal (suc n))
 -- and how that is spelt
 rest_is : (g : Graph) (l : Line) → rest_text g (args_of l) ≡ rest_of g l
 rest_is g (EdgeOrNot e) = refl
-rest_is g (NameOf c) = refl
-rest_is g (WayOrNot a b) = refl
-rest_is g (Dead c) = refl
-rest_is g Cycle = refl
-rest_is g Shortcut = refl
-rest_is g (Loose e) = refl
-rest_is g (Unreached c) = refl
-rest_is g (Clash a b) = refl
-rest_is g (Unmet n) = refl
-rest_is g Asked = refl
+rest_is g l = refl
 
 -- what it names is in the schema
 abbrev IsArg : Schema → Args → Type 0
@@ -71,16 +55,7 @@ IsArg s (Numbered n) = n < length s.constraints
 -- a line about the schema says something of the schema
 about : (s : Schema) (l : Line) → IsAbout s l → IsArg s (args_of l)
 about s (EdgeOrNot e) a = a
-about s (NameOf c) a = a
-about s (WayOrNot x y) a = a
-about s (Dead c) a = a
-about s Cycle a = a
-about s Shortcut a = a
-about s (Loose e) a = a
-about s (Unreached c) a = a
-about s (Clash x y) a = a
-about s (Unmet n) a = a
-about s Asked a = a
+about s l a = a
 
 -- the sort of what stands after a word; the bytes tell an edge from a category
 abbrev sort_of : Args → ℕ
@@ -92,30 +67,18 @@ sort_of (Numbered n) = 3
 
 -- what sort of thing stands after a word
 abbrev sort_behind : Word → ℕ
-sort_behind word.Edge = 1
-sort_behind word.Name = 1
 sort_behind word.Reach = 2
-sort_behind word.Dead = 1
 sort_behind word.Cycle = 0
 sort_behind word.Shortcut = 0
-sort_behind word.Loose = 1
 sort_behind word.Steps = 2
 sort_behind word.Constraint = 3
 sort_behind word.Question = 0
+sort_behind w = 1
 
 -- and it does
 sort_is : (l : Line) → sort_of (args_of l) ≡ sort_behind (first_of l)
 sort_is (EdgeOrNot e) = refl
-sort_is (NameOf c) = refl
-sort_is (WayOrNot a b) = refl
-sort_is (Dead c) = refl
-sort_is Cycle = refl
-sort_is Shortcut = refl
-sort_is (Loose e) = refl
-sort_is (Unreached c) = refl
-sort_is (Clash a b) = refl
-sort_is (Unmet n) = refl
-sort_is Asked = refl
+sort_is l = refl
 
 -- ---- the line again
 
@@ -129,19 +92,14 @@ first_arg (Numbered n) = n
 
 -- and the second
 abbrev second_arg : Args → ℕ
-second_arg Nothing = 0
-second_arg (Named c) = 0
 second_arg (Paired a b) = b
-second_arg (Edged e) = 0
-second_arg (Numbered n) = 0
+second_arg a = 0
 
 -- the line that begins with `loose`
 abbrev loose_line : Args → Line
-loose_line Nothing = Asked
 loose_line (Named c) = Unreached c
-loose_line (Paired a b) = Asked
 loose_line (Edged e) = Loose e
-loose_line (Numbered n) = Asked
+loose_line a = Asked
 
 -- the line of a word and what stands after it
 abbrev line_with : Word → Args → Line
@@ -159,16 +117,7 @@ line_with word.Question x = Asked
 -- each line is that of its word and what stands after it
 again : (l : Line) → line_with (first_of l) (args_of l) ≡ l
 again (EdgeOrNot e) = refl
-again (NameOf c) = refl
-again (WayOrNot a b) = refl
-again (Dead c) = refl
-again Cycle = refl
-again Shortcut = refl
-again (Loose e) = refl
-again (Unreached c) = refl
-again (Clash a b) = refl
-again (Unmet n) = refl
-again Asked = refl
+again l = refl
 
 -- ---- once
 
@@ -212,40 +161,23 @@ edge_once g h e f l m q =
 args_once : (s : Schema) → IsHierarchy s.graph → length s.constraints < 2 ^ 64 → (x y : Args) → IsArg s x → IsArg s y
     → sort_of x ≡ sort_of y → rest_text s.graph x ≡ rest_text s.graph y → x ≡ y
 args_once s h few Nothing Nothing a b t q = refl
-args_once s h few Nothing (Named d) a b t q = absurd (omega (arith, t))
-args_once s h few Nothing (Paired c d) a b t q = absurd (omega (arith, t))
-args_once s h few Nothing (Edged e) a b t q = absurd (omega (arith, t))
-args_once s h few Nothing (Numbered n) a b t q = absurd (omega (arith, t))
-args_once s h few (Named c) Nothing a b t q = absurd (omega (arith, t))
 args_once s h few (Named c) (Named d) a b t q = ap Named (names_differ s.graph h c d a b (some_same _ _ q))
-args_once s h few (Named c) (Paired d e) a b t q = absurd (omega (arith, t))
 args_once s h few (Named c) (Edged e) a b t q =
     absurd (unparted 32 (name_of_category s.graph c) (name_of_category s.graph (edge_at s.graph e).child)
     (name_of_category s.graph (edge_at s.graph e).parent) (name_plain s.graph h c a 32 (omega arith))
     (sym (some_same _ _ q)))
-args_once s h few (Named c) (Numbered n) a b t q = absurd (omega (arith, t))
-args_once s h few (Paired c d) Nothing a b t q = absurd (omega (arith, t))
-args_once s h few (Paired c d) (Named e) a b t q = absurd (omega (arith, t))
 args_once s h few (Paired c d) (Paired e f) a b t q =
     let p = pair_once s.graph h c d e f a.0 a.1 b.0 b.1 (some_same _ _ q) in
     ap (λ x. Paired x d) p.0 ∙ ap (λ y. Paired e y) p.1
-args_once s h few (Paired c d) (Edged e) a b t q = absurd (omega (arith, t))
-args_once s h few (Paired c d) (Numbered n) a b t q = absurd (omega (arith, t))
-args_once s h few (Edged e) Nothing a b t q = absurd (omega (arith, t))
 args_once s h few (Edged e) (Named c) a b t q =
     absurd (unparted 32 (name_of_category s.graph c) (name_of_category s.graph (edge_at s.graph e).child)
     (name_of_category s.graph (edge_at s.graph e).parent) (name_plain s.graph h c b 32 (omega arith)) (some_same _ _ q))
-args_once s h few (Edged e) (Paired c d) a b t q = absurd (omega (arith, t))
 args_once s h few (Edged e) (Edged f) a b t q = ap Edged (edge_once s.graph h e f a b (some_same _ _ q))
-args_once s h few (Edged e) (Numbered n) a b t q = absurd (omega (arith, t))
-args_once s h few (Numbered n) Nothing a b t q = absurd (omega (arith, t))
-args_once s h few (Numbered n) (Named c) a b t q = absurd (omega (arith, t))
-args_once s h few (Numbered n) (Paired c d) a b t q = absurd (omega (arith, t))
-args_once s h few (Numbered n) (Edged e) a b t q = absurd (omega (arith, t))
 args_once s h few (Numbered n) (Numbered m) a b t q =
     let same : suc n ≡ suc m =
     decimal_injective (suc n) (suc m) (omega (arith, a, few)) (omega (arith, b, few)) (some_same _ _ q) in
     ap Numbered (omega (arith, same))
+args_once s h few x y a b t q = absurd (omega (arith, t))
 
 -- two lines about a schema with the same bytes are one
 pub line_once : (s : Schema) → IsHierarchy s.graph → length s.constraints < 2 ^ 64 → (l m : Line) → IsAbout s l

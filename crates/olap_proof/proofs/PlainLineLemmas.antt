@@ -1,29 +1,16 @@
 -- No line that does something has an LF in it.
 use Rattle.std.proofs.Common.{◌≡◌, ◌⊎◌, ℕ, suc, ◌<◌, ◌≤◌, ◌^◌, List, [], ◌∷◌, length, true, false, refl, sym, subst, ◌∙◌, inl, inr, codes, arith}
-use Rattle.std.specs.Prelude.{Contains, ◌==◌}
-use Rattle.std.specs.Fmt.{decimal}
-use Rattle.std.specs.Str.Parse.{AllDigits}
-use Rattle.std.specs.List.{list_any}
-use Rattle.std.specs.Char.{digit_value}
-use Rattle.std.proofs.lemmas.Fmt.{decimal_is_IsNumeral}
-use Rattle.std.proofs.lemmas.Str.Parse.{digit_from_value}
-use Rattle.std.proofs.Math.ListN.{get_or-eq_default}
-use Rattle.std.proofs.lemmas.List.Elements.{Contains-append_cases}
-use Rattle.olap_base.specs.Deciding.{contains_cases}
+use Rattle.std.proofs.{Math.ListN.get_or-eq_default, lemmas.Fmt.decimal_is_IsNumeral}
+use Rattle.std.proofs.lemmas.{List.Elements.Contains-append_cases, Str.Parse.digit_from_value}
+use Rattle.std.specs.{Char.digit_value, Fmt.decimal, List.list_any, Prelude.{Contains, ◌==◌}, Str.Parse.AllDigits}
+use Rattle.olap_base.{proofs.ListLemmas.{Contains-nil, list_any_is}, specs.Deciding.contains_cases}
 use Rattle.olap_base.specs.Graph.{Graph, IsHierarchy, category_count}
-use Rattle.olap_base.proofs.ListLemmas.{Contains-nil, list_any_is}
-use Rattle.olap_ast.specs.Formula.{Formula}
-use Rattle.olap_ast.specs.Frozen.{Candidates}
-use Rattle.olap_ast.specs.Schema.{Schema}
+use Rattle.olap_ast.specs.{Formula.Formula, Frozen.Candidates, Schema.Schema}
 use Rattle.olap_graph.specs.Lookups.{name_of_category, names_of}
-use Rattle.olap_proof.specs.declared.forms.Form.{Form}
-use Rattle.olap_proof.specs.declared.forms.Form.TheVariants.{Long, Short}
+use Rattle.olap_proof.proofs.{DoingLemmas.step_does, LineLemmas.name_plain, StepLemmas.{step_bottom, step_head}}
+use Rattle.olap_proof.specs.{Certificates.{Open, Open.At, Open.Bottom, Open.Head, Steps, head_text}, Closing.IsAbout}
 use Rattle.olap_proof.specs.Lines.{Line, Line.Asked, Line.Clash, Line.Cycle, Line.Dead, Line.EdgeOrNot, Line.Loose, Line.NameOf, Line.Shortcut, Line.Unmet, Line.Unreached, Line.WayOrNot, line_text, way_words, words}
-use Rattle.olap_proof.specs.Closing.{IsAbout}
-use Rattle.olap_proof.specs.Certificates.{Open, Open.At, Open.Bottom, Open.Head, Steps, head_text}
-use Rattle.olap_proof.proofs.DoingLemmas.{step_does}
-use Rattle.olap_proof.proofs.LineLemmas.{name_plain}
-use Rattle.olap_proof.proofs.StepLemmas.{step_bottom, step_head}
+use Rattle.olap_proof.specs.declared.forms.Form.{Form, TheVariants.{Long, Short}}
 
 -- no LF is in the text
 abbrev pub IsWhole : List ℕ → Type 0

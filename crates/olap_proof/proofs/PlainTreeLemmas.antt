@@ -3,32 +3,22 @@
 --     name_tree         and trees for each name below the line of a category
 --     certificates_exist_exactly_where_summarizable
 use Rattle.std.proofs.Common.{◌≡◌, ℕ, zero, suc, ◌+◌, ◌<◌, ◌≤◌, List, [], ◌∷◌, ◌++◌, length, map, Bool, true, false, cond, Some, None, refl, ap, sym, subst, ◌∙◌, inl, inr, arith}
+use Rattle.std.proofs.lemmas.{Bool.{ne_eqb, eq-eqb}, List.map_push, List.Elements.{All-nil, All-push, Contains-get_or}}
+use Rattle.std.{proofs.lemmas.List.Quantifiers.all_pairs_push, specs.List.{list_any, range_with_len}}
 use Rattle.std.specs.Prelude.{AllPairs, Contains, ◌==◌, ◌≢◌, not}
-use Rattle.std.specs.List.{list_any, range_with_len}
-use Rattle.std.proofs.lemmas.Bool.{ne_eqb, eq-eqb}
-use Rattle.std.proofs.lemmas.List.{map_push}
-use Rattle.std.proofs.lemmas.List.Elements.{All-nil, All-push, Contains-get_or}
-use Rattle.std.proofs.lemmas.List.Quantifiers.{all_pairs_push}
-use native.Mathlib.Decide.{ℕ_discrete}
+use Rattle.olap_base.proofs.ListLemmas.{Contains-from_filter, Contains-from_range, Contains-from_range_at, Contains-nil, contains_head, list_any_is}
 use Rattle.olap_base.specs.Deciding.{contains_cases, contains_cons}
 use Rattle.olap_base.specs.Graph.{Edge, Graph, HasEdge, IsBottom, IsCategory, IsDeclared, IsHierarchy}
-use Rattle.olap_base.proofs.ListLemmas.{Contains-from_filter, Contains-from_range, Contains-from_range_at, Contains-nil, contains_head, list_any_is}
-use Rattle.olap_ast.specs.Formula.{Formula}
-use Rattle.olap_ast.specs.Frozen.{AreCandidates, Candidates, Frozen, IsFrozen}
-use Rattle.olap_ast.specs.Schema.{Schema}
-use Rattle.olap_ast.specs.Summarizable.{not_by_one}
-use Rattle.olap_ast.proofs.Summing.{summarizable_exactly}
+use Rattle.olap_ast.{proofs.Summing.summarizable_exactly, specs.Formula.Formula}
+use Rattle.olap_ast.specs.{Frozen.{AreCandidates, Candidates, Frozen, IsFrozen}, Schema.Schema, Summarizable.not_by_one}
 use Rattle.olap_trail.specs.Decisions.{AreDecisions, Decision, status_in}
-use Rattle.olap_proof.specs.declared.forms.Form.{Form}
-use Rattle.olap_proof.specs.Certificates.{IsCertificate, Open, Open.At, Open.Bottom, Runs, Runs.more, Runs.none, Steps.begins, Steps.edges, Steps.names, Steps.roots, bottom_text, bottoms_of, head_text, indexes_of, start, with_edge, with_name}
-use Rattle.olap_proof.specs.Existing.{CertificatesExistExactlyWhereSummarizable}
-use Rattle.olap_proof.specs.FullPlaces.{IsFull}
-use Rattle.olap_proof.specs.Lines.{Line, Line.EdgeOrNot, Line.NameOf, line_text}
-use Rattle.olap_proof.specs.Closing.{Closes, IsAbout}
-use Rattle.olap_proof.specs.Places.{Naming, Place, index_of}
-use Rattle.olap_proof.proofs.CertificateLemmas.{certificates_are_right}
-use Rattle.olap_proof.proofs.ClosingLemmas.{full_places_close}
+use Rattle.olap_proof.proofs.{CertificateLemmas.certificates_are_right, ClosingLemmas.full_places_close}
 use Rattle.olap_proof.proofs.ReasonLemmas.{closing}
+use Rattle.olap_proof.specs.Certificates.{IsCertificate, Open, Open.At, Open.Bottom, Runs, Runs.more, Runs.none, Steps.begins, Steps.edges, Steps.names, Steps.roots, bottom_text, bottoms_of, head_text, indexes_of, start, with_edge, with_name}
+use Rattle.olap_proof.specs.{Closing.{Closes, IsAbout}, Existing.CertificatesExistExactlyWhereSummarizable}
+use Rattle.olap_proof.specs.{FullPlaces.IsFull, Lines.{Line, Line.EdgeOrNot, Line.NameOf, line_text}}
+use Rattle.olap_proof.specs.{Places.{Naming, Place, index_of}, declared.forms.Form.Form}
+use native.Mathlib.Decide.{ℕ_discrete}
 
 -- ---- decisions on edges
 

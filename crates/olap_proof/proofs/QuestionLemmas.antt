@@ -1,21 +1,15 @@
 -- The question of summarizability, and the names that it and a schema speak of.
-use Rattle.std.proofs.Common.{◌≡◌, ℕ, List, subst, sym}
-use Rattle.std.specs.Prelude.{All, Err, IfOk, Ok, OnOk, Result}
+use Rattle.std.{proofs.Common.{◌≡◌, ℕ, List, subst, sym}, specs.Prelude.{All, Err, IfOk, Ok, OnOk, Result}}
 use Rattle.olap_base.specs.Graph.{Graph, IsBottom, IsCategory, IsHierarchy}
-use Rattle.olap_ast.specs.Formula.{Formula}
-use Rattle.olap_ast.specs.Frozen.{AreCandidates, Candidates, Frozen, IsFrozen}
-use Rattle.olap_ast.specs.Schema.{Constraint, Schema}
-use Rattle.olap_ast.specs.Summarizable.{IsSummarizable, not_by_one}
+use Rattle.olap_ast.proofs.{SourceLemmas.{question_at, question_few}, Summing.summarizable_exactly}
+use Rattle.olap_ast.specs.{Formula.Formula, Frozen.{AreCandidates, Candidates, Frozen, IsFrozen}}
+use Rattle.olap_ast.specs.{Schema.{Constraint, Schema}, Summarizable.{IsSummarizable, not_by_one}}
 use Rattle.olap_ast.specs.Valid.{IsFormulaAt, IsValidSchema}
-use Rattle.olap_ast.proofs.SourceLemmas.{question_at, question_few}
-use Rattle.olap_ast.proofs.Summing.{summarizable_exactly}
-use Rattle.olap_names.specs.Names.{CanBeNamed, with_graph}
-use Rattle.olap_names.proofs.NameableLemmas.{can_be_named}
-use Rattle.olap_proof.specs.declared.forms.Form.{Form}
-use Rattle.olap_proof.specs.Certificates.{IsCertificateText}
+use Rattle.olap_names.{proofs.NameableLemmas.can_be_named, specs.Names.{CanBeNamed, with_graph}}
+use Rattle.olap_proof.{proofs.CertificateLemmas.certificates_are_right, specs.Certificates.IsCertificateText}
 use Rattle.olap_proof.specs.Trees.{HasNoFrozen}
 use Rattle.olap_proof.specs.Verifying.{IsCertificateFor, IsCertificateOf, IsFirstWrongFor, IsFirstWrongOf}
-use Rattle.olap_proof.proofs.CertificateLemmas.{certificates_are_right}
+use Rattle.olap_proof.specs.declared.forms.Form.{Form}
 
 -- ---- names
 

@@ -1,17 +1,13 @@
 -- A line's first word and what stands after it.
 use Rattle.std.proofs.Common.{◌≡◌, ℕ, ◌<◌, ◌++◌, List, [], ◌∷◌, arith, get_or, length, true, false, cond, Option, Some, None, refl, ap, sym, ◌∙◌, Bor}
-use Rattle.std.specs.Prelude.{Contains, IfSome, IsNone, ◌==◌, ◌≢◌}
-use Rattle.std.specs.Option.{option_map}
-use Rattle.std.specs.List.{list_any}
-use Rattle.olap_base.specs.Graph.{Graph}
-use Rattle.olap_base.proofs.ListLemmas.{list_any_is}
+use Rattle.std.specs.{List.list_any, Option.option_map, Prelude.{Contains, IfSome, IsNone, ◌==◌, ◌≢◌}}
+use Rattle.olap_base.{proofs.ListLemmas.list_any_is, specs.Graph.Graph}
 use Rattle.olap_ast.specs.Schema.{Schema}
+use Rattle.olap_proof.{proofs.LineLemmas.{parted, unparted}, specs.Lines.{Line, Line.EdgeOrNot, line_text, words}}
+use Rattle.olap_proof.specs.Reading.{IsLineOf, IsReading, first_of, meaning, rest_of, word_at, word_text}
 use Rattle.olap_proof.specs.declared.lines.Word.{Word}
 use Rattle.olap_proof.specs.declared.lines.Word.TheVariants as word
-use Rattle.olap_proof.specs.Lines.{Line, Line.Asked, Line.Clash, Line.Cycle, Line.Dead, Line.EdgeOrNot, Line.Loose, Line.NameOf, Line.Shortcut, Line.Unmet, Line.Unreached, Line.WayOrNot, line_text, words}
 use Rattle.olap_proof.specs.declared.lines.Line as program
-use Rattle.olap_proof.specs.Reading.{IsLineOf, IsReading, first_of, meaning, rest_of, word_at, word_text}
-use Rattle.olap_proof.proofs.LineLemmas.{parted, unparted}
 
 -- a word with what stands after it
 abbrev pub joined : List ℕ → Option (List ℕ) → List ℕ
@@ -21,16 +17,7 @@ joined w (Some rest) = words w rest
 -- a line is its first word with what stands after it
 pub line_joined : (g : Graph) (l : Line) → joined (word_text (first_of l)) (rest_of g l) ≡ line_text g l
 line_joined g (EdgeOrNot e) = refl
-line_joined g (NameOf c) = refl
-line_joined g (WayOrNot a b) = refl
-line_joined g (Dead c) = refl
-line_joined g Cycle = refl
-line_joined g Shortcut = refl
-line_joined g (Loose e) = refl
-line_joined g (Unreached c) = refl
-line_joined g (Clash a b) = refl
-line_joined g (Unmet n) = refl
-line_joined g Asked = refl
+line_joined g l = refl
 
 -- what is joined is joined of one word and one rest
 pub joined_once : (w x : List ℕ) (r t : Option (List ℕ)) → (Contains w 32 → ⊥) → (Contains x 32 → ⊥)
@@ -45,15 +32,7 @@ joined_once w x (Some r) (Some t) n m e = let p = parted 32 w r x t n m e in (p.
 -- no word has a space
 no_space : (w : Word) → list_any (λ b. b == 32) (word_text w) ≡ false
 no_space word.Edge = refl
-no_space word.Name = refl
-no_space word.Reach = refl
-no_space word.Dead = refl
-no_space word.Cycle = refl
-no_space word.Shortcut = refl
-no_space word.Loose = refl
-no_space word.Steps = refl
-no_space word.Constraint = refl
-no_space word.Question = refl
+no_space w = refl
 
 -- no space stands in a word
 pub word_plain : (w : Word) → Contains (word_text w) 32 → ⊥
@@ -74,15 +53,7 @@ word_in bytes = word_by (get_or bytes 0 0) (get_or bytes 1 0)
 -- which tell each word
 word_again : (w : Word) → word_in (word_text w) ≡ w
 word_again word.Edge = refl
-word_again word.Name = refl
-word_again word.Reach = refl
-word_again word.Dead = refl
-word_again word.Cycle = refl
-word_again word.Shortcut = refl
-word_again word.Loose = refl
-word_again word.Steps = refl
-word_again word.Constraint = refl
-word_again word.Question = refl
+word_again w = refl
 
 -- two words have different bytes
 pub words_differ : (w x : Word) → word_text w ≡ word_text x → w ≡ x

@@ -1,76 +1,45 @@
 -- Lines that aren't a certificate.
 --     edges_are_decided_once ..       the laws
 use Rattle.std.proofs.Common.{◌≡◌, ℕ, zero, suc, ◌+◌, ◌++◌, List, [], ◌∷◌, length, get_or, map, true, false, None, refl, ap, sym, subst, ◌∙◌, ◌⊎◌, inl, inr, add-one, arith}
-use Rattle.std.specs.Prelude.{codes}
-use Rattle.std.specs.List.{range_with_len}
+use Rattle.std.specs.{List.range_with_len, Prelude.codes}
 use Rattle.olap_ast.specs.Frozen.{Candidates}
-use Rattle.olap_proof.specs.declared.forms.Form.{Form}
+use Rattle.olap_proof.proofs.StepLemmas.{AtStep, AtStep.by_edge, AtStep.by_name, AtStep.by_reason, AtStep.by_way, runs_first, step_at, step_bottom, step_head}
+use Rattle.olap_proof.specs.Certificates.{IsCertificate, Open, Open.At, Open.Bottom, Runs, bottom_text, head_text, indexes_of, start, with_edge, with_name}
+use Rattle.olap_proof.specs.Closing.{Closes, IsAbout}
+use Rattle.olap_proof.specs.Examples.{EdgesAreDecidedOnce, LinesAreSpelledExactly, NamesAreDecidedOnce, TheRootIsNotLoose, chain, city_not_by_store}
+use Rattle.olap_proof.specs.Lines.{Line, Line.EdgeOrNot, Line.Loose, Line.NameOf, Line.Unreached, Line.WayOrNot, line_text}
+use Rattle.olap_proof.specs.{Places.{Place, index_of}, declared.forms.Form.Form}
 use Rattle.olap_proof.specs.declared.forms.Form.TheVariants.{Long, Short}
 use Rattle.olap_trail.specs.Decisions.{status_of}
-use Rattle.olap_proof.specs.Places.{Place, index_of}
-use Rattle.olap_proof.specs.Lines.{Line, Line.Asked, Line.Clash, Line.Cycle, Line.Dead, Line.EdgeOrNot, Line.Loose, Line.NameOf, Line.Shortcut, Line.Unmet, Line.Unreached, Line.WayOrNot, line_text}
-use Rattle.olap_proof.specs.Closing.{Closes, IsAbout}
-use Rattle.olap_proof.specs.Certificates.{IsCertificate, Open, Open.At, Open.Bottom, Open.Head, Runs, bottom_text, head_text, indexes_of, start, with_edge, with_name}
-use Rattle.olap_proof.specs.Examples.{EdgesAreDecidedOnce, LinesAreSpelledExactly, NamesAreDecidedOnce, TheRootIsNotLoose, chain, city_not_by_store}
-use Rattle.olap_proof.proofs.StepLemmas.{AtStep, AtStep.by_edge, AtStep.by_name, AtStep.by_reason, AtStep.by_way, FirstStep, FirstStep.first, first_step, step_at, step_bottom, step_head}
 
 -- the n-th byte of a line
 abbrev byte : ℕ → List ℕ → ℕ
 byte n line = get_or line n 0
 
--- what is open first
-abbrev first_open : List Open → Open
-first_open [] = Head
-first_open (o ∷ os) = o
-
--- what is open after it
-abbrev later_open : List Open → List Open
-later_open [] = []
-later_open (o ∷ os) = os
-
 module _ (f : Form) (k : Candidates) where
   -- after the first line the bottom category is open
   opened : (lines : List (List ℕ)) → IsCertificate f chain city_not_by_store k (head_text f ∷ lines)
       → Runs f chain city_not_by_store k lines (Bottom 1 ∷ []) []
-  opened lines run = go (first_step f chain city_not_by_store k run (head_text f) lines refl)
-    where
-      go : FirstStep f chain city_not_by_store k (head_text f) lines (Head ∷ []) []
-          → Runs f chain city_not_by_store k lines (Bottom 1 ∷ []) []
-      go (first o new rest e step left) =
-          let n = (step_head f chain city_not_by_store k step (sym (ap first_open e))).1 in
-          subst (λ os. Runs f chain city_not_by_store k lines os [])
-          (ap (λ os. os ++ rest) n ∙ ap (λ os. Bottom 1 ∷ os) (sym (ap later_open e))) left
+  opened lines run =
+      let t = runs_first f chain city_not_by_store k run in
+      subst (λ os. Runs f chain city_not_by_store k lines (os ++ []) [])
+      (step_head f chain city_not_by_store k t.1 refl).1 t.2
 
   -- its line opens its tree
   begun : (line : List ℕ) (lines : List (List ℕ)) → Runs f chain city_not_by_store k (line ∷ lines) (Bottom 1 ∷ []) []
       → (line ≡ bottom_text chain.graph 1) × Runs f chain city_not_by_store k lines (At (start chain.graph 1) ∷ []) []
-  begun line lines run = go (first_step f chain city_not_by_store k run line lines refl)
-    where
-      go : FirstStep f chain city_not_by_store k line lines (Bottom 1 ∷ []) []
-          → (line ≡ bottom_text chain.graph 1)
-          × Runs f chain city_not_by_store k lines (At (start chain.graph 1) ∷ []) []
-      go (first o new rest e step left) =
-          let n = step_bottom f chain city_not_by_store k step 1 (sym (ap first_open e)) in (
-            n.0,
-            subst (λ os. Runs f chain city_not_by_store k lines os [])
-                (ap (λ os. os ++ rest) n.1 ∙ ap (λ os. At (start chain.graph 1) ∷ os) (sym (ap later_open e))) left,
-          )
+  begun line lines run =
+      let t = runs_first f chain city_not_by_store k run in
+      let n = step_bottom f chain city_not_by_store k t.1 1 refl in
+      (n.0, subst (λ os. Runs f chain city_not_by_store k lines (os ++ []) []) n.1 t.2)
 
   -- a line in it does something with its first place
   went_on : (line : List ℕ) (lines : List (List ℕ)) (p : Place) (os : List Open)
       → Runs f chain city_not_by_store k (line ∷ lines) (At p ∷ os) []
       → (new : List Open) × AtStep f chain city_not_by_store k line p new
       × Runs f chain city_not_by_store k lines (new ++ os) []
-  went_on line lines p os run = go (first_step f chain city_not_by_store k run line lines refl)
-    where
-      go : FirstStep f chain city_not_by_store k line lines (At p ∷ os) []
-          → (new : List Open) × AtStep f chain city_not_by_store k line p new
-          × Runs f chain city_not_by_store k lines (new ++ os) []
-      go (first o new rest e step left) = (
-        new,
-        step_at f chain city_not_by_store k step p (sym (ap first_open e)),
-        subst (λ os. Runs f chain city_not_by_store k lines os []) (ap (λ r. new ++ r) (sym (ap later_open e))) left,
-      )
+  went_on line lines p os run =
+      let t = runs_first f chain city_not_by_store k run in (t.0, step_at f chain city_not_by_store k t.1 p refl, t.2)
 
   -- no reason is spelled like a split
   no_reason : (b : ℕ) (p : Place) (l : Line) → (b ≡ 101) ⊎ (b ≡ 110) → byte 0 (line_text chain.graph l) ≡ b
@@ -78,14 +47,7 @@ module _ (f : Form) (k : Candidates) where
   no_reason b p (EdgeOrNot e) w q h = h
   no_reason b p (NameOf c) w q h = h
   no_reason b p (WayOrNot x y) w q h = h
-  no_reason b p (Dead c) w q h = omega (arith, w, q)
-  no_reason b p Cycle w q h = omega (arith, w, q)
-  no_reason b p Shortcut w q h = omega (arith, w, q)
-  no_reason b p (Loose e) w q h = omega (arith, w, q)
-  no_reason b p (Unreached c) w q h = omega (arith, w, q)
-  no_reason b p (Clash x y) w q h = omega (arith, w, q)
-  no_reason b p (Unmet n) w q h = omega (arith, w, q)
-  no_reason b p Asked w q h = omega (arith, w, q)
+  no_reason b p l w q h = omega (arith, w, q)
 
   -- the line splits by the edge from Store to City, where that is undecided
   edge_split : (p : Place) (new : List Open) → AtStep f chain city_not_by_store k (codes "edge Store City") p new
@@ -160,19 +122,11 @@ dead_closes k p new (by_reason l e a h n) = n
 root_closes : (k : Candidates) (p : Place) (l : Line) → p.decided.root ≡ 1
     → codes "loose Store City" ≡ line_text chain.graph l → IsAbout chain l
     → Closes Long chain city_not_by_store k p l → ⊥
-root_closes k p (EdgeOrNot e) r q a h = h
-root_closes k p (NameOf c) r q a h = h
-root_closes k p (WayOrNot x y) r q a h = h
-root_closes k p (Dead c) r q a h = absurd (let z : 108 ≡ 100 = ap (byte 0) q in omega arith)
-root_closes k p Cycle r q a h = absurd (let z : 108 ≡ 99 = ap (byte 0) q in omega arith)
-root_closes k p Shortcut r q a h = absurd (let z : 108 ≡ 115 = ap (byte 0) q in omega arith)
 root_closes k p (Loose zero) r q a h = h.1.0 (sym r)
-root_closes k p (Loose (suc zero)) r q a h = absurd (let z : 83 ≡ 67 = ap (byte 6) q in omega arith)
-root_closes k p (Loose (suc (suc e))) r q a h = absurd (omega (arith, a))
+root_closes k p (Loose (suc zero)) r q a h = omega (arith, ap (byte 6) q)
+root_closes k p (Loose (suc (suc e))) r q a h = omega (arith, a)
 root_closes k p (Unreached c) r q a h = let z : Long ≡ Short = h.0 in cc
-root_closes k p (Clash x y) r q a h = absurd (let z : 108 ≡ 115 = ap (byte 0) q in omega arith)
-root_closes k p (Unmet n) r q a h = absurd (let z : 108 ≡ 99 = ap (byte 0) q in omega arith)
-root_closes k p Asked r q a h = absurd (let z : 108 ≡ 113 = ap (byte 0) q in omega arith)
+root_closes k p l r q a h = omega (arith, ap (byte 0) q)
 
 -- `loose` doesn't close a place for its root
 root_loose : (k : Candidates) (p : Place) (new : List Open) → p.decided.root ≡ 1

@@ -1,19 +1,16 @@
 -- The edges that the program has seen are those of the definitions' graphs.
-use Rattle.std.proofs.Common.{◌≡◌, ℕ, ◌<◌, ◌⊎◌, List, [], length, map, false, true, ap, refl, sym, subst, ◌∙◌, inl, inr}
-use Rattle.std.specs.Prelude.{Contains, filter}
-use Rattle.std.specs.List.{range_with_len}
+use Rattle.std.proofs.Common.{◌≡◌, ℕ, ◌<◌, ◌⊎◌, List, length, map, false, true, ap, refl, sym, subst, ◌∙◌, inl, inr}
 use Rattle.std.proofs.lemmas.List.{get_or_default}
 use Rattle.std.proofs.lemmas.List.Elements.{Contains-append_cases, Contains-append_left, Contains-append_right, Contains-get_or}
-use Rattle.olap_base.specs.Graph.{Edge, HasEdge}
+use Rattle.std.specs.{List.range_with_len, Prelude.{Contains, filter}}
 use Rattle.olap_base.proofs.ListLemmas.{Contains-filter, Contains-from_filter, Contains-from_map, Contains-from_range, Contains-map, Contains-range}
+use Rattle.olap_base.specs.Graph.{Edge, HasEdge}
 use Rattle.olap_graph.specs.Lookups.{edge_at}
 use Rattle.olap_trail.specs.Decisions.{AreDecisions, Decided, Decision, present_edges, status_of}
-use Rattle.olap_trail.specs.Trails.{decision_of, decisions_of}
-use Rattle.olap_trail.specs.declared.decisions.Decision.{Decision as OneDecision}
-use Rattle.olap_proof.specs.KeptWays.{leading_way}
+use Rattle.olap_trail.specs.{Trails.{decision_of, decisions_of}, declared.decisions.Decision.{Decision as OneDecision}}
+use Rattle.olap_proof.{proofs.KeptWayLemmas.whole, specs.KeptWays.leading_way}
 use Rattle.olap_proof.specs.Places.{Place, Way, edge_of_way, leading_graph, possible_graph}
 use Rattle.olap_proof.specs.Seen.{is_possible, LeadsHere, SeenDecisions, SeenPossible, decision_at}
-use Rattle.olap_proof.proofs.KeptWayLemmas.{whole}
 
 -- ---- edges that weren't decided absent
 

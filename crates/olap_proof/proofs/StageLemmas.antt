@@ -3,29 +3,20 @@
 --     done_none                                  and where nothing is
 --     reached_start, reached_more                lines one after another
 use Rattle.std.proofs.Common.{◌≡◌, ℕ, suc, ◌+◌, ◌-◌, ◌<◌, ◌≤◌, ◌^◌, ◌++◌, List, [], ◌∷◌, length, map, Bool, true, false, cond, refl, ap, sym, subst, ◌∙◌, arith}
-use Rattle.std.specs.Prelude.{◌≢◌, Contains, IfSome, None, Option, Some, filter}
-use Rattle.std.specs.List.{range_with_len}
-use Rattle.std.proofs.lemmas.List.{append_assoc, append-nil, length-append}
-use Rattle.std.proofs.lemmas.List.Concat.{flat_map-append}
-use Rattle.std.proofs.lemmas.List.Elements.{Contains-append_right}
-use Rattle.olap_base.specs.Graph.{Graph, IsBottom, IsHierarchy, category_count}
+use Rattle.std.proofs.lemmas.{Bool.false_from_ne_true, List.{append_assoc, append-nil, length-append}}
+use Rattle.std.proofs.lemmas.List.{Concat.flat_map-append, Elements.Contains-append_right}
+use Rattle.std.specs.{List.range_with_len, Prelude.{◌≢◌, Contains, IfSome, None, Option, Some, filter}}
 use Rattle.olap_base.proofs.ListLemmas.{Contains-filter, Contains-from_filter, Contains-range_at, contains_head}
-use Rattle.olap_ast.specs.Formula.{Formula}
-use Rattle.olap_ast.specs.Frozen.{Candidates}
-use Rattle.olap_ast.specs.Schema.{Schema}
-use Rattle.olap_proof.specs.declared.asking.Asked.{Asked}
-use Rattle.olap_proof.specs.declared.forms.Form.{Form}
-use Rattle.olap_proof.specs.declared.stages.Stage.{Stage}
+use Rattle.olap_base.specs.Graph.{Graph, IsBottom, IsHierarchy, category_count}
+use Rattle.olap_ast.specs.{Formula.Formula, Frozen.Candidates, Schema.Schema}
+use Rattle.olap_proof.proofs.{CertificateLemmas.bottom_listed, LineLemmas.parted, PlainLineLemmas.step_whole}
+use Rattle.olap_proof.proofs.PlainTreeLemmas.{listed_bottom}
+use Rattle.olap_proof.proofs.StepLemmas.{FirstStep, FirstStep.first, first_step, runs_first, step_bottom, step_head}
 use Rattle.olap_proof.specs.Asking.{names_in, question_in, schema_in}
 use Rattle.olap_proof.specs.Certificates.{IsCertificateText, IsFirstWrong, Open, Open.At, Open.Bottom, Open.Head, Runs, Runs.more, Runs.none, Steps, Steps.begins, Steps.roots, bottom_text, bottoms_of, head_text, lines_text, start}
 use Rattle.olap_proof.specs.Places.{Place}
 use Rattle.olap_proof.specs.Stages.{IsReached, IsStage, RunsFor, StepsTo, bottoms_from, has_no_child, open_at}
-use Rattle.olap_proof.proofs.CertificateLemmas.{bottom_listed}
-use Rattle.olap_proof.proofs.LineLemmas.{parted}
-use Rattle.olap_proof.proofs.PlainLineLemmas.{step_whole}
-use Rattle.olap_proof.proofs.PlainTreeLemmas.{listed_bottom}
-use Rattle.olap_proof.proofs.StepLemmas.{FirstStep, FirstStep.first, first_step, step_bottom, step_head}
-use Rattle.std.proofs.lemmas.Bool.{false_from_ne_true}
+use Rattle.olap_proof.specs.declared.{asking.Asked.Asked, forms.Form.Form, stages.Stage.Stage}
 
 -- ---- bottom categories
 
@@ -75,10 +66,7 @@ module _ (f : Form) (s : Schema) (q : Formula) (k : Candidates) where
 
   pub head_none : (line : List ℕ) → (line ≡ head_text f → ⊥) → (left : List Open)
       → Runs f s q k (line ∷ []) (Head ∷ []) left → ⊥
-  head_none line n left run = go (first_step f s q k run line [] refl)
-    where
-      go : FirstStep f s q k line [] (Head ∷ []) left → ⊥
-      go (first o new rest e step r) = let h : o ≡ Head = cc in n (step_head f s q k step h).0
+  head_none line n left run = n (step_head f s q k (runs_first f s q k run).1 refl).0
 
   pub bottom_runs : (line : List ℕ) (b : ℕ) (rest : List Open) (p : Place) → line ≡ bottom_text s.graph b
       → p ≡ start s.graph b → Runs f s q k (line ∷ []) (Bottom b ∷ rest) (At p ∷ rest)
@@ -89,10 +77,7 @@ module _ (f : Form) (s : Schema) (q : Formula) (k : Candidates) where
 
   pub bottom_none : (line : List ℕ) (b : ℕ) (rest : List Open) → (line ≡ bottom_text s.graph b → ⊥)
       → (left : List Open) → Runs f s q k (line ∷ []) (Bottom b ∷ rest) left → ⊥
-  bottom_none line b others n left run = go (first_step f s q k run line [] refl)
-    where
-      go : FirstStep f s q k line [] (Bottom b ∷ others) left → ⊥
-      go (first o new rest e step r) = let h : o ≡ Bottom b = cc in n (step_bottom f s q k step b h).0
+  bottom_none line b others n left run = n (step_bottom f s q k (runs_first f s q k run).1 b refl).0
 
   pub place_runs : (line : List ℕ) (p : Place) (rest new end : List Open) → Steps f s q k line (At p) new
       → new ++ rest ≡ end → Runs f s q k (line ∷ []) (At p ∷ rest) end
@@ -101,11 +86,7 @@ module _ (f : Form) (s : Schema) (q : Formula) (k : Candidates) where
   pub place_none : (line : List ℕ) (p : Place) (rest : List Open)
       → ((new : List Open) → Steps f s q k line (At p) new → ⊥) → (left : List Open)
       → Runs f s q k (line ∷ []) (At p ∷ rest) left → ⊥
-  place_none line p others n left run = go (first_step f s q k run line [] refl)
-    where
-      go : FirstStep f s q k line [] (At p ∷ others) left → ⊥
-      go (first o new rest e step r) =
-          let h : o ≡ At p = cc in n new (subst (λ x. Steps f s q k line x new) h step)
+  place_none line p others n left run = let t = runs_first f s q k run in n t.0 t.1
 
   -- ---- lines one after another
 

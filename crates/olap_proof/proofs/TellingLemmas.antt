@@ -1,26 +1,18 @@
 -- What the program tells of a place is what is known there.
 use Rattle.std.proofs.Common.{◌≡◌, ℕ, ◌<◌, ◌≤◌, [], length, get_or, map, true, Option, Some, None, refl, ap, sym, subst, ◌∙◌, inl, inr, arith, Bool, false, not, ◌↔◌}
+use Rattle.std.proofs.lemmas.{Bool.{or_cases, eqb-true, eq-eqb}, List.Elements.Contains-append_cases}
+use Rattle.std.specs.{FinSet.{FinSet, contains}, List.list_any, Ordering.nat_cmp}
 use Rattle.std.specs.Prelude.{◌||◌, ◌==◌, Contains, filter}
-use Rattle.std.specs.FinSet.{FinSet, contains}
-use Rattle.std.specs.List.{list_any}
-use Rattle.std.specs.Ordering.{nat_cmp}
-use Rattle.std.proofs.lemmas.List.Elements.{Contains-append_cases}
+use Rattle.olap_base.proofs.ListLemmas.{Contains-from_filter, Contains-from_map, list_any_is, same_truth}
 use Rattle.olap_base.specs.Graph.{CategoryReaches, Edge, Graph, HasEdge, IsCategory, IsHierarchy}
 use Rattle.olap_base.specs.Reaching.{category_reaches, category_reaches_is}
-use Rattle.olap_base.specs.Steps.{Steps, Steps.here, Steps.step, Steps-from_reaches}
-use Rattle.olap_base.proofs.ListLemmas.{Contains-from_filter, Contains-from_map, list_any_is, same_truth}
-use Rattle.olap_graph.specs.Lookups.{edge_at, edge_between}
+use Rattle.olap_base.specs.{Steps.{Steps, Steps.here, Steps.step, Steps-from_reaches}, declared.ids.EdgeId.EdgeId}
+use Rattle.olap_graph.{proofs.TableLemmas.has_edge_at, specs.Lookups.{edge_at, edge_between}}
 use Rattle.olap_names.specs.Names.{Named}
 use Rattle.olap_trail.specs.Decisions.{Decided, Decision, present_edges}
+use Rattle.olap_proof.proofs.{AgreeingLemmas.index_some, LineLemmas.edge_is, SeenLemmas.possible_seen}
 use Rattle.olap_proof.specs.Places.{Place, Way, edge_of_way, index_of, is_known, leading_edges, possible_graph}
-use Rattle.olap_proof.specs.Walking.{IsWalk}
-use Rattle.olap_proof.specs.Within.{IsWithin}
-use Rattle.olap_base.specs.declared.ids.EdgeId.{EdgeId}
-use Rattle.olap_proof.proofs.AgreeingLemmas.{index_some}
-use Rattle.olap_proof.proofs.LineLemmas.{edge_is}
-use Rattle.olap_proof.proofs.SeenLemmas.{possible_seen}
-use Rattle.olap_graph.proofs.TableLemmas.{has_edge_at}
-use Rattle.std.proofs.lemmas.Bool.{or_cases, eqb-true, eq-eqb}
+use Rattle.olap_proof.specs.{Walking.IsWalk, Within.IsWithin}
 
 -- a look at a walk's set says what is reached
 pub walk_test : (g : Graph) (a : ℕ) (s : FinSet nat_cmp) (b : ℕ) → IsWalk g a s → contains s b ≡ category_reaches g a b

@@ -4,16 +4,12 @@ use Rattle.std.proofs.Common.{◌≡◌, ℕ, ℤ, zero, suc, List, [], ◌∷�
 use Rattle.std.specs.Prelude.{Contains, ◌&&◌, ◌||◌, not}
 use Rattle.olap_base.specs.Deciding.{contains_cases}
 use Rattle.olap_ast.specs.Formula.{Formula, Formula.And, Formula.Compare, Formula.Equals, Formula.Falsity, Formula.Iff, Formula.Implies, Formula.Not, Formula.One, Formula.Or, Formula.Path, Formula.Reach, Formula.Truth, Formula.Via, Formula.Xor, Terms, Terms.End, Terms.More}
-use Rattle.olap_ast.specs.Frozen.{Candidates}
-use Rattle.olap_ast.specs.Schema.{Constraint}
+use Rattle.olap_ast.specs.{Frozen.Candidates, Schema.Constraint}
 use Rattle.olap_ast.specs.ThreeValues.{iff, implies, known, unknown_count, value_of, value_of_both, value_of_counts, xor, yes_count}
-use Rattle.olap_ast.specs.declared.three_values.Truth3.{Truth3}
-use Rattle.olap_ast.specs.declared.three_values.Truth3.TheVariants.{No, Yes, Unknown}
+use Rattle.olap_ast.specs.declared.three_values.Truth3.{Truth3, TheVariants.{No, Yes, Unknown}}
 use Rattle.olap_eval.specs.Partial.{Agrees as Tells, Knowledge, value_along, value_at, values_of}
 use Rattle.olap_numerals.specs.Comparing.{Op}
-use Rattle.olap_proof.specs.declared.forms.Form.{Form}
-use Rattle.olap_proof.specs.Closing.{IsUnmet, IsUnmetAt}
-use Rattle.olap_proof.specs.Places.{Place}
+use Rattle.olap_proof.specs.{Closing.{IsUnmet, IsUnmetAt}, Places.Place, declared.forms.Form.Form}
 
 -- ---- values that aren't unknown
 

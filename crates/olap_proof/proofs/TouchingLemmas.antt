@@ -1,23 +1,17 @@
 -- Which categories are known to have a member: the root, and the ends of what was seen.
 --     touched_both, touched_none    what adding both ends does
 use Rattle.std.proofs.Common.{◌≡◌, ℕ, ◌+◌, ◌<◌, ◌⊎◌, ◌↔◌, List, length, Bool, true, false, eqb, refl, ap, sym, subst, ◌∙◌, inl, inr, arith}
+use Rattle.std.proofs.lemmas.Bool.{or_cases, eqb-true, eq-eqb}
+use Rattle.std.specs.{FinSet.{FinSet, contains, contains-empty, empty, insert, union}, List.list_any, Ordering.nat_cmp}
 use Rattle.std.specs.Prelude.{◌||◌, ◌==◌, Contains}
-use Rattle.std.specs.FinSet.{FinSet, contains, contains-empty, empty, insert, union}
-use Rattle.std.specs.List.{list_any}
-use Rattle.std.specs.Ordering.{nat_cmp}
-use Rattle.olap_base.specs.Graph.{Edge, HasEdge}
-use Rattle.olap_base.proofs.ListLemmas.{list_any_is}
+use Rattle.olap_base.{proofs.ListLemmas.list_any_is, specs.Graph.{Edge, HasEdge}}
 use Rattle.olap_bits.proofs.CatSetLemmas.{in_insert}
-use Rattle.olap_graph.specs.Lookups.{edge_at}
-use Rattle.olap_graph.proofs.RowLemmas.{has_union}
-use Rattle.olap_trail.specs.Trails.{decisions_of}
-use Rattle.olap_trail.specs.declared.decisions.Decision.{Decision as OneDecision}
+use Rattle.olap_graph.{proofs.RowLemmas.has_union, specs.Lookups.edge_at}
+use Rattle.olap_trail.specs.{Trails.decisions_of, declared.decisions.Decision.{Decision as OneDecision}}
+use Rattle.olap_proof.proofs.{SeenLemmas.{leading_seen, seen_present, seen_way}, WalkingLemmas.false_true}
 use Rattle.olap_proof.specs.Places.{Place, is_known, leading_edges, leading_graph}
 use Rattle.olap_proof.specs.Seen.{LeadsHere, TouchedByDecisions, decision_at}
 use Rattle.olap_proof.specs.Walking.{IsIn, IsTouched, IsTouchedFrom, TouchedFrom, TouchedUpTo}
-use Rattle.olap_proof.proofs.SeenLemmas.{leading_seen, seen_present, seen_way}
-use Rattle.olap_proof.proofs.WalkingLemmas.{false_true}
-use Rattle.std.proofs.lemmas.Bool.{or_cases, eqb-true, eq-eqb}
 
 -- what is in a set after a number is put in
 pub put_in : (s : FinSet nat_cmp) (k x : ℕ) → IsIn (insert s k) x ↔ (IsIn s x ⊎ (k ≡ x))

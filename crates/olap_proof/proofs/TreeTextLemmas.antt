@@ -4,33 +4,22 @@
 --     adds_edge               an edge's line, with the trees below it
 --     adds_names              a category's line, with those below it
 use Rattle.std.proofs.Common.{◌≡◌, ℕ, ◌+◌, ◌<◌, ◌≤◌, List, [], ◌∷◌, ◌++◌, length, map, Bool, true, false, None, inl, inr, refl, ap, sym, subst, ◌∙◌, arith}
+use Rattle.std.proofs.lemmas.List.{append_assoc, append-nil, Concat.flat_map-append, Elements.Contains-push_cases}
+use Rattle.std.{proofs.lemmas.List.FromFn.map-range_with_len_more, specs.List.range_with_len}
 use Rattle.std.specs.Prelude.{◌≢◌, All, Contains, Err, Ok, OnOk, Result, is_none}
-use Rattle.std.proofs.lemmas.List.FromFn.{map-range_with_len_more}
-use Rattle.std.proofs.lemmas.List.{append_assoc, append-nil}
-use Rattle.std.proofs.lemmas.List.Concat.{flat_map-append}
-use Rattle.std.specs.List.{range_with_len}
-use Rattle.std.proofs.lemmas.List.Elements.{Contains-push_cases}
-use native.Mathlib.Decide.{ℕ_discrete}
-use Rattle.olap_ast.specs.Formula.{Formula}
-use Rattle.olap_ast.specs.Frozen.{AreCandidates, Candidates, Frozen, IsFrozen}
-use Rattle.olap_ast.specs.Schema.{Schema}
+use Rattle.olap_ast.specs.{Formula.Formula, Frozen.{AreCandidates, Candidates, Frozen, IsFrozen}, Schema.Schema}
+use Rattle.olap_base.proofs.{AboveLemmas.tally-lt, ListLemmas.{Contains-nil, Contains-range}}
 use Rattle.olap_base.specs.Graph.{Graph, IsCategory, IsDeclared, IsHierarchy, category_count}
-use Rattle.olap_base.proofs.ListLemmas.{Contains-nil, Contains-range}
 use Rattle.olap_names.specs.Names.{Named, candidates_of}
 use Rattle.olap_trail.specs.Decisions.{Decision, status_of}
-use Rattle.olap_proof.specs.declared.forms.Form.{Form}
-use Rattle.olap_proof.specs.Certificates.{Open, Open.At, Open.Bottom, Runs, Runs.more, Steps.edges, Steps.names, Steps.roots, bottom_text, indexes_of, lines_text, start, with_edge, with_name}
-use Rattle.olap_proof.specs.Lines.{Line, Line.EdgeOrNot, Line.NameOf, line_text}
-use Rattle.olap_proof.specs.Closing.{Closes, IsAbout}
-use Rattle.olap_proof.specs.Places.{Naming, Place, index_of}
-use Rattle.olap_proof.specs.Trees.{Adds, Close, IsPlaceOf}
-use Rattle.olap_proof.specs.Within.{IsWithin}
-use Rattle.olap_proof.proofs.AgreeingLemmas.{index_some}
-use Rattle.olap_proof.proofs.ClosingLemmas.{full_places_close}
+use Rattle.olap_proof.proofs.{AgreeingLemmas.index_some, ClosingLemmas.full_places_close}
 use Rattle.olap_proof.proofs.PlainTreeLemmas.{decisions_push, index_new, index_other, status_new, status_other}
-use Rattle.olap_proof.proofs.TallyLemmas.{tally}
-use Rattle.olap_proof.proofs.ReasonLemmas.{closing}
-use Rattle.olap_base.proofs.AboveLemmas.{tally-lt}
+use Rattle.olap_proof.proofs.{ReasonLemmas.closing, TallyLemmas.tally}
+use Rattle.olap_proof.specs.Certificates.{Open, Open.At, Open.Bottom, Runs, Runs.more, Steps.edges, Steps.names, Steps.roots, bottom_text, indexes_of, lines_text, start, with_edge, with_name}
+use Rattle.olap_proof.specs.{Closing.{Closes, IsAbout}, Lines.{Line, Line.EdgeOrNot, Line.NameOf, line_text}}
+use Rattle.olap_proof.specs.{Places.{Naming, Place, index_of}, Trees.{Adds, Close, IsPlaceOf}, Within.IsWithin}
+use Rattle.olap_proof.specs.declared.forms.Form.{Form}
+use native.Mathlib.Decide.{ℕ_discrete}
 
 -- ---- lines
 

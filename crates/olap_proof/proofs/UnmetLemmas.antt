@@ -1,10 +1,7 @@
 -- The constraint at a place of the list is unmet.
 use Rattle.std.proofs.Common.{◌↔◌, ℕ, zero, suc, ◌<◌, List, [], ◌∷◌, length, get_or, arith}
-use Rattle.olap_ast.specs.Frozen.{Candidates}
-use Rattle.olap_ast.specs.Schema.{Constraint}
-use Rattle.olap_proof.specs.declared.forms.Form.{Form}
-use Rattle.olap_proof.specs.Closing.{IsUnmet, IsUnmetAt}
-use Rattle.olap_proof.specs.Places.{Place}
+use Rattle.olap_ast.specs.{Frozen.Candidates, Schema.Constraint}
+use Rattle.olap_proof.specs.{Closing.{IsUnmet, IsUnmetAt}, Places.Place, declared.forms.Form.Form}
 
 -- it is the one that stands there
 pub unmet_at : (f : Form) (k : Candidates) (p : Place) (cs : List Constraint) (n : ℕ) (d : Constraint)

@@ -4,20 +4,12 @@
 use Rattle.std.proofs.Common.{◌≡◌, ◌⊎◌, ◌∙◌, ℕ, ◌+◌, ◌<◌, ◌^◌, List, [], ◌∷◌, ◌++◌, length, inl, inr, refl, ap, sym, subst, arith}
 use Rattle.std.proofs.lemmas.List.{append_assoc, append-nil}
 use Rattle.olap_base.specs.Graph.{IsHierarchy}
-use Rattle.olap_ast.specs.Formula.{Formula}
-use Rattle.olap_ast.specs.Frozen.{AreCandidates, Candidates}
-use Rattle.olap_ast.specs.Schema.{Schema}
-use Rattle.olap_proof.specs.declared.forms.Form.{Form}
+use Rattle.olap_ast.specs.{Formula.Formula, Frozen.{AreCandidates, Candidates}, Schema.Schema}
+use Rattle.olap_proof.proofs.{AlikeLemmas.{alike, wrong_alike}, DoingLemmas.step_does, LineLemmas.parted}
+use Rattle.olap_proof.proofs.{OneLineLemmas.line_once, PlainLineLemmas.step_whole}
+use Rattle.olap_proof.proofs.StepLemmas.{FirstStep, FirstStep.first, first_step, nothing_runs, runs_first, step_bottom, step_head}
 use Rattle.olap_proof.specs.Certificates.{IsCertificateText, IsFirstWrong, Open, Open.At, Open.Bottom, Open.Head, Runs, Runs.more, Runs.none, Steps, lines_text}
-use Rattle.olap_proof.specs.Doing.{leaves_open}
-use Rattle.olap_proof.specs.Lines.{Line}
-use Rattle.olap_proof.specs.Verifying.{VerdictsAreOne}
-use Rattle.olap_proof.proofs.AlikeLemmas.{alike, wrong_alike}
-use Rattle.olap_proof.proofs.DoingLemmas.{step_does}
-use Rattle.olap_proof.proofs.LineLemmas.{parted}
-use Rattle.olap_proof.proofs.OneLineLemmas.{line_once}
-use Rattle.olap_proof.proofs.PlainLineLemmas.{step_whole}
-use Rattle.olap_proof.proofs.StepLemmas.{FirstStep, FirstStep.first, first_step, step_bottom, step_head}
+use Rattle.olap_proof.specs.{Doing.leaves_open, Lines.Line, Verifying.VerdictsAreOne, declared.forms.Form.Form}
 
 module _ (f : Form) (s : Schema) (q : Formula) (k : Candidates) (hier : IsHierarchy s.graph)
     (few : length s.constraints < 2 ^ 64) where
@@ -36,14 +28,6 @@ module _ (f : Form) (s : Schema) (q : Formula) (k : Candidates) (hier : IsHierar
   no_lines : {lines : List (List ℕ)} {os end : List Open} → Runs f s q k lines os end → lines ≡ [] → os ≡ end
   no_lines none e = refl
   no_lines (more step run) e = absurd (cc)
-
-  -- where nothing is open no line runs
-  nothing_runs : (lines : List (List ℕ)) (end : List Open) → Runs f s q k lines [] end → lines ≡ []
-  nothing_runs [] end run = refl
-  nothing_runs (line ∷ lines) end run = go (first_step f s q k run line lines refl)
-    where
-      go : FirstStep f s q k line lines [] end → line ∷ lines ≡ []
-      go (first o new rest e step r) = absurd (cc)
 
   -- the first line runs alone
   first_runs : (line : List ℕ) (lines : List (List ℕ)) (os end : List Open) → Runs f s q k (line ∷ lines) os end
@@ -90,23 +74,13 @@ module _ (f : Form) (s : Schema) (q : Formula) (k : Candidates) (hier : IsHierar
       })
   one_behind (more {line = x} {lines = xs} {o = o} {new = new} {rest = rest} {end = a} step run) (y ∷ ys) b other r t
       e =
-      go (λ z i. one_behind run ys b z r t i) (first_step f s q k other y ys refl)
-    where
-      go : (Runs f s q k ys (new ++ rest) b → lines_text xs ++ r ≡ lines_text ys ++ t → OneBehind xs ys a b r t)
-          → FirstStep f s q k y ys (o ∷ rest) b → OneBehind (x ∷ xs) (y ∷ ys) a b r t
-      go behind (first u later others i w z) =
-          let there : u ≡ o = cc in
-          let same_rest : others ≡ rest = cc in
-          let wo : Steps f s q k y o later = subst (λ v. Steps f s q k y v later) there w in
-          let cut = parted 10 x (lines_text xs ++ r) y (lines_text ys ++ t)
-          (step_whole f s q k hier few x o new step) (step_whole f s q k hier few y o later wo)
-          (sym (lines_text_more x xs r) ∙ e ∙ lines_text_more y ys t) in
-          let same : later ≡ new =
-          steps_once x o later new (subst (λ l. Steps f s q k l o later) (sym cut.0) wo) step in
-          let zo : Runs f s q k ys (new ++ rest) b =
-          subst (λ os. Runs f s q k ys (os ++ rest) b) same
-          (subst (λ os. Runs f s q k ys (later ++ os) b) same_rest z) in
-          longer x y xs ys a b r t (behind zo cut.1)
+      let w = runs_first f s q k other in
+      let cut = parted 10 x (lines_text xs ++ r) y (lines_text ys ++ t)
+      (step_whole f s q k hier few x o new step) (step_whole f s q k hier few y o w.0 w.1)
+      (sym (lines_text_more x xs r) ∙ e ∙ lines_text_more y ys t) in
+      let same : w.0 ≡ new = steps_once x o w.0 new (subst (λ l. Steps f s q k l o w.0) (sym cut.0) w.1) step in
+      let run_on = subst (λ os. Runs f s q k ys (os ++ rest) b) same w.2 in
+      longer x y xs ys a b r t (one_behind run ys b run_on r t cut.1)
 
   -- ---- the verdict
 
@@ -154,7 +128,7 @@ module _ (f : Form) (s : Schema) (q : Formula) (k : Candidates) (hier : IsHierar
             let z = none_behind n w t.0 [] [] h in
             early n w (no_lines h.run z) (h.rest ∙ append-nil (lines_text h.lines) ∙ ap (λ xs. lines_text xs) z)
         go (inr h) =
-            let z = nothing_runs h.lines w.open_there h.run in
+            let z = nothing_runs f s q k h.run refl in
             early n w (sym (no_lines h.run z)) (ap (λ xs. lines_text xs ++ w.rest) (sym z) ∙ sym h.rest)
 
 -- the theorem: of two runs over one text neither can end where the other goes on

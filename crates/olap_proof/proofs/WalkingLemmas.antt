@@ -4,17 +4,14 @@
 --     added_from_is, added_from_none, one_left, none_left    what adding all that a category leads to does
 --     IsOnWay, way_begins ..  a walk while it grows
 use Rattle.std.proofs.Common.{◌≡◌, ℕ, zero, suc, ◌+◌, ◌<◌, ◌≤◌, ◌⊎◌, ◌↔◌, Bool, true, false, cond, eqb, not, refl, ap, sym, subst, ◌∙◌, inl, inr, arith}
-use Rattle.std.specs.Prelude.{◌&&◌, ◌||◌}
-use Rattle.std.specs.Cmp.{nat_cmp_total}
+use Rattle.std.{proofs.lemmas.Bool.{not-true, or_parts, or_cases, and_from, eqb-true, eq-eqb}, specs.Cmp.nat_cmp_total}
 use Rattle.std.specs.FinSet.{FinSet, contains, contains-difference, contains-empty, difference, empty, insert, union}
-use Rattle.std.specs.Ordering.{nat_cmp}
-use Rattle.olap_base.specs.Graph.{CategoryReaches, Graph, HasEdge}
+use Rattle.std.specs.{Ordering.nat_cmp, Prelude.{◌&&◌, ◌||◌}}
+use Rattle.olap_base.{proofs.ListLemmas.{first_true, second_true}, specs.Graph.{CategoryReaches, Graph, HasEdge}}
 use Rattle.olap_base.specs.Steps.{Steps, Steps.here, Steps.step, Steps-append, Steps-from_reaches, reaches_from_Steps}
-use Rattle.olap_base.proofs.ListLemmas.{first_true, second_true}
 use Rattle.olap_bits.proofs.CatSetLemmas.{in_insert}
 use Rattle.olap_graph.proofs.RowLemmas.{has_union}
 use Rattle.olap_proof.specs.Walking.{Grows, IsAdded, IsAddedFrom, IsIn, IsWalk, SeenFrom, SeenUpTo}
-use Rattle.std.proofs.lemmas.Bool.{not-true, or_parts, or_cases, and_from, eqb-true, eq-eqb}
 
 -- nothing is both false and true
 pub false_true : (b : Bool) → b ≡ false → b ≡ true → ⊥

@@ -6,42 +6,32 @@
 --     completes      all that is known is so
 --     closed_none    none agrees where a line closes
 use Rattle.std.proofs.Common.{◌≡◌, ◌≢◌, ℕ, ℤ, zero, suc, ◌<◌, ◌⊎◌, List, [], ◌∷◌, length, get_or, map, Bool, true, false, cond, Option, Some, None, refl, sym, subst, ◌∙◌, inl, inr, arith}
-use Rattle.std.specs.Prelude.{Contains, ◌==◌, ◌&&◌, ◌||◌, All, filter, if◌then◌else◌}
-use Rattle.std.specs.List.{list_any}
-use Rattle.std.specs.Str.{bytes_eq}
-use Rattle.std.proofs.lemmas.Slice.Eq.{bytes_eq-Decides}
-use Rattle.std.proofs.lemmas.List.Elements.{Contains-append_cases}
-use Rattle.olap_base.specs.Deciding.{contains_cons}
-use Rattle.olap_base.specs.Graph.{Edge, HasEdge, IsCategory, IsHierarchy}
-use Rattle.olap_base.specs.Instance.{Instance, IsBelow}
-use Rattle.olap_base.specs.Reaching.{category_reaches, category_reaches_is}
-use Rattle.olap_base.specs.Steps.{Steps, Steps.here, Steps.step, Steps-append, Steps-from_reaches, reaches_from_Steps}
+use Rattle.std.proofs.lemmas.{Bool.{or_cases, eqb-true}, List.Elements.Contains-append_cases, Slice.Eq.bytes_eq-Decides}
+use Rattle.std.specs.{List.list_any, Prelude.{Contains, ◌==◌, ◌&&◌, ◌||◌, All, filter, if◌then◌else◌}, Str.bytes_eq}
 use Rattle.olap_base.proofs.AboveLemmas.{reaches_all}
 use Rattle.olap_base.proofs.ListLemmas.{Contains-from_filter, Contains-from_map, contains_head, list_any_is}
+use Rattle.olap_base.{proofs.StepLemmas.wider, specs.Deciding.contains_cons}
+use Rattle.olap_base.specs.{Graph.{Edge, HasEdge, IsCategory, IsHierarchy}, Instance.{Instance, IsBelow}}
+use Rattle.olap_base.specs.Reaching.{category_reaches, category_reaches_is}
+use Rattle.olap_base.specs.Steps.{Steps, Steps.here, Steps.step, Steps-append, Steps-from_reaches, reaches_from_Steps}
 use Rattle.olap_ast.specs.Formula.{Formula, Holds, IsNumbered}
 use Rattle.olap_ast.specs.Frozen.{Candidates, Frozen, IsFrozen, instance_of, is_present, name_in}
-use Rattle.olap_ast.specs.Schema.{Constraint, Schema}
-use Rattle.olap_ast.specs.ThreeValues.{known}
+use Rattle.olap_ast.specs.{Schema.{Constraint, Schema}, ThreeValues.known}
 use Rattle.olap_ast.specs.declared.three_values.Truth3.TheVariants.{No, Yes, Unknown}
-use Rattle.olap_eval.specs.Partial.{Agrees as Tells, Completes, value_at}
+use Rattle.olap_eval.{proofs.PartialLemmas.values_are_truths, specs.Partial.{Agrees as Tells, Completes, value_at}}
 use Rattle.olap_eval.specs.Shapes.{HasNameThere, HasNumberThere, ReachesThere}
-use Rattle.olap_eval.proofs.PartialLemmas.{values_are_truths}
-use Rattle.olap_frozen.specs.Chosen.{IsChoice, IsMet, IsSound, Joins, place_of}
-use Rattle.olap_frozen.proofs.ChosenInstance as made
 use Rattle.olap_frozen.proofs.ChosenLemmas.{choice_of, place_chosen}
+use Rattle.olap_frozen.specs.Chosen.{IsChoice, IsMet, IsSound, Joins, place_of}
 use Rattle.olap_graph.specs.Lookups.{edge_at, edges_from}
 use Rattle.olap_numerals.specs.Comparing.{Op, is_numbered}
 use Rattle.olap_trail.specs.Decisions.{Decided, Decision, HoldsCycle, HoldsShortcut, present_edges, present_graph, status_of}
-use Rattle.olap_proof.specs.declared.forms.Form.{Form}
-use Rattle.olap_proof.specs.declared.forms.Form.TheVariants.{Long, Short}
-use Rattle.olap_proof.specs.Places.{Naming, Place, Way, edge_of_way, is_known, is_top, knowledge, leading_edges, leading_graph, leads, name_of, possible_graph, truth_of_name, truth_of_reach, way_of}
-use Rattle.olap_proof.specs.Lines.{Line, Line.Asked, Line.Clash, Line.Cycle, Line.Dead, Line.EdgeOrNot, Line.Loose, Line.NameOf, Line.Shortcut, Line.Unmet, Line.Unreached, Line.WayOrNot}
+use Rattle.olap_proof.proofs.{AgreeingLemmas.{Like, edge_from, edges_in}, CycleLemmas.{cyclic_is, shortened_is}}
 use Rattle.olap_proof.specs.Closing.{Closes, IsClash, IsDead, IsLoose, IsUnmet, IsUnmetAt, IsUnreached}
+use Rattle.olap_proof.specs.Lines.{Line, Line.Asked, Line.Clash, Line.Cycle, Line.Dead, Line.EdgeOrNot, Line.Loose, Line.NameOf, Line.Shortcut, Line.Unmet, Line.Unreached, Line.WayOrNot}
+use Rattle.olap_proof.specs.Places.{Naming, Place, Way, edge_of_way, is_known, is_top, knowledge, leading_edges, leading_graph, leads, name_of, possible_graph, truth_of_name, truth_of_reach, way_of}
+use Rattle.olap_proof.specs.declared.forms.Form.{Form, TheVariants.{Long, Short}}
+use Rattle.olap_frozen.proofs.ChosenInstance as made
 use Rattle.olap_proof.proofs.AgreeingLemmas as agreeing
-use Rattle.olap_proof.proofs.CycleLemmas.{cyclic_is, shortened_is}
-use Rattle.olap_proof.proofs.AgreeingLemmas.{Like, edge_from, edges_in}
-use Rattle.std.proofs.lemmas.Bool.{or_cases, eqb-true}
-use Rattle.olap_base.proofs.StepLemmas.{wider}
 
 -- the decision that tells of a way
 pub way_some : (ws : List Way) (a b : ℕ) (t : Bool) → way_of ws a b ≡ Some t

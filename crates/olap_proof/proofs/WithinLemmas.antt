@@ -1,17 +1,12 @@
 -- Where choices lead, decisions are about what is in the schema.
 use Rattle.std.proofs.Common.{◌≡◌, ◌++◌, ◌<◌, ◌≤◌, ℕ, List, [], ◌∷◌, length, get_or, inl, inr, refl, sym, subst, arith}
-use Rattle.std.specs.Prelude.{All}
-use Rattle.std.proofs.lemmas.List.Elements.{Contains-append_cases, Contains-get_or}
-use Rattle.olap_base.specs.Graph.{Graph, IsCategory, category_count}
-use Rattle.olap_base.proofs.ListLemmas.{Contains-nil, Contains-only}
+use Rattle.std.{proofs.lemmas.List.Elements.{Contains-append_cases, Contains-get_or}, specs.Prelude.All}
+use Rattle.olap_base.{proofs.ListLemmas.{Contains-nil, Contains-only}, specs.Graph.{Graph, IsCategory, category_count}}
 use Rattle.olap_names.specs.Names.{Named}
 use Rattle.olap_trail.specs.Decisions.{Decision}
-use Rattle.olap_proof.specs.declared.branches.Choice.{Choice}
-use Rattle.olap_proof.specs.declared.branches.Choice.TheVariants.{Edge, Name, Way}
 use Rattle.olap_proof.specs.Branches.{AreLegal, IsBranch, IsLegal, first_of, with_choice, with_choices}
-use Rattle.olap_proof.specs.Certificates.{start}
-use Rattle.olap_proof.specs.Places.{Naming, Place, Way as WayHere}
-use Rattle.olap_proof.specs.Within.{IsWithin}
+use Rattle.olap_proof.specs.{Certificates.start, Places.{Naming, Place, Way as WayHere}, Within.IsWithin}
+use Rattle.olap_proof.specs.declared.branches.Choice.{Choice, TheVariants.{Edge, Name, Way}}
 
 -- what holds of a list's elements holds of those of a longer one
 all_more : {A : Type 0} (P : A → Type 0) (xs : List A) (y : A) → All P xs → P y → All P (xs ++ y ∷ [])

@@ -1,15 +1,10 @@
 -- A file whose text has a fault is refused, and so is the run.
 use Rattle.std.proofs.Common.{◌≡◌, ◌≤◌, ◌++◌, ◌∙◌, ℕ, List, Option, None, Some, MatchOption, Result, Err, Ok, false, length, codes, refl, subst, sym, arith, nat_lt}
-use Rattle.std.specs.Prelude.{if◌then◌else◌}
-use Rattle.std.proofs.lemmas.Bool.Decides.{nat_tests}
-use Rattle.olap_outside.specs.Files.{Files, IsContent}
-use Rattle.olap_outside.specs.declared.outside.Library.{Ghosts as Library}
+use Rattle.std.{proofs.lemmas.Bool.Decides.nat_tests, specs.Prelude.if◌then◌else◌}
+use Rattle.olap_outside.specs.{Files.{Files, IsContent}, declared.outside.Library.{Ghosts as Library}}
 use Rattle.olap_order.specs.Judged.{Gives, GivesTold, IsLater, Judged, Replies}
-use Rattle.olap_order.specs.Order.{Order, Done, Read, and_then, refused}
-use Rattle.olap_order.specs.Outputs.{refusal}
-use Rattle.olap_order.specs.Refusals.{IsRefusal}
-use Rattle.olap_order.specs.Steps.{text_file}
-use Rattle.olap_order.specs.Taken.{ComesOut, ComesOutTold, FileStep, NoAnswer, PlainStep}
+use Rattle.olap_order.specs.{Order.{Order, Done, Read, and_then, refused}, Outputs.refusal, Refusals.IsRefusal}
+use Rattle.olap_order.specs.{Steps.text_file, Taken.{ComesOut, ComesOutTold, FileStep, NoAnswer, PlainStep}}
 use Rattle.olap_order.specs.declared.replies.Stop.{Stop}
 use Rattle.olap_order.specs.declared.replies.Stop.TheVariants as stops
 use Rattle.olap_order.specs.declared.status.Status.TheVariants as statuses

@@ -1,42 +1,24 @@
 -- A file of facts that is read piece by piece.
 use Rattle.std.proofs.Common.{◌≡◌, ◌<◌, ◌≤◌, ◌⊎◌, ◌++◌, ◌∙◌, ℕ, List, Option, None, Some, Result, [], length, false, true, inl, inr, refl, sym, ap, arith, subst, append_assoc, length-append}
-use Rattle.std.specs.Prelude.{IfErr, IfSome, Ok, Err, codes}
-use Rattle.std.specs.Result.{IsErrAnd}
-use Rattle.std.specs.Io.KnownBytes.{Consumes}
-use Rattle.std.proofs.lemmas.List.{append-nil}
-use Rattle.olap_base.specs.Graph.{Graph}
-use Rattle.olap_base.specs.Instance.{Instance}
-use Rattle.olap_base.specs.Limits.{most_facts}
-use Rattle.olap_base.specs.Views.{View}
-use Rattle.olap_base.specs.declared.ids.Memory.{Memory}
+use Rattle.std.{proofs.lemmas.List.append-nil, specs.Io.KnownBytes.Consumes}
+use Rattle.std.specs.{Prelude.{IfErr, IfSome, Ok, Err, codes}, Result.IsErrAnd}
+use Rattle.olap_base.specs.{Graph.Graph, Instance.Instance, Limits.most_facts, Views.View, declared.ids.Memory.Memory}
 use Rattle.olap_base.specs.declared.refusals.Fault.{Fault}
-use Rattle.olap_base.specs.declared.refusals.Refusal.TheVariants as refusal
 use Rattle.olap_ast.specs.Schema.{Schema}
-use Rattle.olap_records.specs.Pieces.{RecordsAtEnd}
-use Rattle.olap_records.specs.Records.{records_of}
-use Rattle.olap_records.specs.Standing.{records_fed, unmarked}
-use Rattle.olap_records.proofs.MarkLemmas.{strip-more}
-use Rattle.olap_records.specs.Tables.{named}
-use Rattle.olap_facts.proofs.MeaningLemmas.{facts-named, meant-facts}
-use Rattle.olap_facts.specs.FactMeaning.{facts_meant}
-use Rattle.olap_facts.specs.FactText.{facts_read_within}
-use Rattle.olap_facts.specs.Kinds.{name_of_kind}
-use Rattle.olap_facts.specs.declared.kinds.FactKind.{FactKind}
-use Rattle.olap_outside.specs.Files.{Files, IsContent, Opens}
-use Rattle.olap_outside.specs.Pieces.{EndsTold}
+use Rattle.olap_records.{proofs.MarkLemmas.strip-more, specs.Pieces.RecordsAtEnd, specs.Records.records_of}
+use Rattle.olap_records.specs.{Standing.{records_fed, unmarked}, Tables.named}
+use Rattle.olap_facts.{proofs.MeaningLemmas.{facts-named, meant-facts}, specs.FactMeaning.facts_meant}
+use Rattle.olap_facts.specs.{FactText.facts_read_within, Kinds.name_of_kind, declared.kinds.FactKind.FactKind}
+use Rattle.olap_outside.specs.{Files.{Files, IsContent, Opens}, Pieces.EndsTold}
 use Rattle.olap_outside.specs.declared.outside.Library.{Ghosts as Library}
-use Rattle.olap_order.specs.Judged.{IsLater}
-use Rattle.olap_order.specs.Refusals.{IsRefusal, part_text}
-use Rattle.olap_order.specs.Steps.{meaning_or_fault}
-use Rattle.olap_order.specs.Taken.{FileStep}
+use Rattle.olap_order.specs.{Judged.IsLater, Refusals.{IsRefusal, part_text}, Steps.meaning_or_fault, Taken.FileStep}
 use Rattle.olap_order.specs.declared.replies.Stop.{Stop}
 use Rattle.olap_view.specs.RollingUp.{AreRolledUp, HasTaken, Rolling}
-use Rattle.olap_reading.specs.OfFacts.{AreOfFacts}
-use Rattle.olap_reading.specs.Rest.{IsOfRest, IsOutOfMemory, IsWhyUnrolled}
-use Rattle.olap_reading.specs.Steps.{facts_file}
+use Rattle.olap_reading.{proofs.ReadingLemmas.{content_read, fault_read}, specs.OfFacts.AreOfFacts}
+use Rattle.olap_reading.specs.{Rest.{IsOfRest, IsOutOfMemory, IsWhyUnrolled}, Steps.facts_file}
 use Rattle.olap_reading.specs.declared.rolling.Unrolled.{Unrolled}
+use Rattle.olap_base.specs.declared.refusals.Refusal.TheVariants as refusal
 use Rattle.olap_reading.specs.declared.rolling.Unrolled.TheVariants as unrolled
-use Rattle.olap_reading.proofs.ReadingLemmas.{content_read, fault_read}
 
 -- ---- pieces
 

@@ -1,22 +1,18 @@
 -- The members that a violation names are there, and its words.
 use Rattle.std.proofs.Common.{◌≡◌, ℕ, ap, refl, subst, sym, ◌∙◌}
-use Rattle.olap_base.specs.Graph.{IsCategory}
+use Rattle.std.specs.Prelude.{Result, Ok, Err, None, IfOk, IfErr, MatchResult}
+use Rattle.olap_base.specs.{Deciding.below_is_member, Graph.IsCategory}
 use Rattle.olap_base.specs.Instance.{Instance, IsBelow, IsFarBelow, IsInstance, IsMember}
-use Rattle.olap_base.specs.Deciding.{below_is_member}
 use Rattle.olap_base.specs.Steps.{Steps, Steps.here, Steps.step, Climb, Climb.climb, Climb-from_leads}
+use Rattle.olap_base.specs.declared.refusals.Refusal.{Refusal}
 use Rattle.olap_ast.specs.Schema.{Schema, IsLegal}
 use Rattle.olap_ast.specs.Violation.{Violation, NoEdge, NoParent, SameCategory, TwoAncestors, Shortcut, Unmet, IsViolation}
-use Rattle.std.specs.Prelude.{Result, Ok, Err, None, IfOk, IfErr, MatchResult}
-use Rattle.olap_check.specs.FirstViolation.{first_violation, first_violation_none, first_violation_some}
-use Rattle.olap_check.specs.Reports.{told, IsRefused}
-use Rattle.olap_base.specs.declared.refusals.Refusal.{Refusal}
-use Rattle.olap_base.specs.declared.refusals.Refusal.TheVariants as refusal
-use Rattle.olap_check.specs.declared.violations.Illegal.{Illegal}
-use Rattle.olap_reading.specs.Broken.{IsBrokenBy}
-use Rattle.olap_instance.specs.Made.{IsMadeFor}
-use Rattle.olap_reading.specs.Telling.{IsTellable, told_text}
-use Rattle.olap_reading.specs.Violations.{violation_text}
 use Rattle.olap_check.proofs.FirstLemmas.{parent_at}
+use Rattle.olap_check.specs.FirstViolation.{first_violation, first_violation_none, first_violation_some}
+use Rattle.olap_check.specs.{Reports.{told, IsRefused}, declared.violations.Illegal.Illegal}
+use Rattle.olap_reading.specs.{Broken.IsBrokenBy, Telling.{IsTellable, told_text}, Violations.violation_text}
+use Rattle.olap_instance.specs.Made.{IsMadeFor}
+use Rattle.olap_base.specs.declared.refusals.Refusal.TheVariants as refusal
 
 -- what is reached by steps from a member is one
 steps_inside : (i : Instance) → IsInstance i → {x y : ℕ} → Steps (IsBelow i) x y → IsMember i x → IsMember i y

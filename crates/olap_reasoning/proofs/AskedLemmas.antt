@@ -1,23 +1,17 @@
 -- Each question that an order of this family comes to is about a valid schema, and a formula is one of it.
-use Rattle.std.proofs.Common.{ℕ, List, [], drop}
-use Rattle.std.specs.Prelude.{codes}
-use Rattle.olap_ast.specs.Schema.{Schema}
-use Rattle.olap_ast.specs.Valid.{IsQuestion, IsValidSchema}
+use Rattle.std.{proofs.Common.{ℕ, List, [], drop}, specs.Prelude.codes}
+use Rattle.olap_ast.specs.{Schema.Schema, Valid.{IsQuestion, IsValidSchema}}
 use Rattle.olap_base.specs.Graph.{IsDeclared}
-use Rattle.olap_order.specs.Order.{Done, Told, and_then}
-use Rattle.olap_order.specs.Arguments.{at_least, exactly, word}
-use Rattle.olap_order.specs.Behind.{categories_from}
-use Rattle.olap_order.specs.Steps.{category_word, formula_word, root_word}
-use Rattle.olap_order.specs.declared.status.Status.TheVariants.{Yes}
 use Rattle.olap_order.proofs.Coming.{Comes, MayCome, asked, may_at_least, may_either, may_exactly, no_order, pass, then_comes, told}
 use Rattle.olap_order.proofs.ComingSteps.{formula_comes, root_declared, under_schema}
+use Rattle.olap_order.specs.{Arguments.{at_least, exactly, word}, Behind.categories_from, Order.{Done, Told, and_then}}
+use Rattle.olap_order.specs.{Steps.{category_word, formula_word, root_word}, declared.status.Status.TheVariants.Yes}
 use Rattle.olap_proof.specs.declared.forms.Form.TheVariants.{Long, Short}
 use Rattle.olap_reasoning.specs.Commands.{audit_order, category_order, format_order, implies_order, order_named, sources_order}
 use Rattle.olap_reasoning.specs.Existing.{IsAsked}
 use Rattle.olap_reasoning.specs.Questions.{Question, BySatisfiable, ByImplied, BySummarizable, ByProof, ByFrozen, ByAudit, ByNeeds, ByShapes}
 use Rattle.olap_reasoning.specs.Under.{category_under, implies_under, sources_under}
-use Rattle.olap_schema_text.specs.Laws.{ReadQuestionsAreValid, ReadSchemasAreReadable}
-use Rattle.olap_schema_text.specs.Printing.{schema_text}
+use Rattle.olap_schema_text.specs.{Laws.{ReadQuestionsAreValid, ReadSchemasAreReadable}, Printing.schema_text}
 
 module _ (readable : ReadSchemasAreReadable) (questions : ReadQuestionsAreValid) where
   of_format : (words : List (List ℕ)) → Comes IsAsked (format_order words)

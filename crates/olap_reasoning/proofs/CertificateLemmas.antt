@@ -1,45 +1,27 @@
 -- What is found answers a question.
-use Rattle.std.proofs.Common.{◌≡◌, ℕ, ◌<◌, List, [], ◌++◌, codes, Ok, subst, sym, inl, inr}
-use Rattle.std.specs.Prelude.{All, Contains, IsTrue, flat_map}
-use Rattle.std.specs.List.{list_any}
-use Rattle.std.specs.Str.{is_utf8}
-use Rattle.std.proofs.lemmas.List.{get_or-map, length-map}
-use Rattle.std.proofs.lemmas.List.Elements.{Contains-append_cases}
-use Rattle.olap_base.specs.Graph.{Graph, IsCategory, IsHierarchy}
-use Rattle.olap_base.specs.Instance.{IsMember, ReachesCategory}
+use Rattle.std.proofs.Common.{◌≡◌, ℕ, ◌<◌, List, ◌++◌, codes, Ok, subst, sym, inl, inr}
+use Rattle.std.proofs.lemmas.List.{get_or-map, length-map, Elements.Contains-append_cases}
+use Rattle.std.specs.{List.list_any, Prelude.{All, Contains, IsTrue, flat_map}, Str.is_utf8}
+use Rattle.olap_base.proofs.{GeneralLemmas.first_of_not_or, ListLemmas.Contains-nil}
+use Rattle.olap_base.specs.{Graph.{Graph, IsCategory, IsHierarchy}, Instance.{IsMember, ReachesCategory}}
 use Rattle.olap_base.specs.declared.ids.CatId.{CatId}
-use Rattle.olap_base.proofs.ListLemmas.{Contains-nil}
-use Rattle.olap_ast.specs.Constants.{IsConstant}
+use Rattle.olap_ast.proofs.{ComparedLemmas.atom_of_text, SourceLemmas.vias_free}
+use Rattle.olap_ast.specs.{Atoms.{all_equalities, equalities}, Constants.IsConstant}
 use Rattle.olap_ast.specs.Formula.{Formula, Formula.Truth, Formula.Not, Constant.AText}
-use Rattle.olap_ast.specs.Atoms.{all_equalities, equalities, equalities_of_terms}
-use Rattle.olap_ast.specs.Frozen.{IsFrozen, IsLeastFrozen}
-use Rattle.olap_ast.specs.Schema.{Schema}
-use Rattle.olap_ast.specs.Summarizable.{IsSummarizable, not_by_one}
-use Rattle.olap_instance.specs.Printing.{text_of_instance}
-use Rattle.olap_cex.specs.CexText.{counterexample_text}
-use Rattle.olap_cex.specs.FoundFor.{IsFoundFor, found_instance, found_place}
-use Rattle.olap_cex.specs.FrozenText.{frozen_text}
-use Rattle.olap_cex.specs.Laws.{QuestionIsTrue, RootIsMember}
-use Rattle.olap_frozen.specs.LeastFound.{IsLeastFound, frozen_of}
-use Rattle.olap_frozen.specs.declared.founding.Found.{Found}
-use Rattle.olap_names.specs.Names.{candidates_of}
-use Rattle.olap_schema.specs.Readable.{is_control}
-use Rattle.olap_schema.specs.Readable.{AreTexts}
-use Rattle.olap_summ.specs.Counterexamples.{IsCounterexampleFound}
+use Rattle.olap_ast.specs.{Frozen.{IsFrozen, IsLeastFrozen}, Schema.Schema, Summarizable.{IsSummarizable, not_by_one}}
 use Rattle.olap_ast.specs.Trees.{numbers_of}
-use Rattle.olap_ast.proofs.ComparedLemmas.{atom_of_text}
-use Rattle.olap_reasoning.specs.Certificates.{ShowsDifference, ShowsUnmet}
-use Rattle.olap_order.specs.Judged.{Replies}
-use Rattle.olap_proof.specs.Verifying.{IsCertificateFor}
-use Rattle.olap_proof.specs.declared.forms.Form.{Form}
-use Rattle.olap_order.specs.Order.{Done}
-use Rattle.olap_order.specs.Outputs.{line}
+use Rattle.olap_instance.specs.Printing.{text_of_instance}
+use Rattle.olap_cex.specs.{CexText.counterexample_text, FoundFor.{IsFoundFor, found_instance, found_place}}
+use Rattle.olap_cex.specs.{FrozenText.frozen_text, Laws.{QuestionIsTrue, RootIsMember}}
+use Rattle.olap_frozen.specs.{LeastFound.{IsLeastFound, frozen_of}, declared.founding.Found.Found}
+use Rattle.olap_names.specs.Names.{candidates_of}
+use Rattle.olap_schema.specs.Readable.{is_control, AreTexts}
+use Rattle.olap_summ.specs.Counterexamples.{IsCounterexampleFound}
+use Rattle.olap_reasoning.{proofs.ReplyLemmas.answers_by, specs.Certificates.{ShowsDifference, ShowsUnmet}}
 use Rattle.olap_reasoning.specs.Questions.{ByImplied, ByProof, BySatisfiable, IsAnswer, Question}
-use Rattle.olap_order.specs.declared.replies.Reply.{Reply}
+use Rattle.olap_order.specs.{Judged.Replies, Order.Done, Outputs.line, declared.replies.Reply.Reply}
 use Rattle.olap_order.specs.declared.status.Status.TheVariants.{No, Yes}
-use Rattle.olap_ast.proofs.SourceLemmas.{vias_free}
-use Rattle.olap_base.proofs.GeneralLemmas.{first_of_not_or}
-use Rattle.olap_reasoning.proofs.ReplyLemmas.{answers_by}
+use Rattle.olap_proof.specs.{Verifying.IsCertificateFor, declared.forms.Form.Form}
 
 -- ---- replies
 

@@ -1,21 +1,14 @@
 -- What is listed answers its question.
-use Rattle.std.proofs.Common.{◌≡◌, ℕ, ◌≤◌, List, ◌++◌, length, codes, decimal, Ok}
-use Rattle.std.specs.Prelude.{flat_map}
-use Rattle.olap_ast.specs.Findings.{AreFindings, Finding}
-use Rattle.olap_ast.specs.Formula.{Formula.Truth}
-use Rattle.olap_ast.specs.Frozen.{Candidates, Frozen}
+use Rattle.std.{proofs.Common.{◌≡◌, ℕ, ◌≤◌, List, ◌++◌, length, codes, decimal, Ok}, specs.Prelude.flat_map}
+use Rattle.olap_ast.specs.{Findings.{AreFindings, Finding}, Formula.Formula.Truth, Frozen.{Candidates, Frozen}}
 use Rattle.olap_ast.specs.Schema.{Schema}
 use Rattle.olap_base.specs.Limits.{most_frozen}
 use Rattle.olap_cex.specs.FrozenText.{frozen_text}
 use Rattle.olap_dimsat.specs.Listed.{AreAllFrozen}
-use Rattle.olap_order.specs.Judged.{Replies}
-use Rattle.olap_order.specs.Order.{Done}
-use Rattle.olap_order.specs.Outputs.{line}
-use Rattle.olap_order.specs.declared.replies.Reply.{Reply}
+use Rattle.olap_order.specs.{Judged.Replies, Order.Done, Outputs.line, declared.replies.Reply.Reply}
 use Rattle.olap_order.specs.declared.status.Status.TheVariants.{Yes}
-use Rattle.olap_reasoning.specs.Listings.{finding_text}
+use Rattle.olap_reasoning.{proofs.ReplyLemmas.answers_by, specs.Listings.finding_text}
 use Rattle.olap_reasoning.specs.Questions.{ByAudit, ByFrozen, IsAnswer}
-use Rattle.olap_reasoning.proofs.ReplyLemmas.{answers_by}
 
 -- the lines of all frozen dimensions answer `frozen`
 pub frozen_listed : (s : Schema) (c : ℕ) (k : Candidates) (all : List Frozen) → AreAllFrozen s Truth c k all

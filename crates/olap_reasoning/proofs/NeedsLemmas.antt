@@ -1,31 +1,18 @@
 -- What a target needs answers its question, and has one answer.
 use Rattle.std.proofs.Common.{◌≡◌, ◌≢◌, ◌∙◌, ℕ, List, [], ◌∷◌, ◌++◌, Ok, true, false, codes, length, map, ap, refl, sym, subst, arith}
+use Rattle.std.proofs.lemmas.{Bool.eqb-true, List.length-map, List.Elements.Contains-get_or}
 use Rattle.std.specs.Prelude.{◌==◌, All, flat_map}
-use Rattle.std.proofs.lemmas.List.{length-map}
-use Rattle.std.proofs.lemmas.List.Elements.{Contains-get_or}
-use Rattle.olap_ast.specs.Findings.{Finding.Unsatisfiable}
-use Rattle.olap_ast.specs.Schema.{Schema}
-use Rattle.olap_ast.specs.Trees.{constraint_of, numbers_of}
+use Rattle.olap_ast.specs.{Findings.Finding.Unsatisfiable, Schema.Schema, Trees.{constraint_of, numbers_of}}
 use Rattle.olap_ast.specs.declared.formulas.Constraint.{Constraint}
-use Rattle.olap_base.specs.Graph.{Graph, IsCategory}
-use Rattle.olap_base.specs.declared.ids.CatId.{CatId}
-use Rattle.olap_base.proofs.ListLemmas.{Contains-map}
-use Rattle.olap_needs.specs.Listing.{ListsNeeded}
+use Rattle.olap_base.{proofs.ListLemmas.Contains-map, specs.Graph.{Graph, IsCategory}, specs.declared.ids.CatId.CatId}
+use Rattle.olap_needs.{proofs.NeedLemmas.{emptied_are_one, needs_are_one}, specs.Listing.ListsNeeded}
 use Rattle.olap_needs.specs.Needs.{AreEmptied, AreNeeded, HasRoom, need, needs_text, with_needs}
 use Rattle.olap_needs.specs.declared.needing.Needs.{Needs}
-use Rattle.olap_needs.proofs.NeedLemmas.{emptied_are_one, needs_are_one}
-use Rattle.olap_order.specs.Judged.{Replies}
-use Rattle.olap_order.specs.Order.{Done}
-use Rattle.olap_order.specs.Outputs.{line}
-use Rattle.olap_order.specs.declared.replies.Reply.{Reply}
-use Rattle.olap_order.specs.declared.status.Status.{Status}
-use Rattle.olap_order.specs.declared.status.Status.TheVariants.{No, Refused, Yes}
+use Rattle.olap_order.specs.{Judged.Replies, Order.Done, Outputs.line, declared.replies.Reply.Reply}
+use Rattle.olap_order.specs.declared.status.Status.{Status, TheVariants.{No, Refused, Yes}}
 use Rattle.olap_schema_text.specs.Printing.{constraint_text, text_of_lines}
-use Rattle.olap_reasoning.specs.Listings.{finding_text}
-use Rattle.olap_reasoning.specs.Needing.{HasNoRoom, ListsEmptied, ListsNeeds}
-use Rattle.olap_reasoning.specs.Questions.{ByNeeds, IsAnswer}
-use Rattle.std.proofs.lemmas.Bool.{eqb-true}
-use Rattle.olap_reasoning.proofs.ReplyLemmas.{answers_by}
+use Rattle.olap_reasoning.{proofs.ReplyLemmas.answers_by, specs.Listings.finding_text}
+use Rattle.olap_reasoning.specs.{Needing.{HasNoRoom, ListsEmptied, ListsNeeds}, Questions.{ByNeeds, IsAnswer}}
 
 module _ (s : Schema) (c : ℕ) (sources : List ℕ) where
   -- room for one list is room for the other

@@ -1,28 +1,21 @@
 -- There is one answer at most to a question about all legal instances.
-use Rattle.std.proofs.Common.{◌≡◌, ◌⊎◌, [], ℕ, ◌≤◌, List, ◌++◌, length, refl, ap, sym, ◌∙◌, inl, inr, arith}
-use Rattle.std.specs.Prelude.{codes, flat_map}
-use Rattle.std.specs.Fmt.{decimal}
-use Rattle.olap_ast.specs.Findings.{IsUnsatisfiable}
-use Rattle.olap_ast.specs.Formula.{Formula, Formula.Truth, Formula.Not}
-use Rattle.olap_ast.specs.Frozen.{Frozen, root_place, thawed}
-use Rattle.olap_ast.specs.Questions.{IsImplied}
-use Rattle.olap_ast.specs.Schema.{Schema}
-use Rattle.olap_ast.specs.Summarizable.{IsSummarizable}
+use Rattle.std.proofs.Common.{◌≡◌, ◌⊎◌, ℕ, ◌≤◌, List, ◌++◌, length, refl, ap, sym, ◌∙◌, inl, inr, arith}
+use Rattle.std.specs.{Fmt.decimal, Prelude.{codes, flat_map}}
 use Rattle.olap_ast.proofs.Determined.{findings_are_one, not_both_answers, not_more, one_list, same_name, the_counterexample_is_one, the_least_is_one}
-use Rattle.olap_cex.specs.CexText.{direct_sum, sums_text, views_sum}
+use Rattle.olap_ast.specs.{Findings.IsUnsatisfiable, Formula.{Formula, Formula.Truth, Formula.Not}}
+use Rattle.olap_ast.specs.{Frozen.{Frozen, root_place, thawed}, Questions.IsImplied, Schema.Schema}
+use Rattle.olap_ast.specs.Summarizable.{IsSummarizable}
+use Rattle.olap_cex.{proofs.OneLine.same_line, specs.CexText.{direct_sum, sums_text, views_sum}}
 use Rattle.olap_cex.specs.FrozenText.{frozen_text}
 use Rattle.olap_instance.specs.Printing.{text_of_instance}
-use Rattle.olap_order.specs.Outputs.{line}
-use Rattle.olap_order.specs.declared.status.Status.{Status}
+use Rattle.olap_order.specs.{Outputs.line, declared.status.Status.Status}
 use Rattle.olap_order.specs.declared.status.Status.TheVariants.{Yes, No, Refused}
+use Rattle.olap_reasoning.proofs.{NeedsLemmas.one_needs, ShapeLemmas.{shapes_are_one, too_many_shapes_are_not_listed}}
 use Rattle.olap_reasoning.specs.Certificates.{ShowsDifference, ShowsMember, ShowsUnmet}
 use Rattle.olap_reasoning.specs.Laws.{AllFrozenAreOne, AnswersAreOne, AreCertificates, FindingsAreOne, TooManyAreNotListed}
 use Rattle.olap_reasoning.specs.Listings.{HasTooMany, ListsFindings, ListsFrozen, finding_text}
-use Rattle.olap_reasoning.proofs.NeedsLemmas.{one_needs}
-use Rattle.olap_reasoning.specs.ShapeListings.{HasTooManyShapes, ListsShapes}
-use Rattle.olap_reasoning.proofs.ShapeLemmas.{shapes_are_one, too_many_shapes_are_not_listed}
 use Rattle.olap_reasoning.specs.Questions.{IsAnswer, Question, BySatisfiable, ByImplied, BySummarizable, ByProof, ByNeeds, ByFrozen, ByShapes, ByAudit}
-use Rattle.olap_cex.proofs.OneLine.{same_line}
+use Rattle.olap_reasoning.specs.ShapeListings.{HasTooManyShapes, ListsShapes}
 
 -- ---- the line of a frozen dimension
 

@@ -1,13 +1,8 @@
 -- What a reply with a status and these bytes answers, where none means that memory ran out.
-use Rattle.std.proofs.Common.{◌≡◌, ℕ, List, Result, Ok, Err, subst, sym}
-use Rattle.std.specs.Prelude.{IfErr, IfOk}
-use Rattle.olap_order.specs.Judged.{IsVerdict, Replies}
-use Rattle.olap_order.specs.Order.{Done, Order}
-use Rattle.olap_order.specs.Refusals.{IsOutOfMemory}
-use Rattle.olap_order.specs.declared.replies.Reply.{Reply}
-use Rattle.olap_order.specs.declared.replies.Stop.{Stop}
+use Rattle.std.{proofs.Common.{◌≡◌, ℕ, List, Result, Ok, Err, subst, sym}, specs.Prelude.{IfErr, IfOk}}
+use Rattle.olap_order.{proofs.Replying.replies_no_memory, specs.Judged.{IsVerdict, Replies}, specs.Order.{Done, Order}}
+use Rattle.olap_order.specs.{Refusals.IsOutOfMemory, declared.replies.Reply.Reply, declared.replies.Stop.Stop}
 use Rattle.olap_order.specs.declared.status.Status.{Status}
-use Rattle.olap_order.proofs.Replying.{replies_no_memory}
 use Rattle.olap_reasoning.specs.Questions.{IsAnswer, Question}
 
 -- a reply with this status answers what the status and its bytes answer

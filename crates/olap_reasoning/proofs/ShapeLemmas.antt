@@ -1,26 +1,16 @@
 -- Shapes: what is listed answers its question, and it is one list.
 use Rattle.std.proofs.Common.{◌≡◌, ℕ, ◌≤◌, List, [], Bool, ◌++◌, length, codes, decimal, Ok, ap, sym, subst, ◌∙◌, arith}
+use Rattle.std.proofs.lemmas.List.{get_or-map, length-map, Elements.All-contains_itself}
 use Rattle.std.specs.Prelude.{◌≢◌, AllPairs, Contains, flat_map}
-use Rattle.std.proofs.lemmas.List.{get_or-map, length-map}
-use Rattle.std.proofs.lemmas.List.Elements.{All-contains_itself}
-use Rattle.olap_ast.specs.Formula.{Formula, Formula.Truth}
-use Rattle.olap_ast.specs.Frozen.{AreCandidates, Candidates, Frozen, IsFrozen}
+use Rattle.olap_ast.proofs.{Determined.still_frozen, OrderedLists.{Apart, no_longer, same_list}, Uniqueness.code_is_one}
+use Rattle.olap_ast.specs.{Formula.{Formula, Formula.Truth}, Frozen.{AreCandidates, Candidates, Frozen, IsFrozen}}
 use Rattle.olap_ast.specs.Schema.{Schema}
-use Rattle.olap_ast.proofs.Determined.{still_frozen}
-use Rattle.olap_ast.proofs.OrderedLists.{Apart, no_longer, same_list}
-use Rattle.olap_ast.proofs.Uniqueness.{code_is_one}
-use Rattle.olap_base.proofs.ListLemmas.{Contains-from_map, Contains-map}
-use Rattle.olap_base.specs.Limits.{most_frozen}
+use Rattle.olap_base.{proofs.ListLemmas.{Contains-from_map, Contains-map}, specs.Limits.most_frozen}
 use Rattle.olap_cex.specs.FrozenText.{frozen_text}
-use Rattle.olap_dimsat.specs.Listed.{IsBefore}
-use Rattle.olap_dimsat.specs.Shapes.{AreShapes}
-use Rattle.olap_order.specs.Judged.{Replies}
-use Rattle.olap_order.specs.Order.{Done}
-use Rattle.olap_order.specs.Outputs.{line}
-use Rattle.olap_order.specs.declared.replies.Reply.{Reply}
+use Rattle.olap_dimsat.specs.{Listed.IsBefore, Shapes.AreShapes}
+use Rattle.olap_order.specs.{Judged.Replies, Order.Done, Outputs.line, declared.replies.Reply.Reply}
 use Rattle.olap_order.specs.declared.status.Status.TheVariants.{Yes}
-use Rattle.olap_reasoning.specs.Questions.{ByShapes, IsAnswer}
-use Rattle.olap_reasoning.proofs.ReplyLemmas.{answers_by}
+use Rattle.olap_reasoning.{proofs.ReplyLemmas.answers_by, specs.Questions.{ByShapes, IsAnswer}}
 use Rattle.olap_reasoning.specs.ShapeLaws.{EachShapeIsListedOnce, ShapesAreOne, TooManyShapesAreNotListed, edges_of}
 
 -- the lines of the least frozen dimensions of all shapes answer `shapes`

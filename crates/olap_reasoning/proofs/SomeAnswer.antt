@@ -1,34 +1,22 @@
 -- Each question about all legal instances of a valid schema has an answer.
-use Rattle.std.proofs.Common.{ℕ, List, ◌++◌, length, refl, inl, inr}
+use Rattle.std.{proofs.Common.{ℕ, List, ◌++◌, length, refl, inl, inr}, specs.Fmt.decimal}
 use Rattle.std.specs.Prelude.{◌⊎◌, codes, flat_map}
-use Rattle.std.specs.Fmt.{decimal}
-use Rattle.olap_base.specs.Limits.{most_frozen}
-use Rattle.olap_base.specs.Ranks.{AreExactly}
+use Rattle.olap_base.{proofs.GeneralLemmas.at_most_or_greater, specs.Limits.most_frozen, specs.Ranks.AreExactly}
 use Rattle.olap_ast.specs.Formula.{Formula, Formula.Not, Formula.Truth}
 use Rattle.olap_ast.specs.Frozen.{AreCandidates, Candidates, Frozen, IsFrozen, IsLeastFrozen, code, thawed}
 use Rattle.olap_ast.specs.Questions.{ImpliedExactlyIfNoneFrozen, SourcesHaveCandidates, UnsatisfiableExactlyIfNoneFrozen, ValidSchemasHaveCandidates}
-use Rattle.olap_ast.specs.Schema.{Schema}
-use Rattle.olap_ast.specs.Summarizable.{IsSummarizable}
-use Rattle.olap_ast.specs.Valid.{IsQuestion, IsValidSchema}
-use Rattle.olap_cex.specs.CexText.{counterexample_text}
-use Rattle.olap_cex.specs.FrozenText.{frozen_text}
+use Rattle.olap_ast.specs.{Schema.Schema, Summarizable.IsSummarizable, Valid.{IsQuestion, IsValidSchema}}
+use Rattle.olap_cex.specs.{CexText.counterexample_text, FrozenText.frozen_text}
 use Rattle.olap_exists.specs.Existing.{CounterexamplesExist, FindingsExist, FrozenAreListed, LeastFrozenExist}
 use Rattle.olap_instance.specs.Printing.{text_of_instance}
 use Rattle.olap_needs.specs.Laws.{NeedsLeaveMembers}
-use Rattle.olap_order.specs.Outputs.{line, refusal}
-use Rattle.olap_order.specs.declared.status.Status.{Status}
+use Rattle.olap_order.specs.{Outputs.{line, refusal}, declared.status.Status.Status}
 use Rattle.olap_order.specs.declared.status.Status.TheVariants.{Yes, No, Refused}
-use Rattle.olap_proof.specs.declared.forms.Form.{Form}
-use Rattle.olap_proof.specs.Certificates.{lines_text}
-use Rattle.olap_proof.specs.Existing.{CertificatesExistExactlyWhereSummarizable}
-use Rattle.olap_proof.specs.Verifying.{IsCertificateFor}
-use Rattle.olap_reasoning.specs.Certificates.{ShowsDifference}
-use Rattle.olap_reasoning.specs.Existing.{AnswersExist}
-use Rattle.olap_reasoning.specs.Listings.{finding_text}
+use Rattle.olap_proof.specs.{Certificates.lines_text, Existing.CertificatesExistExactlyWhereSummarizable}
+use Rattle.olap_proof.specs.{Verifying.IsCertificateFor, declared.forms.Form.Form}
+use Rattle.olap_reasoning.proofs.{SomeNeeds.needs_exist, SomeShapes.shapes_exist}
+use Rattle.olap_reasoning.specs.{Certificates.ShowsDifference, Existing.AnswersExist, Listings.finding_text}
 use Rattle.olap_reasoning.specs.Questions.{IsAnswer, Question, BySatisfiable, ByImplied, BySummarizable, ByProof, ByFrozen, ByAudit, ByNeeds, ByShapes}
-use Rattle.olap_reasoning.proofs.SomeNeeds.{needs_exist}
-use Rattle.olap_reasoning.proofs.SomeShapes.{shapes_exist}
-use Rattle.olap_base.proofs.GeneralLemmas.{at_most_or_greater}
 
 -- the question has an answer
 abbrev Answered : Question → Type 0

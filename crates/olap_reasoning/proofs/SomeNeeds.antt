@@ -1,33 +1,23 @@
 -- Of a valid schema there is what a target needs: the categories whose members needn't reach it by one source, and
 -- those of them that are left without members.
-use Rattle.std.proofs.Common.{◌≡◌, ℕ, zero, suc, ◌+◌, ◌<◌, ◌≤◌, List, [], ◌∷◌, ◌++◌, length, refl, subst, sym, inl, inr, arith}
-use Rattle.std.proofs.Math.Decide.{dec_le}
-use Rattle.std.specs.Prelude.{◌⊎◌, Contains, codes, flat_map, sum_by}
-use native.Mathlib.Decide.{ℕ_discrete}
+use Rattle.std.proofs.Common.{ℕ, zero, suc, ◌+◌, ◌<◌, ◌≤◌, List, [], ◌∷◌, ◌++◌, length, refl, subst, sym, inl, inr, arith}
+use Rattle.std.{proofs.Math.Decide.dec_le, specs.Prelude.{Contains, codes, flat_map, sum_by}}
+use Rattle.olap_base.proofs.{DecisionLemmas.dec_not, GeneralLemmas.equal_or_less}
+use Rattle.olap_base.proofs.ListLemmas.{Contains-nil, contains_head}
 use Rattle.olap_base.specs.Deciding.{contains_cases, contains_cons, dec_and, dec_iff}
 use Rattle.olap_base.specs.Limits.{most_constraints, most_nodes, most_schema_nodes}
-use Rattle.olap_base.proofs.ListLemmas.{Contains-nil, contains_head}
-use Rattle.olap_ast.specs.Findings.{Finding.Unsatisfiable, IsUnsatisfiable}
-use Rattle.olap_ast.specs.Formula.{Formula, Formula.Not}
-use Rattle.olap_ast.specs.Frozen.{AreCandidates, Candidates}
+use Rattle.olap_ast.{proofs.SameAtoms.candidates_too, specs.Findings.{Finding.Unsatisfiable, IsUnsatisfiable}}
+use Rattle.olap_ast.specs.{Formula.{Formula, Formula.Not}, Frozen.{AreCandidates, Candidates}}
 use Rattle.olap_ast.specs.Questions.{ImpliedExactlyIfNoneFrozen, IsImplied, SourcesHaveCandidates}
-use Rattle.olap_ast.specs.Schema.{Constraint, Schema}
-use Rattle.olap_ast.specs.Summarizable.{not_by_one}
-use Rattle.olap_ast.specs.Valid.{IsValidSchema, node_count}
-use Rattle.olap_ast.proofs.SameAtoms.{candidates_too}
+use Rattle.olap_ast.specs.{Schema.{Constraint, Schema}, Summarizable.not_by_one, Valid.{IsValidSchema, node_count}}
+use Rattle.olap_exists.proofs.{Counterexamples.dec_bottom, Finite.dec_each, Listed.{AreListed, all_pairs}}
 use Rattle.olap_exists.specs.Existing.{LeastFrozenExist}
-use Rattle.olap_exists.proofs.Counterexamples.{dec_bottom}
-use Rattle.olap_exists.proofs.Finite.{dec_each}
-use Rattle.olap_exists.proofs.Listed.{AreListed, all_pairs}
 use Rattle.olap_needs.specs.Laws.{NeedsLeaveMembers}
 use Rattle.olap_needs.specs.Needs.{AreAscending, AreEmptied, AreNeeded, HasRoom, IsNeeded, by_one, needs_text, with_needs}
-use Rattle.olap_order.specs.Outputs.{line, refusal}
-use Rattle.olap_order.specs.declared.status.Status.{Status}
+use Rattle.olap_order.specs.{Outputs.{line, refusal}, declared.status.Status.Status}
 use Rattle.olap_order.specs.declared.status.Status.TheVariants.{Yes, No, Refused}
-use Rattle.olap_reasoning.specs.Listings.{finding_text}
-use Rattle.olap_base.proofs.GeneralLemmas.{equal_or_less}
-use Rattle.olap_base.proofs.DecisionLemmas.{dec_not}
-use Rattle.olap_reasoning.specs.Questions.{ByNeeds, IsAnswer}
+use Rattle.olap_reasoning.specs.{Listings.finding_text, Questions.{ByNeeds, IsAnswer}}
+use native.Mathlib.Decide.{ℕ_discrete}
 
 -- ---- numbers with a property that can be decided
 

@@ -1,32 +1,20 @@
 -- Of a valid schema there is a list of the shapes of each root, or it has more than may be listed.
 use Rattle.std.proofs.Common.{◌≡◌, ℕ, List, [], ◌∷◌, ◌++◌, length, refl, ap, subst, sym, ◌∙◌, inl, inr}
-use Rattle.std.specs.Prelude.{◌⊎◌, ◌≢◌, AllPairs, Contains, codes, flat_map}
-use Rattle.std.specs.Fmt.{decimal}
-use Rattle.std.proofs.lemmas.List.Elements.{All-contains}
-use mathlib.Core.List.{List-discrete}
-use Rattle.olap_base.specs.Deciding.{contains_cases, contains_cons}
-use Rattle.olap_base.specs.Limits.{most_frozen}
-use Rattle.olap_base.specs.Ranks.{IsNotAfter}
-use Rattle.olap_base.proofs.ListLemmas.{Contains-nil, contains_head}
-use Rattle.olap_ast.specs.Formula.{Formula, Formula.Truth}
-use Rattle.olap_ast.specs.Frozen.{AreCandidates, Candidates, Frozen, code}
-use Rattle.olap_ast.specs.Questions.{ValidSchemasHaveCandidates}
-use Rattle.olap_ast.specs.Schema.{Schema}
-use Rattle.olap_ast.specs.Valid.{IsValidSchema}
-use Rattle.olap_ast.proofs.OrderedLists.{head_before, tail_ordered}
+use Rattle.std.{proofs.lemmas.List.Elements.All-contains, specs.Fmt.decimal}
+use Rattle.std.specs.Prelude.{◌≢◌, AllPairs, Contains, codes, flat_map}
+use Rattle.olap_base.proofs.{DecisionLemmas.dec_bit, GeneralLemmas.at_most_or_greater}
+use Rattle.olap_base.proofs.{ListLemmas.{Contains-nil, contains_head}, RankLemmas.not_after_itself}
+use Rattle.olap_base.specs.{Deciding.{contains_cases, contains_cons}, Limits.most_frozen, Ranks.IsNotAfter}
+use Rattle.olap_ast.{proofs.OrderedLists.{head_before, tail_ordered}, specs.Formula.{Formula, Formula.Truth}}
+use Rattle.olap_ast.specs.{Frozen.{AreCandidates, Candidates, Frozen, code}, Questions.ValidSchemasHaveCandidates}
+use Rattle.olap_ast.specs.{Schema.Schema, Valid.IsValidSchema}
 use Rattle.olap_cex.specs.FrozenText.{frozen_text}
-use Rattle.olap_dimsat.specs.Listed.{IsBefore}
-use Rattle.olap_dimsat.specs.Shapes.{AreShapes}
-use Rattle.olap_exists.specs.Existing.{FrozenAreListed}
-use Rattle.olap_exists.proofs.Listed.{Ordered, all_pairs}
-use Rattle.olap_order.specs.Outputs.{line, refusal}
-use Rattle.olap_order.specs.declared.status.Status.{Status}
+use Rattle.olap_dimsat.specs.{Listed.IsBefore, Shapes.AreShapes}
+use Rattle.olap_exists.{proofs.Listed.{Ordered, all_pairs}, specs.Existing.FrozenAreListed}
+use Rattle.olap_order.specs.{Outputs.{line, refusal}, declared.status.Status.Status}
 use Rattle.olap_order.specs.declared.status.Status.TheVariants.{Yes, Refused}
-use Rattle.olap_base.proofs.RankLemmas.{not_after_itself}
-use Rattle.olap_reasoning.proofs.ShapeLemmas.{no_two}
-use Rattle.olap_base.proofs.DecisionLemmas.{dec_bit}
-use Rattle.olap_base.proofs.GeneralLemmas.{at_most_or_greater}
-use Rattle.olap_reasoning.specs.Questions.{ByShapes, IsAnswer}
+use Rattle.olap_reasoning.{proofs.ShapeLemmas.no_two, specs.Questions.{ByShapes, IsAnswer}}
+use mathlib.Core.List.{List-discrete}
 
 -- whether two have the same edges
 dec_edges : (f h : Frozen) → Dec (f.edges ≡ h.edges)

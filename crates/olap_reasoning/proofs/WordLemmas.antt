@@ -1,7 +1,6 @@
 -- A command isn't what is answered by the usage.
 use Rattle.olap_order.specs.Families.{IsNoUsage}
-use Rattle.olap_reasoning.specs.Seen.{seen}
-use Rattle.olap_reasoning.specs.declared.words.Command.{Command}
+use Rattle.olap_reasoning.specs.{Seen.seen, declared.words.Command.Command}
 
 -- the order of a command isn't the usage
 pub seen_is_no_usage : (command : Command) → IsNoUsage (seen command)

@@ -1,9 +1,7 @@
 -- What a first fault is, place by place.
 use Rattle.std.proofs.Common.{◌≡◌, ◌+◌, ◌<◌, ◌≤◌, ◌++◌, ◌∷◌, ◌∙◌, ◌⊎◌, ◌↔◌, ℕ, zero, suc, List, [], length, take, slice_get, Option, Some, None, refl, sym, ap, inl, inr, arith, append_assoc}
-use Rattle.std.proofs.lemmas.Bool.Decides.{eqb_tells}
-use Rattle.std.proofs.lemmas.List.{length-append}
-use Rattle.olap_records.specs.Faults.{first_fault, or_after}
-use Rattle.olap_records.specs.FaultLaws.{IsFirstFault, Passes}
+use Rattle.std.proofs.lemmas.{Bool.Decides.eqb_tells, List.length-append}
+use Rattle.olap_records.specs.{FaultLaws.{IsFirstFault, Passes}, Faults.{first_fault, or_after}}
 
 module _ {R K : Type 0} (fault : List R → R → Option K) where
   -- the record after those before it

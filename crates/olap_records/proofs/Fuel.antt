@@ -2,11 +2,9 @@
 use Rattle.std.proofs.Common.{◌≡◌, ◌<◌, ◌+◌, ◌⊎◌, ℕ, zero, suc, List, [], ◌∷◌, length, Option, Some, None, refl, sym, ap, inl, inr, arith, add-one, ◌∙◌}
 use Rattle.std.proofs.lemmas.Bool.{cases_Bool}
 use Rattle.csv.specs.Machine.{Read, next_record, step, ends_at_end, is_end, fields_after, field_after}
-use Rattle.csv.specs.Reading.{records_from, records_next}
-use Rattle.csv.specs.declared.parser.Config.{Config}
-use Rattle.csv.specs.declared.parser.State.{State}
-use Rattle.csv.specs.declared.parser.State.TheVariants as st
+use Rattle.csv.specs.{Reading.{records_from, records_next}, declared.parser.Config.Config, declared.parser.State.State}
 use Rattle.olap_base.proofs.GeneralLemmas.{some_same}
+use Rattle.csv.specs.declared.parser.State.TheVariants as st
 
 -- a read leaves fewer bytes, or stands at the end of the text
 abbrev Leaves : List ℕ → Read → Type 0

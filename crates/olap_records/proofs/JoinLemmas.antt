@@ -2,13 +2,11 @@
 --     cutter-behind  a splitter's place after some records
 use Rattle.std.proofs.Common.{◌≡◌, ◌∷◌, ◌++◌, ◌∙◌, ℕ, List, [], refl, sym, ap, inl, inr, append_assoc}
 use Rattle.std.proofs.lemmas.Bool.{cases_Bool}
-use Rattle.csv.specs.Machine.{ends_at_end, step}
-use Rattle.csv.specs.Reading.{default_config}
+use Rattle.csv.specs.{Machine.{ends_at_end, step}, Reading.default_config, declared.parser.Action.Action}
 use Rattle.csv.specs.declared.parser.State.{State}
-use Rattle.csv.specs.declared.parser.Action.{Action}
-use Rattle.csv.specs.declared.parser.Action.TheVariants as act
-use Rattle.olap_records.specs.Standing.{Standing, after_action, after_byte, at_end, at_start, behind, records_fed, standing}
 use Rattle.olap_records.proofs.StandingLemmas.{pieces-join, records-begin}
+use Rattle.olap_records.specs.Standing.{Standing, after_action, after_byte, at_end, at_start, behind, records_fed, standing}
+use Rattle.csv.specs.declared.parser.Action.TheVariants as act
 
 -- one action
 action-behind : (d : List (List (List ℕ))) (t : Standing) (s : State) (a : Action) (c : ℕ)

@@ -1,15 +1,11 @@
 -- One byte more of a piece, by what it does.
 --     skipped, copied, ended-field, ended-record
 use Rattle.std.proofs.Common.{◌≡◌, ◌<◌, ◌+◌, ◌∷◌, ◌++◌, ◌∙◌, ℕ, Bool, false, List, [], length, take, get_or, refl, ap}
-use Rattle.csv.specs.Machine.{step}
-use Rattle.csv.specs.Reading.{default_config}
-use Rattle.olap_records.specs.Places.{action_of, state_of}
-use Rattle.olap_records.specs.Standing.{Standing, after_action, standing}
-use Rattle.olap_records.specs.CutterInside.{stand_by}
-use Rattle.olap_records.specs.declared.steps.Place.{Place}
-use Rattle.olap_records.specs.declared.steps.Action.{Action}
+use Rattle.csv.specs.{Machine.step, Reading.default_config}
+use Rattle.olap_records.{proofs.StandingLemmas.one-more, specs.CutterInside.stand_by}
+use Rattle.olap_records.specs.{Places.{action_of, state_of}, Standing.{Standing, after_action, standing}}
+use Rattle.olap_records.specs.declared.steps.{Action.Action, Place.Place}
 use Rattle.olap_records.specs.declared.steps.Action.TheVariants as action
-use Rattle.olap_records.proofs.StandingLemmas.{one-more}
 
 module _ (t : Standing) (piece : List ℕ) (i : ℕ) (l : i < length piece)
     (fields : List (List ℕ)) (field : List ℕ) (p : Place) (whole : Bool) (part : whole ≡ false)

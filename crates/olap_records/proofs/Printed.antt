@@ -1,12 +1,8 @@
 -- The decimal text of a number spells it.
 use Rattle.std.proofs.Common.{◌≡◌, ◌<◌, ◌+◌, ◌^◌, ◌==◌, ◌∙◌, Bool, true, false, ℕ, ℤ, pos, negsuc, suc, List, Some, refl, ap, arith, slice_index, decimal}
-use Rattle.std.specs.Fmt.{signed_decimal}
-use Rattle.std.specs.Int.Signed.{mag}
-use Rattle.std.specs.Int.{IsInRange}
+use Rattle.std.proofs.lemmas.{Bool.ne_eqb, Fmt.decimal_is_IsNumeral_wide, Str.Parse.digit_at}
+use Rattle.std.specs.{Fmt.signed_decimal, Int.IsInRange, Int.Signed.mag}
 use Rattle.std.specs.Str.Parse.{IsNumeral, digits_value, signed_digits_value, without_leading_sign}
-use Rattle.std.proofs.lemmas.Bool.{ne_eqb}
-use Rattle.std.proofs.lemmas.Fmt.{decimal_is_IsNumeral_wide}
-use Rattle.std.proofs.lemmas.Str.Parse.{digit_at}
 use Rattle.olap_numerals.proofs.Spelling.{numeral-decides, signed_of}
 
 -- digits begin with no sign

@@ -1,14 +1,11 @@
 -- A printed text reads back as its records.
 use Rattle.std.proofs.Common.{◌≡◌, ◌≢◌, ◌<◌, ◌+◌, ◌==◌, ◌++◌, ◌∷◌, ◌∙◌, inl, inr, false, ℕ, suc, List, [], length, map, slice_index, refl, sym, ap, arith, append_assoc}
-use Rattle.std.specs.Prelude.{All}
-use Rattle.std.proofs.lemmas.Bool.Decides.{eqb_tells}
-use Rattle.std.proofs.lemmas.List.{append-nil}
-use Rattle.csv.specs.Reading.{default_config, records_from, strip_bom}
+use Rattle.std.{proofs.lemmas.Bool.Decides.eqb_tells, proofs.lemmas.List.append-nil, specs.Prelude.All}
+use Rattle.csv.{proofs.RoundTrip.read-write, specs.Reading.{default_config, records_from, strip_bom}}
 use Rattle.csv.specs.Writing.{read_back}
-use Rattle.csv.specs.declared.parser.State.TheVariants as st
-use Rattle.csv.proofs.RoundTrip.{read-write}
-use Rattle.olap_records.specs.Texts.{TextReadsBack, text_of_row, text_of_rows}
 use Rattle.olap_records.proofs.Fuel.{none-at-end, records-more}
+use Rattle.olap_records.specs.Texts.{TextReadsBack, text_of_row, text_of_rows}
+use Rattle.csv.specs.declared.parser.State.TheVariants as st
 
 -- one record more at the end of a text
 pub texts-push : (xs : List (List (List ℕ))) (r : List (List ℕ))

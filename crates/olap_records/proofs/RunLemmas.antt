@@ -2,19 +2,13 @@
 --     copied-run      a byte that is copied, and the bytes after it that only join the field
 use Rattle.std.proofs.Common.{◌≡◌, ◌<◌, ◌≤◌, ◌+◌, ◌-◌, ◌∷◌, ◌++◌, ◌∙◌, ℕ, Bool, false, List, [], length, take, drop, get_or, refl, sym, ap, arith, append_assoc, append-nil, length-drop, get_or-drop, take-add}
 use Rattle.std.proofs.lemmas.List.{drop-drop, take_more}
-use Rattle.csv.specs.Machine.{Runs, step}
-use Rattle.csv.specs.Reading.{default_config}
-use Rattle.csv.specs.declared.parser.State.{State}
+use Rattle.csv.specs.{Machine.{Runs, step}, Reading.default_config, declared.parser.State.State}
+use Rattle.olap_records.{proofs.NextLemmas.copied, proofs.StandingLemmas.pieces-join, specs.CutterInside.stand_by}
+use Rattle.olap_records.specs.{Places.{action_of, state_of}, Standing.{Standing, after_action, standing}}
+use Rattle.olap_records.specs.declared.steps.{Action.Action, Place.Place}
 use Rattle.csv.specs.declared.parser.Action as csv
 use Rattle.csv.specs.declared.parser.Action.TheVariants as act
-use Rattle.olap_records.specs.Places.{action_of, state_of}
-use Rattle.olap_records.specs.Standing.{Standing, after_action, standing}
-use Rattle.olap_records.specs.CutterInside.{stand_by}
-use Rattle.olap_records.specs.declared.steps.Place.{Place}
-use Rattle.olap_records.specs.declared.steps.Action.{Action}
 use Rattle.olap_records.specs.declared.steps.Action.TheVariants as action
-use Rattle.olap_records.proofs.NextLemmas.{copied}
-use Rattle.olap_records.proofs.StandingLemmas.{pieces-join}
 
 -- the part of a text between two places
 abbrev pub between : ℕ → ℕ → List ℕ → List ℕ

@@ -1,9 +1,7 @@
 -- A row compared field by field.
 use Rattle.std.proofs.Common.{◌≡◌, ◌<◌, ◌∷◌, ◌∙◌, Bor, true, false, not, ℕ, suc, List, [], length, map, get_or, refl, sym, ap, arith}
+use Rattle.std.proofs.lemmas.{Bool.{not-true, not-false}, List.get_or-map, Slice.Eq.bytes_eq-Decides}
 use Rattle.std.specs.Str.{bytes_eq}
-use Rattle.std.proofs.lemmas.Bool.{not-true, not-false}
-use Rattle.std.proofs.lemmas.List.{get_or-map}
-use Rattle.std.proofs.lemmas.Slice.Eq.{bytes_eq-Decides}
 
 -- two lists of the same head and the same rest
 both : {A : Type 0} (x y : A) (xs ys : List A) → x ≡ y → xs ≡ ys → x ∷ xs ≡ y ∷ ys

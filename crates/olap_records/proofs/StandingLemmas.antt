@@ -1,17 +1,13 @@
 -- The reader byte by byte against the definition of a text's records.
 use Rattle.std.proofs.Common.{◌≡◌, ◌<◌, ◌≤◌, ◌+◌, ◌∷◌, ◌++◌, ◌∙◌, ℕ, zero, suc, List, [], Some, length, take, get_or, refl, sym, ap, inl, inr, arith, add-one, append_assoc}
-use Rattle.std.specs.Prelude.{if◌then◌else◌}
-use Rattle.std.proofs.lemmas.Bool.{cases_Bool}
-use Rattle.std.proofs.lemmas.List.{append-nil, take_more}
+use Rattle.std.{proofs.lemmas.Bool.cases_Bool, proofs.lemmas.List.{append-nil, take_more}, specs.Prelude.if◌then◌else◌}
 use Rattle.csv.specs.Machine.{ends_at_end, field_after, fields_after, is_end, next_record, step}
-use Rattle.csv.specs.Reading.{default_config, records_from, records_next, strip_bom}
+use Rattle.csv.specs.{Reading.{default_config, records_from, records_next, strip_bom}, declared.parser.Action.Action}
 use Rattle.csv.specs.declared.parser.State.{State}
-use Rattle.csv.specs.declared.parser.State.TheVariants as st
-use Rattle.csv.specs.declared.parser.Action.{Action}
-use Rattle.csv.specs.declared.parser.Action.TheVariants as act
-use Rattle.olap_records.proofs.Fuel.{none-at-end}
+use Rattle.olap_records.{proofs.Fuel.none-at-end, specs.Pieces.{PiecesJoin, RecordsAtEnd, RecordsBegin}}
 use Rattle.olap_records.specs.Standing.{Standing, after_action, after_byte, at_end, at_start, standing}
-use Rattle.olap_records.specs.Pieces.{PiecesJoin, RecordsAtEnd, RecordsBegin}
+use Rattle.csv.specs.declared.parser.State.TheVariants as st
+use Rattle.csv.specs.declared.parser.Action.TheVariants as act
 
 -- the state after two pieces is that after both joined
 pub pieces-join : PiecesJoin

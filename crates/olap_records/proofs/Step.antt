@@ -1,17 +1,12 @@
 -- What one read does to the records that are left.
 use Rattle.std.proofs.Common.{◌≡◌, ◌∷◌, ◌∙◌, Bor, Bool, true, false, ℕ, List, [], Option, Some, None, refl, sym, ap, inl, inr}
-use Rattle.std.specs.Prelude.{IsSome, not, if◌then◌else◌}
-use Rattle.std.specs.Bool.{MatchBool}
-use Rattle.std.proofs.lemmas.Bool.{cases_Bool}
-use Rattle.csv.specs.Machine.{Read, next_record}
+use Rattle.std.{proofs.lemmas.Bool.cases_Bool, specs.Bool.MatchBool, specs.Prelude.{IsSome, not, if◌then◌else◌}}
+use Rattle.csv.{proofs.ReadFacts.{rows-end, rows-more}, specs.Machine.{Read, next_record}}
 use Rattle.csv.specs.Reading.{ReadRecord, Reached, Ready, default_config, has_failed, reader_state, reader_trim, source_of}
-use Rattle.csv.specs.declared.parser.State.{State}
-use Rattle.csv.specs.declared.reader.Reader.{Reader}
-use Rattle.csv.specs.declared.reader.Trim.TheVariants as trim
-use Rattle.csv.proofs.ReadFacts.{rows-end, rows-more}
-use Rattle.olap_records.specs.ReaderInside.{Intact}
+use Rattle.csv.specs.declared.{parser.State.State, reader.Reader.Reader}
+use Rattle.olap_records.{proofs.Fuel.{records-more, records-none}, specs.ReaderInside.Intact}
 use Rattle.olap_records.specs.Records.{records_after, records_left}
-use Rattle.olap_records.proofs.Fuel.{records-more, records-none}
+use Rattle.csv.specs.declared.reader.Trim.TheVariants as trim
 
 -- the bytes that a source has left
 abbrev rem : Bor (List ℕ) → Option (List ℕ)

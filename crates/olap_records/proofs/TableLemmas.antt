@@ -4,15 +4,11 @@
 --     all_read-passed, all_read-named, at_record-named, table_meant-named
 --                           the same by the names of faults
 use Rattle.std.proofs.Common.{◌≡◌, ◌++◌, ◌∷◌, ◌∙◌, ◌↔◌, ℕ, zero, suc, Bool, true, false, cond, List, [], codes, drop, length, map, take, slice_get, Option, Some, None, Result, Ok, Err, refl, sym, ap, subst, arith, append_assoc}
-use Rattle.std.proofs.lemmas.List.{append-nil}
-use Rattle.std.specs.Option.{option_map}
-use Rattle.std.specs.Prelude.{is_none, unwrap_or}
+use Rattle.std.{proofs.lemmas.List.append-nil, specs.Option.option_map, specs.Prelude.{is_none, unwrap_or}}
 use Rattle.std.specs.Result.{result_err}
-use Rattle.olap_base.specs.Following.{given}
-use Rattle.olap_base.specs.declared.refusals.Fault.{Fault}
-use Rattle.olap_records.specs.Faults.{first_fault, or_after}
+use Rattle.olap_base.specs.{Following.given, declared.refusals.Fault.Fault}
+use Rattle.olap_records.{proofs.FaultLemmas.first-iff, specs.Faults.{first_fault, or_after}}
 use Rattle.olap_records.specs.Tables.{AllReadIsFirst, AllReadIsRead, all_read, and_others, at_record, begins_with, fault_of, named, or_read, table_meant, table_read}
-use Rattle.olap_records.proofs.FaultLemmas.{first-iff}
 
 -- a fault, or else a value
 abbrev pub or_value : {T K : Type 0} → Option K → T → Result T K

@@ -1,42 +1,30 @@
 -- What is written of a proof is accepted: the order of `verify` comes to the certificate by the steps of `prove`.
 --     proved_is_accepted
-use Rattle.std.proofs.Common.{◌≡◌, ◌≤◌, ℕ, suc, List, [], ◌∷◌, ◌++◌, Bool, true, false, cond, Option, None, Some, MatchOption, length, refl, sym, subst, inl, inr, le-ltb}
-use Rattle.std.specs.List.{list_any}
-use Rattle.std.specs.Option.{option_or, unwrap_or}
-use Rattle.std.specs.Prelude.{Result, Ok, Err, codes, nat_lt, ◌==◌}
-use Rattle.olap_base.specs.Graph.{Graph}
-use Rattle.olap_base.specs.Limits.{most_certificate_bytes, most_schema_bytes, most_words}
+use Rattle.std.proofs.Common.{◌≡◌, ◌≤◌, ℕ, suc, List, [], ◌∷◌, ◌++◌, Bool, true, false, cond, Option, None, Some, MatchOption, length, refl, sym, subst, inl, le-ltb}
+use Rattle.std.specs.{List.list_any, Option.{option_or, unwrap_or}, Prelude.{Result, Ok, Err, codes, nat_lt, ◌==◌}}
+use Rattle.olap_base.specs.{Graph.Graph, Limits.{most_certificate_bytes, most_schema_bytes, most_words}}
 use Rattle.olap_base.specs.declared.refusals.Fault.{Fault}
 use Rattle.olap_ast.specs.Schema.{Schema}
 use Rattle.olap_graph.specs.Lookups.{category_named}
 use Rattle.olap_outside.specs.Files.{Files}
-use Rattle.olap_order.specs.Judged.{Gives}
-use Rattle.olap_order.specs.Order.{Done, Order, Read, Told, and_then, ok_or, refused}
-use Rattle.olap_order.specs.Outputs.{line}
-use Rattle.olap_order.specs.Arguments.{at_least}
-use Rattle.olap_order.specs.Behind.{another_category, categories_from}
-use Rattle.olap_order.specs.Families.{asking}
+use Rattle.olap_order.{proofs.BehindLemmas.{three_or_more_is, two_or_more_is}, specs.Arguments.at_least}
+use Rattle.olap_order.specs.{Behind.{another_category, categories_from}, Families.asking, Judged.Gives}
+use Rattle.olap_order.specs.{Order.{Done, Order, Read, Told, and_then, ok_or, refused}, Outputs.line}
 use Rattle.olap_order.specs.Steps.{category_word, fault_text, meaning_or_fault, schema_file, text_file}
-use Rattle.olap_order.proofs.BehindLemmas.{three_or_more_is, two_or_more_is}
-use Rattle.olap_order.specs.Taken.{ComesOut}
-use Rattle.olap_order.specs.declared.status.Status.{Status}
+use Rattle.olap_order.specs.{Taken.ComesOut, declared.status.Status.Status}
 use Rattle.olap_order.specs.declared.status.Status.TheVariants.{Refused, Yes}
-use Rattle.olap_proof.specs.declared.forms.Form.{Form}
-use Rattle.olap_proof.specs.declared.forms.Form.TheVariants.{Long, Short}
-use Rattle.olap_reasoning.specs.Commands.{sources_order}
-use Rattle.olap_reasoning.specs.Questions as reasoning
-use Rattle.olap_reasoning.specs.Questions.{ByProof}
-use Rattle.olap_run.specs.Commands.{order_named, usage}
-use Rattle.olap_run.specs.Laws.{ProvedIsAccepted, judging, proving}
+use Rattle.olap_proof.specs.declared.forms.Form.{Form, TheVariants.{Long, Short}}
+use Rattle.olap_reasoning.specs.{Commands.sources_order, Questions.ByProof}
+use Rattle.olap_run.specs.{Commands.{order_named, usage}, Laws.{ProvedIsAccepted, judging, proving}}
 use Rattle.olap_run.specs.Questions.{IsAnswer, Question, OfCubes, OfPlans, OfReasoning, OfTotals, OfVerdicts}
 use Rattle.olap_schema_text.specs.Judging.{schema_read}
+use Rattle.olap_verdicts.specs.{Commands.verify_order, Questions.ByCertificate}
+use Rattle.olap_reasoning.specs.Questions as reasoning
 use Rattle.olap_totals.specs.Commands as totals
 use Rattle.olap_plans.specs.Commands as plans
 use Rattle.olap_cubes.specs.Commands as cubes
 use Rattle.olap_verdicts.specs.Commands as verdict_commands
-use Rattle.olap_verdicts.specs.Commands.{verify_order}
 use Rattle.olap_verdicts.specs.Questions as verdicts
-use Rattle.olap_verdicts.specs.Questions.{ByCertificate}
 
 -- ---- steps that come out
 

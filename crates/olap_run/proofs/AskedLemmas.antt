@@ -1,30 +1,22 @@
 -- Each question that an order comes to is about what was read: of valid schemas, a formula of one, a size.
-use Rattle.std.proofs.Common.{List, [], ◌∷◌, ℕ, length}
-use Rattle.std.specs.Prelude.{None, Some, codes, nat_lt, unwrap_or}
-use Rattle.std.specs.Option.{option_or}
-use Rattle.std.specs.Str.{bytes_eq}
+use Rattle.std.{proofs.Common.{List, [], ◌∷◌, ℕ, length}, specs.Option.option_or}
+use Rattle.std.specs.{Prelude.{None, Some, codes, nat_lt, unwrap_or}, Str.bytes_eq}
 use Rattle.olap_base.specs.Limits.{most_words}
-use Rattle.olap_cubes.specs.Commands as cubes
-use Rattle.olap_cubes.specs.Existing.{IsAsked as IsCubeAsked}
-use Rattle.olap_cubes.proofs.AskedLemmas.{asked_named as cubes_asked}
-use Rattle.olap_order.specs.Families.{asking}
-use Rattle.olap_order.specs.Order.{Told}
-use Rattle.olap_order.specs.Outputs.{line}
-use Rattle.olap_order.specs.declared.status.Status.TheVariants.{Usage, Yes}
+use Rattle.olap_cubes.{proofs.AskedLemmas.{asked_named as cubes_asked}, specs.Existing.{IsAsked as IsCubeAsked}}
 use Rattle.olap_order.proofs.Coming.{Comes, MayCome, an_order, either, may_ask, may_either, may_or, no_order, or_else, told, whichever}
-use Rattle.olap_plans.specs.Commands as plans
-use Rattle.olap_plans.specs.Existing.{IsAsked as IsPlanAsked}
-use Rattle.olap_plans.proofs.AskedLemmas.{asked_named as plans_asked}
-use Rattle.olap_reasoning.specs.Commands as reasoning
-use Rattle.olap_reasoning.specs.Existing.{IsAsked as IsReasoningAsked}
+use Rattle.olap_order.specs.{Families.asking, Order.Told, Outputs.line, declared.status.Status.TheVariants.{Usage, Yes}}
+use Rattle.olap_plans.{proofs.AskedLemmas.{asked_named as plans_asked}, specs.Existing.{IsAsked as IsPlanAsked}}
 use Rattle.olap_reasoning.proofs.AskedLemmas.{asked_named as reasoning_asked}
+use Rattle.olap_reasoning.specs.Existing.{IsAsked as IsReasoningAsked}
 use Rattle.olap_run.specs.Commands.{order_named, order_of, usage, version, version_told}
 use Rattle.olap_run.specs.Questions.{Question, OfReasoning, OfTotals, OfPlans, OfVerdicts, OfCubes}
 use Rattle.olap_schema_text.specs.Laws.{ReadQuestionsAreValid, ReadSchemasAreReadable}
+use Rattle.olap_verdicts.{proofs.AskedLemmas.{asked_named as verdicts_asked}, specs.Laws.{IsAsked as IsVerdictAsked}}
+use Rattle.olap_cubes.specs.Commands as cubes
+use Rattle.olap_plans.specs.Commands as plans
+use Rattle.olap_reasoning.specs.Commands as reasoning
 use Rattle.olap_totals.specs.Commands as totals
 use Rattle.olap_verdicts.specs.Commands as verdicts
-use Rattle.olap_verdicts.specs.Laws.{IsAsked as IsVerdictAsked}
-use Rattle.olap_verdicts.proofs.AskedLemmas.{asked_named as verdicts_asked}
 
 -- what is asked is about what was read
 abbrev pub IsAsked : Question → Type 0

@@ -1,20 +1,15 @@
 -- There is one outcome at most: the words and the files leave no choice of the status and the bytes.
 --     outcome_is_one    the law
-use Rattle.std.proofs.Common.{◌≡◌, ◌⊎◌, List, ℕ, inl, sym, ◌∙◌}
-use Rattle.std.specs.Prelude.{MatchOption, None, Option, Some}
+use Rattle.std.{proofs.Common.{◌≡◌, ◌⊎◌, List, ℕ, inl, sym, ◌∙◌}, specs.Prelude.{MatchOption, None, Option, Some}}
 use Rattle.olap_outside.specs.Files.{Files}
 use Rattle.olap_cubes.specs.Laws.{AnswersAreOne as CubesAnswersAreOne}
-use Rattle.olap_order.specs.Judged.{Gives}
-use Rattle.olap_order.specs.Order.{Order, Done, Told, Read}
-use Rattle.olap_order.specs.declared.status.Status.{Status}
-use Rattle.olap_order.specs.declared.status.Status.TheVariants.{Yes}
-use Rattle.olap_order.proofs.Coming.{Comes}
+use Rattle.olap_order.{proofs.Coming.Comes, specs.Judged.Gives, specs.Order.{Order, Done, Told, Read}}
+use Rattle.olap_order.specs.declared.status.Status.{Status, TheVariants.Yes}
 use Rattle.olap_plans.specs.Laws.{AnswersAreOne as PlansAnswersAreOne}
 use Rattle.olap_reasoning.specs.Laws.{AnswersAreOne}
-use Rattle.olap_run.specs.Commands.{order_of}
+use Rattle.olap_run.{proofs.AskedLemmas.{IsAsked, all_asked}, specs.Commands.order_of}
 use Rattle.olap_run.specs.Laws.{AreCertificates, OutcomeIsOne}
 use Rattle.olap_run.specs.Questions.{IsAnswer, Question, OfReasoning, OfTotals, OfPlans, OfVerdicts, OfCubes}
-use Rattle.olap_run.proofs.AskedLemmas.{IsAsked, all_asked}
 use Rattle.olap_schema_text.specs.Laws.{ReadQuestionsAreValid, ReadSchemasAreReadable}
 use Rattle.olap_verdicts.specs.Laws.{AnswersAreOne as VerdictsAnswersAreOne}
 

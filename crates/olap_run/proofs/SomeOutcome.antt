@@ -4,16 +4,12 @@ use Rattle.std.proofs.Common.{◌≡◌, ℕ, List, Option, None, Some, refl, sy
 use Rattle.std.specs.Prelude.{IsSome, MatchOption}
 use Rattle.olap_cubes.specs.Existing.{AnswersExist as CubesAnswersExist}
 use Rattle.olap_outside.specs.Files.{Files}
-use Rattle.olap_order.specs.Judged.{Gives}
-use Rattle.olap_order.specs.Order.{ComesTo, Done, IsHeld, Order, Read, Told}
+use Rattle.olap_order.{proofs.Coming.Comes, specs.Judged.Gives, specs.Order.{ComesTo, Done, IsHeld, Order, Read, Told}}
 use Rattle.olap_order.specs.declared.status.Status.{Status}
-use Rattle.olap_order.proofs.Coming.{Comes}
 use Rattle.olap_plans.specs.Existing.{AnswersExist as PlansAnswersExist}
 use Rattle.olap_reasoning.specs.Existing.{AnswersExist}
-use Rattle.olap_run.specs.Commands.{order_of}
-use Rattle.olap_run.specs.Laws.{OutcomeExists}
+use Rattle.olap_run.{proofs.AskedLemmas.{IsAsked, all_asked}, specs.Commands.order_of, specs.Laws.OutcomeExists}
 use Rattle.olap_run.specs.Questions.{IsAnswer, Question, OfReasoning, OfTotals, OfPlans, OfVerdicts, OfCubes}
-use Rattle.olap_run.proofs.AskedLemmas.{IsAsked, all_asked}
 use Rattle.olap_schema_text.specs.Laws.{ReadQuestionsAreValid, ReadSchemasAreReadable}
 use Rattle.olap_verdicts.specs.Laws.{AnswersExist as VerdictsAnswersExist}
 

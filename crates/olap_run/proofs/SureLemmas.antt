@@ -1,14 +1,10 @@
 -- What can't come over a library that is sure, and with an answer.
 use Rattle.std.proofs.Common.{◌≡◌, ◌⊎◌, ◌∙◌, ℕ, List, Option, None, Some, inl, inr, subst, sym}
 use Rattle.std.specs.Prelude.{IsSome, IsTrue}
-use Rattle.olap_outside.specs.Files.{Files}
-use Rattle.olap_outside.specs.declared.outside.Library.{Ghosts as Library}
-use Rattle.olap_run.specs.Commands.{order_of}
-use Rattle.olap_order.specs.Judged.{RanOutOfMemory, ReadCause}
-use Rattle.olap_order.specs.Taken.{IsStuckTold}
-use Rattle.olap_order.specs.declared.status.Status.{Status}
+use Rattle.olap_outside.specs.{Files.Files, declared.outside.Library.{Ghosts as Library}}
+use Rattle.olap_run.specs.{Commands.order_of, Outcome.{IsAnswered, TellsAll}}
+use Rattle.olap_order.specs.{Judged.{RanOutOfMemory, ReadCause}, Taken.IsStuckTold, declared.status.Status.Status}
 use Rattle.olap_order.specs.declared.status.Status.TheVariants.{Yes, No, Usage, Refused, ReadFault, WriteFault, Memory}
-use Rattle.olap_run.specs.Outcome.{IsAnswered, TellsAll}
 
 -- what is none isn't some
 none_is_some : (o : Option (List ℕ)) → o ≡ None → IsSome o → ⊥

@@ -3,13 +3,9 @@ use Rattle.std.proofs.Common.{◌≡◌, ◌≤◌, ℕ, List, ◌∷◌, Some, 
 use Rattle.std.proofs.lemmas.Bool.Decides.{nat_tests}
 use Rattle.olap_base.specs.Limits.{most_words}
 use Rattle.olap_outside.specs.declared.outside.Library.{Ghosts as Library}
-use Rattle.olap_order.specs.Judged.{Judged, Replies}
-use Rattle.olap_order.specs.Order.{Order}
-use Rattle.olap_order.specs.declared.replies.Reply.{Reply}
-use Rattle.olap_order.specs.declared.replies.Stop.{Stop}
-use Rattle.olap_order.proofs.Stepping.{answered}
-use Rattle.olap_run.specs.Commands.{order_of, version_told}
-use Rattle.olap_run.specs.Questions.{IsAnswer, Question}
+use Rattle.olap_order.{proofs.Stepping.answered, specs.Judged.{Judged, Replies}, specs.Order.Order}
+use Rattle.olap_order.specs.declared.replies.{Reply.Reply, Stop.Stop}
+use Rattle.olap_run.specs.{Commands.{order_of, version_told}, Questions.{IsAnswer, Question}}
 
 -- where the version is told, the order of the words is what is told
 order_told : (name : List ℕ) (rest : List (List ℕ)) (order : Order Question) → length (name ∷ rest) ≤ most_words

@@ -1,25 +1,14 @@
 -- There are no more distinct pairs where fewer atoms stand.
 use Rattle.std.proofs.Common.{◌≡◌, ◌≤◌, Bool, true, false, cond, ◌||◌, List, [], ◌∷◌, ◌++◌, length, fold, refl, ap, sym, ◌∙◌}
-use Rattle.std.specs.Prelude.{Contains}
-use Rattle.std.specs.Cmp.{IsEquivalence, and_equiv, on_equiv}
-use Rattle.std.specs.Cmp.Lexicographic.{on_texts_equal}
-use Rattle.std.specs.List.{IsDistinct, list_any}
-use Rattle.std.proofs.lemmas.Bool.{eqb-true}
-use Rattle.std.proofs.lemmas.Cmp.{int_eq_equiv, nat_eq_equiv}
-use Rattle.std.specs.Ordering.{int_eq}
+use Rattle.std.proofs.lemmas.{Bool.eqb-true, Cmp.{int_eq_equiv, nat_eq_equiv}, List.Folds.list_any-append}
+use Rattle.std.proofs.lemmas.Map.{Keys.IsDistinct-push, Made.length-le_from_is_member, Steps.list_any_congr}
+use Rattle.std.proofs.lemmas.{Map.Views.{Contains-from_any, list_any-from_Contains}, Slice.Eq.bytes_eq-Decides}
+use Rattle.std.specs.Cmp.{IsEquivalence, and_equiv, on_equiv, Lexicographic.on_texts_equal}
+use Rattle.std.specs.{List.{IsDistinct, list_any}, Ordering.int_eq, Prelude.Contains, Str.bytes_eq}
 use Rattle.olap_numerals.proofs.OrderLemmas.{same_number}
-use Rattle.std.proofs.lemmas.List.Folds.{list_any-append}
-use Rattle.std.proofs.lemmas.Map.Keys.{IsDistinct-push}
-use Rattle.std.proofs.lemmas.Map.Made.{length-le_from_is_member}
-use Rattle.std.proofs.lemmas.Map.Steps.{list_any_congr}
-use Rattle.std.proofs.lemmas.Map.Views.{Contains-from_any, list_any-from_Contains}
-use Rattle.std.proofs.lemmas.Slice.Eq.{bytes_eq-Decides}
-use Rattle.std.specs.Str.{bytes_eq}
-use Rattle.olap_base.proofs.ListLemmas.{first_true, second_true}
-use Rattle.olap_ast.specs.Valid.{with_new}
-use Rattle.olap_base.proofs.GeneralLemmas.{or_false}
+use Rattle.olap_base.proofs.{GeneralLemmas.or_false, ListLemmas.{first_true, second_true}}
 use Rattle.olap_ast.specs.Atoms.{Comparison, Equality}
-use Rattle.olap_ast.specs.Pairs.{distinct_numbers, distinct_pairs, is_same_number, is_same_pair}
+use Rattle.olap_ast.specs.{Pairs.{distinct_numbers, distinct_pairs, is_same_number, is_same_pair}, Valid.with_new}
 
 -- ---- lists to which each new element is added once
 

@@ -1,22 +1,14 @@
 -- A schema stays readable where a constraint is taken out.
 use Rattle.std.proofs.Common.{◌≡◌, ◌<◌, ◌≤◌, ◌+◌, ℕ, suc, List, ◌++◌, length, get_or, take, drop, inl, inr, map, ap, sym, subst, ◌∙◌, arith}
-use Rattle.std.specs.Prelude.{Contains, flat_map, remove, sum_by}
-use Rattle.std.proofs.lemmas.List.{drop-map, take-append-drop, take-map}
-use Rattle.std.proofs.lemmas.List.Concat.{flat_map-append}
-use Rattle.std.proofs.lemmas.List.Edits.{length-remove}
+use Rattle.std.proofs.lemmas.List.{drop-map, take-append-drop, take-map, Concat.flat_map-append, Edits.length-remove}
 use Rattle.std.proofs.lemmas.List.Elements.{Contains-append_cases, Contains-append_left, Contains-append_right}
 use Rattle.std.proofs.lemmas.List.Sums.{sum_by-append, sum_by-drop_more, sum_by-take-drop}
-use Rattle.olap_base.specs.Graph.{Graph}
-use Rattle.olap_ast.specs.Atoms.{Comparison, Equality, comparisons, equalities}
-use Rattle.olap_ast.specs.Pairs.{pair_count}
-use Rattle.olap_base.specs.Limits.{most_constants}
-use Rattle.olap_ast.specs.Findings.{without}
-use Rattle.olap_ast.specs.Formula.{Formula.Truth}
-use Rattle.olap_ast.specs.Schema.{Constraint, Schema}
-use Rattle.olap_ast.specs.Valid.{node_count}
+use Rattle.std.specs.Prelude.{Contains, flat_map, remove, sum_by}
+use Rattle.olap_base.specs.{Graph.Graph, Limits.most_constants}
 use Rattle.olap_ast.proofs.ComparedLemmas.{constraints_counted}
-use Rattle.olap_schema.specs.Readable.{IsReadable}
-use Rattle.olap_schema.proofs.PairCounting.{few_numbers, few_pairs}
+use Rattle.olap_ast.specs.{Atoms.{Comparison, Equality, comparisons, equalities}, Findings.without}
+use Rattle.olap_ast.specs.{Formula.Formula.Truth, Pairs.pair_count, Schema.{Constraint, Schema}, Valid.node_count}
+use Rattle.olap_schema.{proofs.PairCounting.{few_numbers, few_pairs}, specs.Readable.IsReadable}
 
 -- what is left was there
 pub Contains-remove : {A : Type 0} (xs : List A) (k : ℕ) (x : A) → Contains (remove xs k) x → Contains xs x

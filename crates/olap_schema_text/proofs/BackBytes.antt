@@ -1,14 +1,13 @@
 -- The bytes of printed lines: UTF-8 without control characters.
 --     formula_is_plain  and so on: what is printed is one
-use Rattle.std.proofs.Common.{◌≡◌, ◌==◌, ◌||◌, ◌&&◌, not, ◌<◌, ◌≤◌, ◌+◌, ◌/◌, ◌%◌, ℕ, zero, suc, Bool, true, false, cond, List, [], ◌∷◌, ◌++◌, All, refl, append_assoc, append-nil, arith, ap, sym, ◌∙◌, nat_lt, lit<, flat_map}
-use Rattle.std.specs.List.{list_any}
-use Rattle.std.specs.Str.{IsAscii, IsUtf8, is_utf8}
+use Rattle.std.proofs.Common.{◌≡◌, ◌==◌, ◌||◌, not, ◌<◌, ◌≤◌, ◌+◌, ◌/◌, ◌%◌, ℕ, zero, suc, Bool, true, false, cond, List, [], ◌∷◌, ◌++◌, All, refl, append_assoc, append-nil, arith, ap, sym, ◌∙◌, nat_lt, lit<, flat_map}
+use Rattle.std.proofs.lemmas.Bool.{and_parts, not-false, or_parts}
 use Rattle.std.proofs.lemmas.List.Elements.{All-from_recursion, All-head, All-tail}
-use Rattle.std.proofs.lemmas.Str.{IsUtf8-append, IsUtf8-from_ascii, IsUtf8-from_is_utf8, IsUtf8-nil, is_utf8-from_IsUtf8}
-use Rattle.std.proofs.lemmas.Str.{encode_ascii}
-use lib.Utf8.{encode, encodes, scalar, scalars}
+use Rattle.std.proofs.lemmas.Str.{IsUtf8-append, IsUtf8-from_ascii, IsUtf8-from_is_utf8, IsUtf8-nil, is_utf8-from_IsUtf8, encode_ascii}
+use Rattle.std.specs.{List.list_any, Str.{IsAscii, IsUtf8, is_utf8}}
 use Rattle.olap_grammar.specs.Quoting.{escaped_byte}
 use Rattle.olap_schema.specs.Readable.{is_bad, is_control}
+use lib.Utf8.{encode, encodes, scalar, scalars}
 
 -- UTF-8 without control characters
 pub record IsPlain (text : List ℕ) : Type 0 where
@@ -21,28 +20,23 @@ not_bad text p = rw (is_utf8-from_IsUtf8 text p.utf8, p.plain) refl
 
 -- and what isn't refused is plain
 pub from_not_bad : (text : List ℕ) → is_bad text ≡ false → IsPlain text
-from_not_bad text e = go (is_utf8 text) (list_any is_control text) refl refl e
-  where
-    go : (b c : Bool) → is_utf8 text ≡ b → list_any is_control text ≡ c → not b || c ≡ false → IsPlain text
-    go true false p q r = record { utf8 = IsUtf8-from_is_utf8 text p; plain = q }
-    go true true p q r = absurd (cc)
-    go false c p q r = absurd (cc)
+from_not_bad text e =
+    let t = or_parts (not (is_utf8 text)) (list_any is_control text) e in
+    record { utf8 = IsUtf8-from_is_utf8 text (not-false _ t.0); plain = t.1 }
 
--- no control characters in two texts, none in both together
-any-append : (xs ys : List ℕ) → list_any is_control xs ≡ false → list_any is_control ys ≡ false
-    → list_any is_control (xs ++ ys) ≡ false
-any-append [] ys p q = q
-any-append (x ∷ xs) ys p q = go (is_control x) p (λ r. any-append xs ys r q)
-  where
-    go : (b : Bool) → b || list_any is_control xs ≡ false
-        → (list_any is_control xs ≡ false → list_any is_control (xs ++ ys) ≡ false)
-        → b || list_any is_control (xs ++ ys) ≡ false
-    go true r rest = absurd (cc)
-    go false r rest = rest r
+-- none of two lists, none of both together
+pub none-append : {A : Type 0} (p : A → Bool) (xs ys : List A) → list_any p xs ≡ false → list_any p ys ≡ false
+    → list_any p (xs ++ ys) ≡ false
+none-append p [] ys d e = e
+none-append p (x ∷ xs) ys d e =
+    let t = or_parts (p x) (list_any p xs) d in rw t.0 (none-append p xs ys t.1 e)
 
 -- two plain texts are plain together
 pub plain-append : (xs ys : List ℕ) → IsPlain xs → IsPlain ys → IsPlain (xs ++ ys)
-plain-append xs ys p q = record { utf8 = IsUtf8-append xs ys p.utf8 q.utf8; plain = any-append xs ys p.plain q.plain }
+plain-append xs ys p q = record {
+  utf8 = IsUtf8-append xs ys p.utf8 q.utf8;
+  plain = none-append is_control xs ys p.plain q.plain;
+}
 
 -- nothing is plain
 pub plain-nil : IsPlain []
@@ -122,16 +116,10 @@ one_utf8 c s = go (nat_lt c 128) refl
 -- and so are several
 all_utf8 : (cs : List ℕ) → scalars cs ≡ true → IsUtf8 (flat_map escaped_byte (encodes cs))
 all_utf8 [] e = IsUtf8-nil
-all_utf8 (c ∷ cs) e = go (scalar c) (scalars cs) refl refl e (λ r. all_utf8 cs r)
-  where
-    go : (p q : Bool) → scalar c ≡ p → scalars cs ≡ q → p && q ≡ true
-        → (scalars cs ≡ true → IsUtf8 (flat_map escaped_byte (encodes cs)))
-        → IsUtf8 (flat_map escaped_byte (encode c ++ encodes cs))
-    go true true a b r rest =
-        rw (escaped-append (encode c) (encodes cs))
-        (IsUtf8-append (flat_map escaped_byte (encode c)) (flat_map escaped_byte (encodes cs)) (one_utf8 c a) (rest b))
-    go true false a b r rest = absurd (cc)
-    go false q a b r rest = absurd (cc)
+all_utf8 (c ∷ cs) e =
+    let t = and_parts (scalar c) (scalars cs) e in
+    rw (escaped-append (encode c) (encodes cs)) (IsUtf8-append (flat_map escaped_byte (encode c))
+    (flat_map escaped_byte (encodes cs)) (one_utf8 c t.0) (all_utf8 cs t.1))
 
 -- so a text of UTF-8 is so when it is escaped
 escaped_utf8 : (k : List ℕ) → IsUtf8 k → IsUtf8 (flat_map escaped_byte k)
@@ -140,14 +128,14 @@ escaped_utf8 k u = rw u.1.1 at (all_utf8 u.0 u.1.0)
 -- and one without control characters has none
 escaped_controls : (k : List ℕ) → list_any is_control k ≡ false → list_any is_control (flat_map escaped_byte k) ≡ false
 escaped_controls [] e = refl
-escaped_controls (b ∷ k) e = go ((b == 34) || (b == 92)) (is_control b) refl e (λ r. escaped_controls k r)
+escaped_controls (b ∷ k) e =
+    let t = or_parts (is_control b) (list_any is_control k) e in
+    go ((b == 34) || (b == 92)) t.0 (escaped_controls k t.1)
   where
-    go : (p c : Bool) → is_control b ≡ c → c || list_any is_control k ≡ false
-        → (list_any is_control k ≡ false → list_any is_control (flat_map escaped_byte k) ≡ false)
+    go : (p : Bool) → is_control b ≡ false → list_any is_control (flat_map escaped_byte k) ≡ false
         → list_any is_control (cond p (92 ∷ b ∷ []) (b ∷ []) ++ flat_map escaped_byte k) ≡ false
-    go p true q r rest = absurd (cc)
-    go true false q r rest = rw q (rest r)
-    go false false q r rest = rw q (rest r)
+    go true q r = rw q r
+    go false q r = rw q r
 
 -- a plain text is plain when it is escaped
 pub escaped_plain : (k : List ℕ) → IsPlain k → IsPlain (flat_map escaped_byte k)

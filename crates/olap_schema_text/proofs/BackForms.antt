@@ -1,22 +1,17 @@
 -- A printed formula over words is resolved to the formula.
 use Rattle.std.proofs.Common.{◌≡◌, ◌≢◌, ◌==◌, ℕ, suc, true, false, List, [], ◌∷◌, Option, Some, None, All, map, refl, arith, sym}
-use Rattle.std.specs.Prelude.{AllPairs, Ok, is_some}
-use Rattle.std.specs.List.{list_any}
-use Rattle.std.proofs.lemmas.Bool.{eqb-true, false_from_ne_true}
-use Rattle.std.proofs.lemmas.List.Elements.{All-head, All-tail}
-use Rattle.olap_base.specs.Chains.{IsChain}
+use Rattle.std.proofs.lemmas.{Bool.{eqb-true, false_from_ne_true}, List.Elements.{All-head, All-tail}}
+use Rattle.std.specs.{List.list_any, Prelude.{AllPairs, Ok, is_some}}
+use Rattle.olap_base.{proofs.GeneralLemmas.eqb_same, specs.Chains.IsChain}
 use Rattle.olap_base.specs.Graph.{Graph, HasEdge, IsCategory, IsHierarchy}
-use Rattle.olap_graph.specs.Lookups.{edge_between, joins, name_of_category}
 use Rattle.olap_graph.proofs.PlaceLemmas.{joins-Decides, missing}
-use Rattle.olap_ast.specs.Formula as Meaning
-use Rattle.olap_ast.specs.Formula.{Formula, Terms}
-use Rattle.olap_ast.specs.Valid.{AreFormulasAt, IsFormulaAt}
+use Rattle.olap_graph.specs.Lookups.{edge_between, joins, name_of_category}
+use Rattle.olap_ast.specs.{Formula.{Formula, Terms}, Valid.{AreFormulasAt, IsFormulaAt}}
 use Rattle.olap_numerals.proofs.NumeralLemmas.{numbers_read_back}
-use Rattle.olap_schema_text.specs.Resolving.{all_resolved, categories_of, is_repeated, lacks_edge, resolved}
-use Rattle.olap_schema_text.proofs.PrintCut.{AreCategories, steps_are}
-use Rattle.olap_schema_text.proofs.PrintNames.{named}
+use Rattle.olap_schema_text.proofs.{PrintCut.{AreCategories, steps_are}, PrintNames.named}
 use Rattle.olap_schema_text.proofs.Written.{all_written, written}
-use Rattle.olap_base.proofs.GeneralLemmas.{eqb_same}
+use Rattle.olap_schema_text.specs.Resolving.{all_resolved, categories_of, is_repeated, lacks_edge, resolved}
+use Rattle.olap_ast.specs.Formula as Meaning
 
 -- ---- categories
 
@@ -67,8 +62,6 @@ module _ (g : Graph) (h : IsHierarchy g) where
     mutual
       -- so it is
       pub written_is_resolved : (f : Formula) → IsFormulaAt g r f → resolved g r (written g r f) ≡ Ok f
-      written_is_resolved Meaning.Formula.Truth v = refl
-      written_is_resolved Meaning.Formula.Falsity v = refl
       written_is_resolved (Meaning.Formula.Path cs) v =
           rw (
             named g h r l,
@@ -95,6 +88,7 @@ module _ (g : Graph) (h : IsHierarchy g) where
       written_is_resolved (Meaning.Formula.Xor f k) v =
           rw (written_is_resolved f v.0, written_is_resolved k v.1) refl
       written_is_resolved (Meaning.Formula.One fs) v = rw (all_are_resolved fs v) refl
+      written_is_resolved f v = refl
 
       all_are_resolved : (fs : Terms) → AreFormulasAt g r fs → all_resolved g r (all_written g r fs) ≡ Ok fs
       all_are_resolved Meaning.Terms.End v = refl

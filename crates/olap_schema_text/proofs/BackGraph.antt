@@ -1,25 +1,17 @@
 -- Printed lines of categories and edges are read as the graph.
 use Rattle.std.proofs.Common.{◌≡◌, ◌≢◌, ◌==◌, ◌<◌, ◌≤◌, ◌+◌, ℕ, zero, suc, Bool, true, false, List, [], ◌∷◌, ◌++◌, Option, Some, None, length, get_or, refl, arith, ap, sym, ◌∙◌, codes, nat_lt, nat_le, not, ◌&&◌, inl, inr}
-use Rattle.std.specs.Prelude.{AllPairs, Contains, Ok}
-use Rattle.std.specs.Bool.{Decides}
-use Rattle.std.specs.List.{position_from}
-use Rattle.std.specs.Str.{bytes_eq}
-use Rattle.std.proofs.lemmas.Bool.{eqb-true, false_from_ne_true}
-use Rattle.std.proofs.lemmas.List.Elements.{Contains-append_right}
-use Rattle.std.proofs.lemmas.Slice.Eq.{bytes_eq-Decides}
-use Rattle.olap_base.specs.Deciding.{contains_cases}
-use Rattle.olap_base.specs.Graph.{Edge, Graph}
+use Rattle.std.proofs.lemmas.{Bool.{eqb-true, false_from_ne_true}, List.Elements.Contains-append_right}
+use Rattle.std.{proofs.lemmas.Slice.Eq.bytes_eq-Decides, specs.Bool.Decides, specs.List.position_from}
+use Rattle.std.specs.{Prelude.{AllPairs, Contains, Ok}, Str.bytes_eq}
+use Rattle.olap_base.{proofs.ListLemmas.get_or_inside, specs.Deciding.contains_cases, specs.Graph.{Edge, Graph}}
 use Rattle.olap_base.specs.Limits.{most_categories, most_edges, most_text_bytes}
-use Rattle.olap_graph.specs.Lookups.{category_named, edge_between, joins, name_of_category}
 use Rattle.olap_graph.proofs.PlaceLemmas.{found, joins-Decides}
-use Rattle.olap_ast.specs.Schema.{Schema}
-use Rattle.olap_ast.specs.Valid.{IsValidSchema}
+use Rattle.olap_graph.specs.Lookups.{category_named, edge_between, joins, name_of_category}
+use Rattle.olap_ast.specs.{Schema.Schema, Valid.IsValidSchema}
+use Rattle.olap_schema_text.proofs.{BackLengths.AreShort, PrintNames.named}
 use Rattle.olap_schema_text.specs.Judging.{Above, category_read, edge_read}
 use Rattle.olap_grammar.specs.Cutting.{has_numbers}
 use Rattle.olap_grammar.specs.declared.tokens.Version.TheVariants as version
-use Rattle.olap_schema_text.proofs.BackLengths.{AreShort}
-use Rattle.olap_schema_text.proofs.PrintNames.{named}
-use Rattle.olap_base.proofs.ListLemmas.{get_or_inside}
 
 -- these categories and edges stand above
 abbrev pub growing : List (List ℕ) → List Bool → List Edge → List ℕ → Above
@@ -96,12 +88,10 @@ add_category s v n done name rest kinds number lines e =
     let l = v.names_fit name there in
     let short : nat_lt most_text_bytes (length name) ≡ false = grind (arith) in
     let differ : AllPairs ◌≢◌ (done ++ name ∷ rest) = rw (← e) at v.hierarchy.names_differ in
-    let new = new_name done name rest differ (v.hierarchy.names name there).1 kinds [] in
-    let size = ap length e in
     let sizes = lengths done (name ∷ rest) in
     let few : nat_le most_categories (length done + 1) ≡ false =
-    room (length done) (length rest) (length s.graph.names) v.categories_fit (sym size ∙ sizes) in
-    rw (every_kind number, short, new, few) refl
+    room (length done) (length rest) (length s.graph.names) v.categories_fit (sym (ap length e) ∙ sizes) in
+    rw (every_kind number, short, new_name done name rest differ (v.hierarchy.names name there).1 kinds [], few) refl
   where
     every_kind : (b : Bool) → b && not (has_numbers version.Two) ≡ false
     every_kind true = refl
@@ -137,10 +127,9 @@ add_edge s v short done edge rest lines e =
     not_placed (joins edge.child edge.parent) (λ x. x ≡ record { child = edge.child; parent = edge.parent })
     (joins-Decides edge.child edge.parent) done
     (λ x c q. not_before done edge rest differ (rw q at c)) in
-    let size = ap length e in
     let sizes = lengths done (edge ∷ rest) in
     let few : nat_le most_edges (length done) ≡ false =
-    room (length done) (length rest) (length s.graph.edges) v.edges_fit (sym size ∙ sizes) in
+    room (length done) (length rest) (length s.graph.edges) v.edges_fit (sym (ap length e) ∙ sizes) in
     rw (sc, sp, nc, np, loop, all, new, few) refl
   where
     room : (a b n : ℕ) → n ≤ most_edges → n ≡ a + suc b → nat_le most_edges a ≡ false

@@ -1,27 +1,20 @@
 -- No name and no text of a printed formula is too long.
 use Rattle.std.proofs.Common.{◌≡◌, ◌≢◌, ◌==◌, ◌&&◌, ◌≤◌, not, ℕ, ℤ, pos, negsuc, Bool, true, false, cond, List, [], ◌∷◌, length, map, refl, arith, codes, nat_lt}
-use Rattle.std.specs.List.{list_any}
-use Rattle.std.proofs.lemmas.Bool.{le-ltb}
-use Rattle.olap_base.specs.Graph.{Graph, IsCategory, IsHierarchy}
-use Rattle.olap_base.specs.Limits.{most_text_bytes}
+use Rattle.std.{proofs.lemmas.Bool.le-ltb, specs.List.list_any}
+use Rattle.olap_base.specs.{Graph.{Graph, IsCategory, IsHierarchy}, Limits.most_text_bytes}
 use Rattle.olap_graph.specs.Lookups.{name_of_category}
-use Rattle.olap_ast.specs.Formula as Meaning
-use Rattle.olap_ast.specs.Formula.{Formula}
-use Rattle.olap_ast.specs.Valid.{IsFormulaAt}
+use Rattle.olap_ast.specs.{Formula.Formula, Valid.IsFormulaAt}
 use Rattle.olap_numerals.specs.Numerals.{IsSmall}
-use Rattle.olap_grammar.specs.Grammar.{comparing}
-use Rattle.olap_grammar.specs.Words.{is_number_token, pieces_of}
+use Rattle.olap_grammar.specs.{Grammar.comparing, Words.{is_number_token, pieces_of}, declared.tokens.Mark.Mark}
 use Rattle.olap_grammar.specs.declared.tokens.Token.{Token}
-use Rattle.olap_grammar.specs.declared.tokens.Token.TheVariants as token
-use Rattle.olap_grammar.specs.declared.tokens.Mark.{Mark}
-use Rattle.olap_grammar.specs.declared.tokens.Mark.TheVariants as mark
-use Rattle.olap_schema_text.specs.Printing.{atom_word, compared_word}
-use Rattle.olap_schema_text.specs.Tokens.{is_long, is_long_name, names_in}
 use Rattle.olap_schema_text.proofs.BackTests.{IsLeaf, none-cons, none_passes}
 use Rattle.olap_schema_text.proofs.BackWords.{name_whole, no_46, no_95, path_pieces, reach_pieces, reach_whole}
-use Rattle.olap_schema_text.proofs.PrintCut.{AreCategories, steps_are}
-use Rattle.olap_schema_text.proofs.PrintNumerals.{numeral_is_number}
-use Rattle.olap_schema_text.proofs.PrintTokens.{number_token, spelt}
+use Rattle.olap_schema_text.proofs.{PrintCut.{AreCategories, steps_are}, PrintNumerals.numeral_is_number}
+use Rattle.olap_schema_text.{proofs.PrintTokens.{number_token, spelt}, specs.Printing.{atom_word, compared_word}}
+use Rattle.olap_schema_text.specs.Tokens.{is_long, is_long_name, names_in}
+use Rattle.olap_ast.specs.Formula as Meaning
+use Rattle.olap_grammar.specs.declared.tokens.Token.TheVariants as token
+use Rattle.olap_grammar.specs.declared.tokens.Mark.TheVariants as mark
 
 -- no name has too many bytes
 abbrev pub AreShort : Graph → Type 0

@@ -1,39 +1,26 @@
 -- The lines of a printed schema are cut into their tokens, are plain, and say something.
-use Rattle.std.proofs.Common.{◌≡◌, ◌&&◌, ℕ, Bool, true, false, List, [], ◌∷◌, ◌++◌, Some, refl, append-nil, codes}
-use Rattle.std.specs.List.{list_all}
+use Rattle.std.proofs.Common.{◌≡◌, ℕ, Bool, true, false, List, [], ◌∷◌, ◌++◌, Some, refl, append-nil, codes}
+use Rattle.std.{proofs.lemmas.Bool.and_parts, specs.List.list_all}
 use Rattle.olap_base.specs.Graph.{Edge, Graph, IsCategory, IsCategoryName, IsHierarchy}
 use Rattle.olap_graph.specs.Lookups.{name_of_category}
-use Rattle.olap_ast.specs.Atoms.{equalities}
-use Rattle.olap_ast.specs.Schema.{Constraint}
-use Rattle.olap_ast.specs.Valid.{IsFormulaAt}
-use Rattle.olap_grammar.specs.Cutting.{AreWordBytes, is_word_byte, IsCut, blank, end, word}
-use Rattle.olap_grammar.proofs.LongestLemmas.{cut_mark}
-use Rattle.olap_grammar.specs.CuttingMachine.{tokens_of}
-use Rattle.olap_grammar.specs.declared.tokens.Token.{Token}
-use Rattle.olap_grammar.specs.declared.tokens.Token.TheVariants as token
-use Rattle.olap_grammar.specs.declared.tokens.Mark.TheVariants as mark
-use Rattle.olap_grammar.specs.declared.tokens.Version.{Version}
-use Rattle.olap_grammar.specs.declared.tokens.Version.TheVariants as version
-use Rattle.olap_grammar.proofs.CutComplete.{cut_is_found}
-use Rattle.olap_schema_text.specs.Lines.{is_quiet}
+use Rattle.olap_ast.specs.{Atoms.equalities, Schema.Constraint, Valid.IsFormulaAt}
+use Rattle.olap_grammar.proofs.{CutComplete.cut_is_found, LongestLemmas.cut_mark}
+use Rattle.olap_grammar.specs.{Cutting.{AreWordBytes, is_word_byte, IsCut, blank, end, word}, CuttingMachine.tokens_of}
+use Rattle.olap_grammar.specs.declared.tokens.{Token.Token, Version.Version}
+use Rattle.olap_schema_text.proofs.BackBytes.{IsPlain, plain-append}
+use Rattle.olap_schema_text.proofs.{BackPlain.{ascii_plain, formula_plain, name_plain}, BackStatements.kind_tokens}
+use Rattle.olap_schema_text.proofs.{PrintCut.{cut_word, name_is_word, text_is_cut}, PrintNames.name_is}
+use Rattle.olap_schema_text.{proofs.PrintTokens.spelt, specs.Lines.is_quiet}
 use Rattle.olap_schema_text.specs.Printing.{category_text, constraint_text, edge_text, formula_text, kind_text, version_text}
 use Rattle.olap_schema.specs.Readable.{AreTexts}
-use Rattle.olap_schema_text.proofs.BackBytes.{IsPlain, plain-append}
-use Rattle.olap_schema_text.proofs.BackPlain.{ascii_plain, formula_plain, name_plain}
-use Rattle.olap_schema_text.proofs.BackStatements.{kind_tokens}
-use Rattle.olap_schema_text.proofs.PrintCut.{cut_word, name_is_word, text_is_cut}
-use Rattle.olap_schema_text.proofs.PrintNames.{name_is}
-use Rattle.olap_schema_text.proofs.PrintTokens.{spelt}
+use Rattle.olap_grammar.specs.declared.tokens.Token.TheVariants as token
+use Rattle.olap_grammar.specs.declared.tokens.Mark.TheVariants as mark
+use Rattle.olap_grammar.specs.declared.tokens.Version.TheVariants as version
 
 -- bytes of words, by the test
 word_bytes : (w : List ℕ) → list_all is_word_byte w ≡ true → AreWordBytes w
 word_bytes [] e = tt
-word_bytes (b ∷ w) e = go (is_word_byte b) refl e (λ r. word_bytes w r)
-  where
-    go : (p : Bool) → is_word_byte b ≡ p → p && list_all is_word_byte w ≡ true
-        → (list_all is_word_byte w ≡ true → AreWordBytes w) → AreWordBytes (b ∷ w)
-    go true q r rest = (q, rest r)
-    go false q r rest = absurd (cc)
+word_bytes (b ∷ w) e = let t = and_parts (is_word_byte b) (list_all is_word_byte w) e in (t.0, word_bytes w t.1)
 
 -- a keyword with a space after it
 keyword : (v : Version) (b : ℕ) (w bs : List ℕ) (ts : List Token) → list_all is_word_byte (b ∷ w) ≡ true → IsCut v bs ts

@@ -1,25 +1,16 @@
 -- The lines of a printed text, and what a line of plain bytes says.
-use Rattle.std.proofs.Common.{◌≡◌, ◌==◌, ◌||◌, ◌+◌, ◌-◌, ℕ, zero, suc, Bool, true, false, List, [], ◌∷◌, ◌++◌, Some, length, refl, arith, ap, ◌∙◌}
-use Rattle.std.specs.Prelude.{Ok, slice_index}
-use Rattle.std.specs.List.{list_any, onto_first}
-use Rattle.olap_grammar.specs.CuttingMachine.{tokens_of}
-use Rattle.olap_grammar.specs.declared.tokens.Token.{Token}
-use Rattle.olap_schema_text.specs.Judging.{Above, line_read, lines_on}
-use Rattle.olap_schema_text.specs.Parts.{tokens_read, version_at}
-use Rattle.olap_schema.specs.Readable.{is_control}
-use Rattle.olap_schema_text.specs.Lines.{chomped, is_quiet, lines_of}
+use Rattle.std.proofs.Common.{◌≡◌, ◌==◌, ◌+◌, ◌-◌, ℕ, zero, suc, false, List, [], ◌∷◌, ◌++◌, Some, length, refl, arith, ap, ◌∙◌}
+use Rattle.std.{proofs.lemmas.Bool.or_parts, specs.List.{list_any, onto_first}, specs.Prelude.{Ok, slice_index}}
+use Rattle.olap_grammar.specs.{CuttingMachine.tokens_of, declared.tokens.Token.Token}
+use Rattle.olap_schema_text.{proofs.BackBytes.{IsPlain, not_bad}, specs.Judging.{Above, line_read, lines_on}}
+use Rattle.olap_schema_text.specs.{Lines.{chomped, is_quiet, lines_of}, Parts.{tokens_read, version_at}}
 use Rattle.olap_schema_text.specs.Printing.{text_of_lines}
-use Rattle.olap_schema_text.proofs.BackBytes.{IsPlain, not_bad}
+use Rattle.olap_schema.specs.Readable.{is_control}
 
 -- a text without control characters, byte by byte
 no_control : (b : ℕ) (bs : List ℕ) → list_any is_control (b ∷ bs) ≡ false
     → (is_control b ≡ false) × (list_any is_control bs ≡ false)
-no_control b bs e = go (is_control b) refl e
-  where
-    go : (c : Bool) → is_control b ≡ c → c || list_any is_control bs ≡ false
-        → (is_control b ≡ false) × (list_any is_control bs ≡ false)
-    go true q r = absurd (cc)
-    go false q r = (q, r)
+no_control b bs e = or_parts (is_control b) (list_any is_control bs) e
 
 -- has no LF
 no_lf : (b : ℕ) → is_control b ≡ false → (b == 10) ≡ false

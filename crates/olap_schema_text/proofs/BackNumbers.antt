@@ -3,23 +3,17 @@ use Rattle.std.proofs.Common.{◌≡◌, ◌==◌, ℕ, ℤ, pos, negsuc, Bool, 
 use Rattle.std.specs.List.{list_any}
 use Rattle.olap_base.specs.Graph.{Graph, IsCategory, IsHierarchy}
 use Rattle.olap_graph.specs.Lookups.{name_of_category}
-use Rattle.olap_ast.specs.Formula as Meaning
-use Rattle.olap_ast.specs.Formula.{Formula}
-use Rattle.olap_ast.specs.Valid.{IsFormulaAt}
-use Rattle.olap_numerals.specs.Numerals.{IsSmall, canonical}
-use Rattle.olap_numerals.proofs.NumeralLemmas.{numbers_read_back}
-use Rattle.olap_grammar.specs.Grammar.{comparing}
-use Rattle.olap_grammar.specs.Words.{is_number_token}
+use Rattle.olap_ast.specs.{Formula.Formula, Valid.IsFormulaAt}
+use Rattle.olap_numerals.{proofs.NumeralLemmas.numbers_read_back, specs.Numerals.{IsSmall, canonical}}
+use Rattle.olap_grammar.specs.{Grammar.comparing, Words.is_number_token, declared.tokens.Mark.Mark}
 use Rattle.olap_grammar.specs.declared.tokens.Token.{Token}
-use Rattle.olap_grammar.specs.declared.tokens.Token.TheVariants as token
-use Rattle.olap_grammar.specs.declared.tokens.Mark.{Mark}
-use Rattle.olap_grammar.specs.declared.tokens.Mark.TheVariants as mark
+use Rattle.olap_schema_text.proofs.{BackTests.{IsLeaf, none-cons, none_passes}, PrintNames.name_is}
+use Rattle.olap_schema_text.proofs.{PrintNumerals.{no_number, numeral_is_number}, PrintTokens.{number_token, spelt}}
 use Rattle.olap_schema_text.specs.Printing.{atom_word, compared_word, names_after}
 use Rattle.olap_schema_text.specs.Tokens.{is_bad_number, is_no_numeral}
-use Rattle.olap_schema_text.proofs.BackTests.{IsLeaf, none-cons, none_passes}
-use Rattle.olap_schema_text.proofs.PrintNames.{name_is}
-use Rattle.olap_schema_text.proofs.PrintNumerals.{no_number, numeral_is_number}
-use Rattle.olap_schema_text.proofs.PrintTokens.{number_token, spelt}
+use Rattle.olap_ast.specs.Formula as Meaning
+use Rattle.olap_grammar.specs.declared.tokens.Token.TheVariants as token
+use Rattle.olap_grammar.specs.declared.tokens.Mark.TheVariants as mark
 
 -- `true` is no number
 true_no_number : is_number_token (codes "true") ≡ false

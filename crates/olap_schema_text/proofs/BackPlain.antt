@@ -1,44 +1,38 @@
 -- Printed formulas and lines are plain: UTF-8 without control characters.
 use Rattle.std.proofs.Common.{◌≡◌, ◌==◌, ◌&&◌, ℕ, ℤ, pos, negsuc, suc, decimal, Bool, true, false, cond, List, [], ◌∷◌, ◌++◌, All, refl, arith, codes, nat_lt, nat_le, lit<, flat_map}
-use Rattle.std.specs.List.{list_all}
+use Rattle.std.proofs.lemmas.Bool.{and_parts, leb-true, ltb-true}
 use Rattle.std.proofs.lemmas.List.Elements.{All-head, All-tail, Contains-append_left, Contains-append_right}
+use Rattle.std.specs.{Char.is_ascii_digit, List.list_all, Str.all_ascii_digits}
 use Rattle.olap_base.specs.Graph.{Graph, IsCategory, IsCategoryName, IsHierarchy, IsLetterOrDigit}
 use Rattle.olap_graph.specs.Lookups.{name_of_category}
-use Rattle.olap_ast.specs.Atoms.{equalities, equalities_of_terms, Equality}
-use Rattle.olap_ast.specs.Formula as Meaning
-use Rattle.olap_ast.specs.Formula.{Formula, Terms}
+use Rattle.olap_ast.specs.{Atoms.{equalities, equalities_of_terms, Equality}, Formula.{Formula, Terms}}
 use Rattle.olap_ast.specs.Valid.{AreFormulasAt, IsFormulaAt}
-use Rattle.std.specs.Char.{is_ascii_digit}
-use Rattle.std.specs.Str.{all_ascii_digits}
-use Rattle.olap_numerals.specs.Comparing.{Op}
-use Rattle.olap_numerals.specs.Numerals.{IsSmall, canonical}
-use Rattle.olap_grammar.specs.Cutting.{joint_bytes, mark_bytes}
-use Rattle.olap_grammar.specs.Grammar.{comparing}
-use Rattle.olap_grammar.specs.Quoting.{escaped_byte, quoted}
+use Rattle.olap_numerals.specs.{Comparing.Op, Numerals.{IsSmall, canonical}}
+use Rattle.olap_grammar.specs.{Cutting.{joint_bytes, mark_bytes}, Grammar.comparing, Quoting.{escaped_byte, quoted}}
 use Rattle.olap_grammar.specs.declared.tokens.Joint.{Joint}
-use Rattle.olap_grammar.specs.declared.tokens.Joint.TheVariants as joint
+use Rattle.olap_schema_text.proofs.BackBytes.{IsPlain, escaped_plain, from_not_bad, plain-append, plain-cons, plain-nil}
+use Rattle.olap_schema_text.proofs.{PrintCut.{AreCategories, steps_are}, PrintNames.{letters, name_is}}
+use Rattle.olap_schema_text.proofs.PrintNumerals.{digits_behind_dash, digits_in_decimal}
 use Rattle.olap_schema_text.specs.Printing.{atom_word, compared_word, formula_text, joined_text, list_text, names_after, rest_text}
 use Rattle.olap_schema.specs.Readable.{AreTexts}
-use Rattle.olap_schema_text.proofs.BackBytes.{IsPlain, escaped_plain, from_not_bad, plain-append, plain-cons, plain-nil}
-use Rattle.olap_schema_text.proofs.PrintCut.{AreCategories, steps_are}
-use Rattle.olap_schema_text.proofs.PrintNames.{letters, name_is}
-use Rattle.olap_schema_text.proofs.PrintNumerals.{digits_behind_dash, digits_in_decimal}
-use Rattle.std.proofs.lemmas.Bool.{and_parts}
+use Rattle.olap_ast.specs.Formula as Meaning
+use Rattle.olap_grammar.specs.declared.tokens.Joint.TheVariants as joint
 
 -- a printable ASCII character
 abbrev pub is_printable : ℕ → Bool
 is_printable b = nat_lt b 127 && nat_le 32 b
 
+-- a printable byte in front
+byte : (b : ℕ) (bs : List ℕ) → is_printable b ≡ true → IsPlain bs → IsPlain (b ∷ bs)
+byte b bs e p =
+    let t = and_parts (nat_lt b 127) (nat_le 32 b) e in
+    plain-cons b bs (ltb-true b 127 t.0) (leb-true 32 b t.1) p
+
 -- printable ASCII is plain
 pub ascii_plain : (bs : List ℕ) → list_all is_printable bs ≡ true → IsPlain bs
 ascii_plain [] e = plain-nil
-ascii_plain (b ∷ bs) e = go (nat_lt b 127) (nat_le 32 b) refl refl e (λ r. ascii_plain bs r)
-  where
-    go : (p q : Bool) → nat_lt b 127 ≡ p → nat_le 32 b ≡ q → (p && q) && list_all is_printable bs ≡ true
-        → (list_all is_printable bs ≡ true → IsPlain bs) → IsPlain (b ∷ bs)
-    go true true m n r rest = plain-cons b bs (grind arith) (grind arith) (rest r)
-    go true false m n r rest = absurd (cc)
-    go false q m n r rest = absurd (cc)
+ascii_plain (b ∷ bs) e =
+    let t = and_parts (is_printable b) (list_all is_printable bs) e in byte b bs t.0 (ascii_plain bs t.1)
 
 -- letters and digits are plain
 letters_plain : (w : List ℕ) → All IsLetterOrDigit w → IsPlain w
@@ -58,15 +52,6 @@ joint_plain joint.Implies = ascii_plain (codes "->") refl
 joint_plain joint.Xor = ascii_plain (codes "^") refl
 joint_plain joint.Or = ascii_plain (codes "|") refl
 joint_plain joint.And = ascii_plain (codes "&") refl
-
--- a printable byte in front
-byte : (b : ℕ) (bs : List ℕ) → is_printable b ≡ true → IsPlain bs → IsPlain (b ∷ bs)
-byte b bs e p = go (nat_lt b 127) (nat_le 32 b) refl refl e
-  where
-    go : (u v : Bool) → nat_lt b 127 ≡ u → nat_le 32 b ≡ v → u && v ≡ true → IsPlain (b ∷ bs)
-    go true true m n r = plain-cons b bs (grind arith) (grind arith) p
-    go true false m n r = absurd (cc)
-    go false v m n r = absurd (cc)
 
 -- a comparison
 op_plain : (op : Op) → IsPlain (mark_bytes (comparing op))
@@ -148,9 +133,11 @@ numbered w op z p small =
     (byte 32 (canonical z) refl (numeral_plain z small))))
 
 module _ (g : Graph) (h : IsHierarchy g) (r : ℕ) (l : IsCategory g r) where
-  both : (j : Joint) (f k : Formula) → IsPlain (formula_text g r f) → IsPlain (formula_text g r k)
+  both : (j : Joint) (f k : Formula) → (AreTexts (equalities f) → IsPlain (formula_text g r f))
+      → (AreTexts (equalities k) → IsPlain (formula_text g r k)) → AreTexts (equalities f ++ equalities k)
       → IsPlain (joined_text j (formula_text g r f) (formula_text g r k))
-  both j f k p q = joined_plain j (formula_text g r f) (formula_text g r k) p q
+  both j f k p q t = joined_plain j (formula_text g r f) (formula_text g r k)
+      (p (left_texts (equalities f) (equalities k) t)) (q (right_texts (equalities f) (equalities k) t))
 
   mutual
     -- a printed formula is plain where its constants are
@@ -166,21 +153,12 @@ module _ (g : Graph) (h : IsHierarchy g) (r : ℕ) (l : IsCategory g r) where
     formula_plain (Meaning.Formula.Compare d op n) v t =
         numbered (compared_word g r d) op n (compared_plain g h r d l v.0) v.2
     formula_plain (Meaning.Formula.Not f) v t = byte 33 (formula_text g r f) refl (formula_plain f v t)
-    formula_plain (Meaning.Formula.And f k) v t =
-        both joint.And f k (formula_plain f v.0 (left_texts (equalities f) (equalities k) t))
-        (formula_plain k v.1 (right_texts (equalities f) (equalities k) t))
-    formula_plain (Meaning.Formula.Or f k) v t =
-        both joint.Or f k (formula_plain f v.0 (left_texts (equalities f) (equalities k) t))
-        (formula_plain k v.1 (right_texts (equalities f) (equalities k) t))
+    formula_plain (Meaning.Formula.And f k) v t = both joint.And f k (formula_plain f v.0) (formula_plain k v.1) t
+    formula_plain (Meaning.Formula.Or f k) v t = both joint.Or f k (formula_plain f v.0) (formula_plain k v.1) t
     formula_plain (Meaning.Formula.Implies f k) v t =
-        both joint.Implies f k (formula_plain f v.0 (left_texts (equalities f) (equalities k) t))
-        (formula_plain k v.1 (right_texts (equalities f) (equalities k) t))
-    formula_plain (Meaning.Formula.Iff f k) v t =
-        both joint.Iff f k (formula_plain f v.0 (left_texts (equalities f) (equalities k) t))
-        (formula_plain k v.1 (right_texts (equalities f) (equalities k) t))
-    formula_plain (Meaning.Formula.Xor f k) v t =
-        both joint.Xor f k (formula_plain f v.0 (left_texts (equalities f) (equalities k) t))
-        (formula_plain k v.1 (right_texts (equalities f) (equalities k) t))
+        both joint.Implies f k (formula_plain f v.0) (formula_plain k v.1) t
+    formula_plain (Meaning.Formula.Iff f k) v t = both joint.Iff f k (formula_plain f v.0) (formula_plain k v.1) t
+    formula_plain (Meaning.Formula.Xor f k) v t = both joint.Xor f k (formula_plain f v.0) (formula_plain k v.1) t
     formula_plain (Meaning.Formula.One fs) v t =
         plain-append (codes "one(") (list_text g r fs ++ 41 ∷ []) (ascii_plain (codes "one(") refl)
         (plain-append (list_text g r fs) (41 ∷ []) (list_plain fs v t) (ascii_plain (41 ∷ []) refl))

@@ -1,36 +1,25 @@
 -- A printed schema is read back.
 use Rattle.std.proofs.Common.{◌≡◌, ◌≤◌, ◌+◌, ℕ, zero, suc, Bool, List, [], ◌∷◌, ◌++◌, None, Some, length, map, get_or, refl, append_assoc, append-nil, arith, ap, sym, ◌∙◌, codes, lit≤}
-use Rattle.std.specs.Prelude.{Contains, Ok, flat_map, zip}
-use Rattle.std.proofs.lemmas.List.Elements.{Contains-get_or}
-use Rattle.olap_base.specs.Deciding.{contains_cons}
-use Rattle.olap_base.specs.Graph.{Edge, IsCategory, IsCategoryName}
-use Rattle.olap_base.specs.Limits.{most_schema_nodes}
+use Rattle.std.{proofs.lemmas.List.Elements.Contains-get_or, specs.Prelude.{Contains, Ok, flat_map, zip}}
+use Rattle.olap_base.specs.{Deciding.contains_cons, Graph.{Edge, IsCategory, IsCategoryName}, Limits.most_schema_nodes}
+use Rattle.olap_base.specs.Reaching.{is_category_name_is}
 use Rattle.olap_graph.specs.Lookups.{name_of_category}
-use Rattle.olap_ast.specs.Atoms.{Equality, equalities}
-use Rattle.olap_ast.specs.Schema.{Constraint, Schema}
-use Rattle.olap_ast.specs.Valid.{IsValidSchema}
+use Rattle.olap_ast.specs.{Atoms.{Equality, equalities}, Schema.{Constraint, Schema}, Valid.IsValidSchema}
+use Rattle.olap_schema_text.proofs.BackConstraints.{add_constraint, first_nodes, nodes_in, ruled}
+use Rattle.olap_schema_text.proofs.{BackGraph.{add_category, add_edge, growing, stands}, BackLengths.AreShort}
+use Rattle.olap_schema_text.proofs.BackLineTokens.{category_plain, category_speaks, category_tokens, constraint_plain, constraint_speaks, constraint_tokens, edge_plain, edge_speaks, edge_tokens, version_plain, version_speaks, version_tokens}
+use Rattle.olap_schema_text.proofs.{BackLines.{ArePlain, goes_on, lines_are}, BackPlain.{left_texts, right_texts}}
+use Rattle.olap_schema_text.proofs.BackStatements.{category_says, constraint_says, edge_says, kind_tokens, version_says}
+use Rattle.olap_schema_text.proofs.{BackTokens.nodes_are, PrintNames.is_name, PrintTokens.spelt, StuckLemmas.none_stuck}
+use Rattle.olap_schema_text.specs.Judging.{Above, lines_on, nothing_above, schema_read, statement_read, text_ended}
+use Rattle.olap_schema_text.specs.Parts.{tokens_read}
+use Rattle.olap_schema_text.specs.Printing.{category_text, constraint_text, edge_text, schema_lines, schema_text, version_text}
+use Rattle.olap_schema_text.specs.PrintingLaws.{PrintedIsRead}
+use Rattle.olap_schema.specs.Readable.{AreTexts, IsReadable}
+use Rattle.olap_grammar.specs.Nodes.{nodes_of}
 use Rattle.olap_grammar.specs.declared.tokens.Token.TheVariants as token
 use Rattle.olap_grammar.specs.declared.tokens.Mark.TheVariants as mark
-use Rattle.olap_schema_text.specs.Judging.{Above, lines_on, nothing_above, schema_read, statement_read}
-use Rattle.olap_schema_text.specs.Parts.{tokens_read}
-use Rattle.olap_schema_text.specs.Judging.{text_ended}
-use Rattle.olap_schema_text.specs.Printing.{category_text, constraint_text, edge_text, schema_lines, schema_text, version_text}
-use Rattle.olap_schema.specs.Readable.{AreTexts, IsReadable}
-use Rattle.olap_schema_text.specs.PrintingLaws.{PrintedIsRead}
-use Rattle.olap_grammar.specs.Nodes.{nodes_of}
 use Rattle.olap_grammar.specs.declared.tokens.Version.TheVariants as version
-use Rattle.olap_schema_text.proofs.BackConstraints.{add_constraint, first_nodes, nodes_in, ruled}
-use Rattle.olap_schema_text.proofs.BackGraph.{add_category, add_edge, growing, stands}
-use Rattle.olap_schema_text.proofs.BackLengths.{AreShort}
-use Rattle.olap_schema_text.proofs.BackLines.{ArePlain, goes_on, lines_are}
-use Rattle.olap_schema_text.proofs.BackLineTokens.{category_plain, category_speaks, category_tokens, constraint_plain, constraint_speaks, constraint_tokens, edge_plain, edge_speaks, edge_tokens, version_plain, version_speaks, version_tokens}
-use Rattle.olap_schema_text.proofs.BackPlain.{left_texts, right_texts}
-use Rattle.olap_schema_text.proofs.BackStatements.{category_says, constraint_says, edge_says, kind_tokens, version_says}
-use Rattle.olap_schema_text.proofs.BackTokens.{nodes_are}
-use Rattle.olap_schema_text.proofs.PrintNames.{is_name}
-use Rattle.olap_schema_text.proofs.PrintTokens.{spelt}
-use Rattle.olap_schema_text.proofs.StuckLemmas.{none_stuck}
-use Rattle.olap_base.specs.Reaching.{is_category_name_is}
 
 -- the lines after the n-th make what stands above the schema
 abbrev pub Ends : Above → ℕ → List (List ℕ) → Schema → Type 0
@@ -51,9 +40,8 @@ module _ (s : Schema) (v : IsValidSchema s) where
       → nodes + nodes_in todo ≤ most_schema_nodes → AreTexts (atoms_in todo) →
       Ends (ruled s.graph done nodes lines) n (map (constraint_text s.graph) todo) s
   constraints_back [] done n nodes lines e few_nodes t =
-      let none = none_stuck s.graph v.hierarchy.reaches_all in
       let built : List Constraint → Schema = λ cs. record { graph = s.graph; constraints = cs } in
-      rw none (ap (λ cs. Ok (built cs)) (sym (append-nil done) ∙ e))
+      rw (none_stuck s.graph v.hierarchy.reaches_all) (ap (λ cs. Ok (built cs)) (sym (append-nil done) ∙ e))
   constraints_back (c ∷ todo) done n nodes lines e few_nodes t =
       let there : Contains s.constraints c = rw e at (stands done c todo) in
       let l = (v.roots c there).1 in
@@ -69,12 +57,11 @@ module _ (s : Schema) (v : IsValidSchema s) where
       ∙ add_constraint s v short done c todo nodes lines e few_nodes in
       let plain = constraint_plain s.graph v.hierarchy c l at_root
       (left_texts (equalities c.formula) (atoms_in todo) t) in
-      let counted = nodes_are s.graph c.root c.formula in
-      let sum = first_nodes c todo in
+      let counted = nodes_are s.graph v.hierarchy c.root l c.formula at_root in
       ap text_ended (goes_on above below n (constraint_text s.graph c) _ (map (constraint_text s.graph) todo) plain
       (constraint_speaks s.graph c) (constraint_tokens s.graph v.hierarchy c l at_root) read)
       ∙ constraints_back todo (done ++ c ∷ []) (n + 1) (nodes + nodes_of version.Two ts) lines
-      (append_assoc done (c ∷ []) todo ∙ e) (omega (arith, counted, sum, few_nodes))
+      (append_assoc done (c ∷ []) todo ∙ e) (omega (arith, counted, first_nodes c todo, few_nodes))
       (right_texts (equalities c.formula) (atoms_in todo) t)
 
   edges_back : AreTexts (atoms_in s.constraints) → (todo done : List Edge) (n : ℕ) (lines : List ℕ)
@@ -117,8 +104,6 @@ module _ (s : Schema) (v : IsValidSchema s) where
       ∙ ap (λ numbers. text_ended (lines_on (Ok (growing s.graph.names numbers [] lines)) n other_lines))
       (sym (append-nil known) ∙ k)
       ∙ edges_back t s.graph.edges [] n lines refl
-  categories_back t [] (number ∷ kinds) done known n lines e k l = absurd (omega arith)
-  categories_back t (name ∷ todo) [] done known n lines e k l = absurd (omega arith)
   categories_back t (name ∷ todo) (number ∷ kinds) done known n lines e k l =
       let there : Contains s.graph.names name = rw e at (stands done name todo) in
       let is = (v.hierarchy.names name there).0 in
@@ -134,6 +119,7 @@ module _ (s : Schema) (v : IsValidSchema s) where
       (category_plain name number is) (category_speaks name number) (category_tokens name number is) read)
       ∙ categories_back t todo kinds (done ++ name ∷ []) (known ++ number ∷ []) (n + 1) (lines ++ (n + 1) ∷ [])
       (append_assoc done (name ∷ []) todo ∙ e) (append_assoc known (number ∷ []) kinds ∙ k) (omega arith)
+  categories_back t todo kinds done known n lines e k l = absurd (omega arith)
 
   -- ---- all lines are plain
 
@@ -143,12 +129,11 @@ module _ (s : Schema) (v : IsValidSchema s) where
 
   plain_names : (names : List (List ℕ)) (kinds : List Bool)
       → ((name : List ℕ) → Contains names name → IsCategoryName name) → ArePlain (map category_text (zip names kinds))
-  plain_names [] kinds f = tt
-  plain_names (name ∷ names) [] f = tt
   plain_names (name ∷ names) (number ∷ kinds) f = (
     category_plain name number (f name (0, omega arith, refl)),
     plain_names names kinds (λ x c. f x (contains_cons x names name c)),
   )
+  plain_names names kinds f = tt
 
   plain_edges : (edges : List Edge)
       → ((e : Edge) → Contains edges e → IsCategory s.graph e.child × IsCategory s.graph e.parent)

@@ -2,10 +2,10 @@
 use Rattle.std.proofs.Common.{◌≡◌, ℕ, Bool, true, false, List, [], ◌∷◌, refl, codes}
 use Rattle.olap_base.specs.Reaching.{is_category_name}
 use Rattle.olap_grammar.specs.declared.tokens.Token.{Token}
+use Rattle.olap_schema_text.specs.Statements.{Category, Constraint, Edge, Version, statement_of}
 use Rattle.olap_grammar.specs.declared.tokens.Token.TheVariants as token
 use Rattle.olap_grammar.specs.declared.tokens.Mark.TheVariants as mark
 use Rattle.olap_grammar.specs.declared.tokens.Version.TheVariants as version
-use Rattle.olap_schema_text.specs.Statements.{Category, Constraint, Edge, Version, statement_of}
 
 -- the version line says the second version
 pub version_says : statement_of (token.Word (codes "schema") ∷ token.Word (codes "2") ∷ []) ≡ Version version.Two

@@ -1,29 +1,14 @@
 -- Tests of the tokens of a printed formula, where the tokens of its atoms are known to fail.
 --     none_passes    no token of the formula passes
-use Rattle.std.proofs.Common.{◌≡◌, ◌||◌, ℕ, Bool, true, false, List, [], ◌∷◌, ◌++◌, codes, refl}
-use Rattle.std.specs.List.{list_any}
+use Rattle.std.{proofs.Common.{◌≡◌, ℕ, Bool, false, List, [], ◌∷◌, ◌++◌, codes, refl}, specs.List.list_any}
 use Rattle.olap_base.specs.Graph.{Graph}
+use Rattle.olap_ast.specs.{Formula.{Formula, Terms}, Valid.{AreFormulasAt, IsFormulaAt}}
+use Rattle.olap_grammar.specs.declared.tokens.{Joint.Joint, Mark.Mark, Token.Token}
+use Rattle.olap_schema_text.proofs.{BackBytes.none-append, PrintTokens.{joined_tokens, spelt, spelt_list, spelt_rest}}
 use Rattle.olap_ast.specs.Formula as Meaning
-use Rattle.olap_ast.specs.Formula.{Formula, Terms}
-use Rattle.olap_ast.specs.Valid.{AreFormulasAt, IsFormulaAt}
-use Rattle.olap_grammar.specs.declared.tokens.Token.{Token}
 use Rattle.olap_grammar.specs.declared.tokens.Token.TheVariants as token
-use Rattle.olap_grammar.specs.declared.tokens.Mark.{Mark}
 use Rattle.olap_grammar.specs.declared.tokens.Mark.TheVariants as mark
-use Rattle.olap_grammar.specs.declared.tokens.Joint.{Joint}
 use Rattle.olap_grammar.specs.declared.tokens.Joint.TheVariants as joint
-use Rattle.olap_schema_text.proofs.PrintTokens.{joined_tokens, spelt, spelt_list, spelt_rest}
-
--- none of two lists, none of both together
-none-append : {A : Type 0} (p : A → Bool) (xs ys : List A) → list_any p xs ≡ false → list_any p ys ≡ false
-    → list_any p (xs ++ ys) ≡ false
-none-append p [] ys d e = e
-none-append p (x ∷ xs) ys d e = go (p x) d (λ r. none-append p xs ys r e)
-  where
-    go : (b : Bool) → b || list_any p xs ≡ false → (list_any p xs ≡ false → list_any p (xs ++ ys) ≡ false)
-        → b || list_any p (xs ++ ys) ≡ false
-    go true r rest = absurd (cc)
-    go false r rest = rest r
 
 -- one token that fails in front
 pub none-cons : {A : Type 0} (p : A → Bool) (x : A) (xs : List A) → p x ≡ false → list_any p xs ≡ false

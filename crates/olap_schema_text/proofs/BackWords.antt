@@ -2,26 +2,20 @@
 --     pieces         the pieces of an atom's word are its names
 --     path_means     and so on: what a word says is the atom
 use Rattle.std.proofs.Common.{◌≡◌, ◌≢◌, ◌==◌, ℕ, ℤ, Bool, true, false, cond, List, [], ◌∷◌, ◌++◌, Some, All, length, map, refl, append-nil, arith, ap, sym, ◌∙◌, codes, nat_lt, lit≤}
-use Rattle.std.specs.List.{list_all}
-use Rattle.std.specs.Str.{bytes_eq}
-use Rattle.std.proofs.lemmas.Bool.{eqb-true}
-use Rattle.std.proofs.lemmas.List.Elements.{All-append, All-cons, All-weaker}
-use Rattle.std.proofs.lemmas.List.Splits.{slice_split_at, slice_split_none}
-use Rattle.std.proofs.lemmas.Slice.Eq.{bytes_eq-Decides}
+use Rattle.std.proofs.lemmas.{Bool.eqb-true, List.Elements.{All-append, All-cons, All-weaker}}
+use Rattle.std.proofs.lemmas.{List.Splits.{slice_split_at, slice_split_none}, Slice.Eq.bytes_eq-Decides}
+use Rattle.std.specs.{List.list_all, Prelude.option_and_then, Str.bytes_eq}
+use Rattle.olap_base.{proofs.GeneralLemmas.eqb_same, specs.Graph.{Graph, IsCategory, IsHierarchy, IsLetterOrDigit}}
 use Rattle.olap_base.specs.Reaching.{is_category_name}
-use Rattle.olap_base.specs.Graph.{Graph, IsCategory, IsHierarchy, IsLetterOrDigit}
 use Rattle.olap_graph.specs.Lookups.{name_of_category}
-use Rattle.std.specs.Prelude.{option_and_then}
+use Rattle.olap_numerals.specs.{Comparing.Op, Numerals.{IsSmall, canonical}}
+use Rattle.olap_grammar.specs.Words.{compare_of, compared_in, ends_of, equal_of, names_at, pieces_of, plain_of}
+use Rattle.olap_schema_text.proofs.PrintCut.{AreCategories}
+use Rattle.olap_schema_text.proofs.PrintNames.{is_name, letters, name_is, no_mark, no_underscore}
+use Rattle.olap_schema_text.proofs.PrintNumerals.{numeral_is_number}
+use Rattle.olap_schema_text.specs.Printing.{atom_word, compared_word, names_after}
 use Rattle.olap_grammar.specs.Forms as words
 use Rattle.olap_grammar.specs.declared.tokens.Version.TheVariants as version
-use Rattle.olap_numerals.specs.Comparing.{Op}
-use Rattle.olap_numerals.specs.Numerals.{IsSmall, canonical}
-use Rattle.olap_grammar.specs.Words.{compare_of, compared_in, ends_of, equal_of, names_at, pieces_of, plain_of}
-use Rattle.olap_schema_text.specs.Printing.{atom_word, compared_word, names_after}
-use Rattle.olap_schema_text.proofs.PrintCut.{AreCategories}
-use Rattle.olap_schema_text.proofs.PrintNumerals.{numeral_is_number}
-use Rattle.olap_schema_text.proofs.PrintNames.{is_name, letters, name_is, no_mark, no_underscore}
-use Rattle.olap_base.proofs.GeneralLemmas.{eqb_same}
 
 -- a word in two pieces isn't a word in one
 pub other_word : (m : ℕ) (w v x y : List ℕ) (rest : List (List ℕ)) → pieces_of m w ≡ x ∷ y ∷ rest
@@ -122,13 +116,12 @@ module _ (g : Graph) (h : IsHierarchy g) where
       go : (w : List ℕ) → pieces_of 95 w ≡ name_of_category g r ∷ map (name_of_category g) (c ∷ cs)
           → plain_of w ≡ Some (words.Atom.Path (name_of_category g r) (map (name_of_category g) (c ∷ cs)))
       go w p =
-          let t = other_word 95 w (codes "true") _ _ _ p true_at_95 in
           let f = other_word 95 w (codes "false") _ _ _ p false_at_95 in
           let two : nat_lt 1 (length (name_of_category g r ∷ map (name_of_category g) (c ∷ cs))) ≡ true =
           grind (arith) in
           let all : list_all is_category_name (name_of_category g r ∷ map (name_of_category g) (c ∷ cs)) ≡ true =
           all_names (r ∷ c ∷ cs) (l, v) in
-          rw (t, f, p, two, all) refl
+          rw (other_word 95 w (codes "true") _ _ _ p true_at_95, f, p, two, all) refl
 
   pub reach_means : (r d : ℕ) → IsCategory g r → IsCategory g d
       → plain_of (atom_word g r 46 (d ∷ [])) ≡ Some (words.Atom.Reach (name_of_category g r) (name_of_category g d))
@@ -140,11 +133,10 @@ module _ (g : Graph) (h : IsHierarchy g) where
           → pieces_of 95 w ≡ w ∷ []
           → plain_of w ≡ Some (words.Atom.Reach (name_of_category g r) (name_of_category g d))
       go w p q =
-          let t = other_word 46 w (codes "true") _ _ _ p true_at_46 in
           let f = other_word 46 w (codes "false") _ _ _ p false_at_46 in
           let all : list_all is_category_name (name_of_category g r ∷ name_of_category g d ∷ []) ≡ true =
           all_names (r ∷ d ∷ []) (l, (k, tt)) in
-          rw (t, f, q, p, all) refl
+          rw (other_word 46 w (codes "true") _ _ _ p true_at_46, f, q, p, all) refl
 
   pub via_means : (r d e : ℕ) → IsCategory g r → IsCategory g d → IsCategory g e
       → plain_of (atom_word g r 46 (d ∷ e ∷ []))
@@ -158,12 +150,11 @@ module _ (g : Graph) (h : IsHierarchy g) where
           → pieces_of 95 w ≡ w ∷ []
           → plain_of w ≡ Some (words.Atom.Via (name_of_category g r) (name_of_category g d) (name_of_category g e))
       go w p q =
-          let t = other_word 46 w (codes "true") _ _ _ p true_at_46 in
           let f = other_word 46 w (codes "false") _ _ _ p false_at_46 in
           let all : list_all is_category_name
           (name_of_category g r ∷ name_of_category g d ∷ name_of_category g e ∷ []) ≡ true =
           all_names (r ∷ d ∷ e ∷ []) (l, (k, (m, tt))) in
-          rw (t, f, q, p, all) refl
+          rw (other_word 46 w (codes "true") _ _ _ p true_at_46, f, q, p, all) refl
 
   -- what a word compares
   compared_means : (r d : ℕ) → IsCategory g r → IsCategory g d

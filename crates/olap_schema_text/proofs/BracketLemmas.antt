@@ -1,14 +1,11 @@
 -- Brackets that are open: gone over from the left, and counted in a beginning.
-use Rattle.std.proofs.Common.{◌≡◌, ◌+◌, ◌<◌, ◌≤◌, ℕ, zero, suc, Bool, true, false, cond, List, [], ◌∷◌, nat_lt, refl, ap, ◌∙◌, take, arith}
-use Rattle.std.specs.Prelude.{count_by}
-use Rattle.std.proofs.lemmas.Bool.{ltb-false, ltb-true}
-use Rattle.std.proofs.lemmas.List.Sums.{sum_by-cons}
+use Rattle.std.proofs.Common.{◌≡◌, ◌+◌, ◌<◌, ◌≤◌, ℕ, suc, Bool, true, false, cond, List, [], ◌∷◌, nat_lt, refl, ap, ◌∙◌, take, arith}
+use Rattle.std.{proofs.lemmas.Bool.{ltb-false, ltb-true}, proofs.lemmas.List.Sums.sum_by-cons, specs.Prelude.count_by}
 use Rattle.olap_base.specs.Limits.{most_depth}
-use Rattle.olap_grammar.specs.declared.tokens.Token.{Token}
+use Rattle.olap_grammar.specs.{Brackets.{is_close, is_open, opens_over}, declared.tokens.Token.Token}
+use Rattle.olap_schema_text.specs.Laws.{OpenBracketsAreCounted}
 use Rattle.olap_grammar.specs.declared.tokens.Token.TheVariants as token
 use Rattle.olap_grammar.specs.declared.tokens.Mark.TheVariants as mark
-use Rattle.olap_schema_text.specs.Laws.{OpenBracketsAreCounted}
-use Rattle.olap_grammar.specs.Brackets.{is_close, is_open, opens_over}
 
 -- one token more is counted
 one_more : (p : Token → Bool) (t : Token) (ts : List Token) → count_by p (t ∷ ts) ≡ cond (p t) 1 0 + count_by p ts
@@ -28,9 +25,7 @@ not_counted p t ts e = one_more p t ts ∙ ap (λ b. cond b 1 0 + count_by p ts)
 passed : (o c : ℕ) (t : Token) (ts : List Token) → is_open t ≡ false → is_close t ≡ false → OpensFrom o c ts
     → OpensFrom o c (t ∷ ts)
 passed o c t ts p q f =
-    let opens = not_counted is_open t (take f.0 ts) p in
-    let closes = not_counted is_close t (take f.0 ts) q in
-    (suc f.0, omega (arith, opens, closes, f.1))
+    (suc f.0, omega (arith, not_counted is_open t (take f.0 ts) p, not_counted is_close t (take f.0 ts) q, f.1))
 
 -- where too many are open some beginning has too many
 found : (o c : ℕ) (ts : List Token) → opens_over o c ts ≡ true → OpensFrom o c ts
@@ -61,16 +56,7 @@ found o c (token.Mark mark.Close ∷ ts) h =
         f.1,
       ),
     )
-found o c (token.Word w ∷ ts) h = passed o c (token.Word w) ts refl refl (found o c ts h)
-found o c (token.Quoted k ∷ ts) h = passed o c (token.Quoted k) ts refl refl (found o c ts h)
-found o c (token.Signed w ∷ ts) h = passed o c (token.Signed w) ts refl refl (found o c ts h)
-found o c (token.Mark mark.Comma ∷ ts) h = passed o c (token.Mark mark.Comma) ts refl refl (found o c ts h)
-found o c (token.Mark mark.Colon ∷ ts) h = passed o c (token.Mark mark.Colon) ts refl refl (found o c ts h)
-found o c (token.Mark mark.Equal ∷ ts) h = passed o c (token.Mark mark.Equal) ts refl refl (found o c ts h)
-found o c (token.Mark mark.Less ∷ ts) h = passed o c (token.Mark mark.Less) ts refl refl (found o c ts h)
-found o c (token.Mark mark.AtMost ∷ ts) h = passed o c (token.Mark mark.AtMost) ts refl refl (found o c ts h)
-found o c (token.Mark mark.Not ∷ ts) h = passed o c (token.Mark mark.Not) ts refl refl (found o c ts h)
-found o c (token.Mark (mark.Joint j) ∷ ts) h = passed o c (token.Mark (mark.Joint j)) ts refl refl (found o c ts h)
+found o c (t ∷ ts) h = passed o c t ts refl refl (found o c ts h)
 
 -- the beginning with this many tokens opens too many
 abbrev OpensAt : ℕ → ℕ → ℕ → List Token → Type 0
@@ -85,8 +71,6 @@ left k o c t ts p q h =
 -- where some beginning has too many, too many are open
 counted : (k o c : ℕ) (ts : List Token) → o ≤ c + most_depth → OpensAt k o c ts → opens_over o c ts ≡ true
 unfolding opens_over
-counted zero o c ts l h = absurd (omega (arith, l, h))
-counted (suc k) o c [] l h = absurd (omega (arith, l, h))
 counted (suc k) o c (token.Mark mark.Open ∷ ts) l h =
     go (nat_lt (c + most_depth) (o + 1)) refl
     (λ m. counted k (o + 1) c ts m
@@ -111,23 +95,8 @@ counted (suc k) o c (token.Mark mark.Close ∷ ts) l h =
           (take k ts),
       h,
     ))
-counted (suc k) o c (token.Word w ∷ ts) l h = counted k o c ts l (left k o c (token.Word w) ts refl refl h)
-counted (suc k) o c (token.Quoted x ∷ ts) l h = counted k o c ts l (left k o c (token.Quoted x) ts refl refl h)
-counted (suc k) o c (token.Signed w ∷ ts) l h = counted k o c ts l (left k o c (token.Signed w) ts refl refl h)
-counted (suc k) o c (token.Mark mark.Comma ∷ ts) l h =
-    counted k o c ts l (left k o c (token.Mark mark.Comma) ts refl refl h)
-counted (suc k) o c (token.Mark mark.Colon ∷ ts) l h =
-    counted k o c ts l (left k o c (token.Mark mark.Colon) ts refl refl h)
-counted (suc k) o c (token.Mark mark.Equal ∷ ts) l h =
-    counted k o c ts l (left k o c (token.Mark mark.Equal) ts refl refl h)
-counted (suc k) o c (token.Mark mark.Less ∷ ts) l h =
-    counted k o c ts l (left k o c (token.Mark mark.Less) ts refl refl h)
-counted (suc k) o c (token.Mark mark.AtMost ∷ ts) l h =
-    counted k o c ts l (left k o c (token.Mark mark.AtMost) ts refl refl h)
-counted (suc k) o c (token.Mark mark.Not ∷ ts) l h =
-    counted k o c ts l (left k o c (token.Mark mark.Not) ts refl refl h)
-counted (suc k) o c (token.Mark (mark.Joint j) ∷ ts) l h =
-    counted k o c ts l (left k o c (token.Mark (mark.Joint j)) ts refl refl h)
+counted (suc k) o c (t ∷ ts) l h = counted k o c ts l (left k o c t ts refl refl h)
+counted k o c ts l h = absurd (omega (arith, l, h))
 
 -- the law
 pub brackets_counted : OpenBracketsAreCounted

@@ -1,14 +1,10 @@
 -- Categories of names, gone over from the left.
 use Rattle.std.proofs.Common.{◌≡◌, ◌++◌, ◌∷◌, ◌∙◌, ℕ, false, true, List, [], None, Option, Some, append_assoc, append-nil, refl, ap, is_some, sym}
-use Rattle.std.specs.Option.{option_map}
-use Rattle.std.specs.Borrow.{Bor}
-use Rattle.std.proofs.lemmas.List.{map-append}
-use Rattle.olap_base.specs.declared.ids.CatId.{CatId}
-use Rattle.olap_base.specs.Graph.{Graph}
+use Rattle.std.{proofs.lemmas.List.map-append, specs.Borrow.Bor, specs.Option.option_map}
+use Rattle.olap_base.specs.{Graph.Graph, declared.ids.CatId.CatId}
 use Rattle.olap_graph.specs.Lookups.{category_named, edge_between}
 use Rattle.olap_grammar.specs.Words.{pieces_behind, pieces_of}
-use Rattle.olap_schema_text.specs.Resolving.{categories_of, lacks_edge}
-use Rattle.olap_schema_text.proofs.RepeatLemmas.{numbers}
+use Rattle.olap_schema_text.{proofs.RepeatLemmas.numbers, specs.Resolving.{categories_of, lacks_edge}}
 
 -- one more is found
 category_on : (g : Graph) (done : List ℕ) (n : List ℕ) (ns : List (List ℕ)) (c : ℕ) → category_named g n ≡ Some c

@@ -1,25 +1,15 @@
 -- The distinct constants of the constraints so far, as the reader keeps them.
 use Rattle.std.proofs.Common.{◌≡◌, ◌∙◌, ◌+◌, ℕ, Bool, true, false, List, [], ◌∷◌, ◌++◌, Option, Some, None, Result, Ok, Err, append-nil, length, fold, refl, ap, sym}
+use Rattle.std.proofs.lemmas.List.{Concat.flat_map-append, Sums.fold-append}
 use Rattle.std.specs.Prelude.{codes, flat_map, if◌then◌else◌, nat_lt}
-use Rattle.std.proofs.lemmas.List.Concat.{flat_map-append}
-use Rattle.std.proofs.lemmas.List.Sums.{fold-append}
-use Rattle.olap_ast.specs.Atoms.{Comparison, Equality, comparisons, equalities}
-use Rattle.olap_ast.specs.Constants.{all_compared}
-use Rattle.olap_ast.specs.Formula.{Formula}
-use Rattle.olap_ast.specs.Pairs.{with_number, with_pair}
-use Rattle.olap_ast.specs.Schema.{Constraint}
-use Rattle.olap_ast.specs.Valid.{constant_count}
 use Rattle.olap_ast.proofs.ComparedLemmas.{constants_counted}
-use Rattle.olap_base.specs.Limits.{most_constants}
-use Rattle.olap_base.specs.Refusing.{IsFor}
-use Rattle.olap_base.specs.declared.refusals.Refusal.{Refusal}
+use Rattle.olap_ast.specs.{Atoms.{Comparison, Equality, comparisons, equalities}, Constants.all_compared}
+use Rattle.olap_ast.specs.{Formula.Formula, Pairs.{with_number, with_pair}, Schema.Constraint, Valid.constant_count}
+use Rattle.olap_base.specs.{Limits.most_constants, Refusing.IsFor, declared.refusals.Refusal.Refusal}
 use Rattle.olap_base.specs.declared.refusals.Refusal.TheVariants.{Kind, Memory}
-use Rattle.olap_grammar.specs.Nodes.{nodes_of}
-use Rattle.olap_grammar.specs.declared.tokens.Token.{Token}
-use Rattle.olap_grammar.specs.declared.tokens.Version.{Version}
+use Rattle.olap_grammar.specs.{Nodes.nodes_of, declared.tokens.Token.Token, declared.tokens.Version.Version}
 use Rattle.olap_schema_text.specs.Judging.{Above, constraint_added, has_too_many_constants}
-use Rattle.olap_schema_text.specs.Kinds.{IsRefusedAs, name_of_kind}
-use Rattle.olap_schema_text.specs.Reading.{AreCounted}
+use Rattle.olap_schema_text.specs.{Kinds.{IsRefusedAs, name_of_kind}, Reading.AreCounted}
 use Rattle.olap_schema_text.specs.declared.kinds.SchemaKind.{SchemaKind}
 
 -- the atoms of one constraint more

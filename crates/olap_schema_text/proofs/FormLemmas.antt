@@ -1,12 +1,9 @@
 -- What a reader of tokens says is what they are read as.
 use Rattle.std.proofs.Common.{◌≡◌, ◌≤◌, ◌+◌, ℕ, Bool, true, false, cond, Option, None, Some, Ok, Err, nat_le, nat_lt, refl, arith, codes}
 use Rattle.std.proofs.lemmas.Bool.{le-ltb, ltb-false, or_from, or_parts}
-use Rattle.olap_base.specs.Limits.{most_depth, most_nodes, most_schema_nodes}
-use Rattle.olap_grammar.specs.Answering.{formula_answer}
-use Rattle.olap_grammar.specs.Forms.{Form, depth_of}
-use Rattle.olap_schema_text.specs.Parts.{has_too_many_nodes}
-use Rattle.olap_schema_text.specs.Reading.{form_answer}
-use Rattle.olap_base.specs.Following.{given}
+use Rattle.olap_base.specs.{Following.given, Limits.{most_depth, most_nodes, most_schema_nodes}}
+use Rattle.olap_grammar.specs.{Answering.formula_answer, Forms.{Form, depth_of}}
+use Rattle.olap_schema_text.specs.{Parts.has_too_many_nodes, Reading.form_answer}
 
 -- whatever the formula is
 pub same_answer : (o : Option Form)

@@ -1,25 +1,17 @@
 -- What stands in a formula over words that was found among tokens.
 use Rattle.std.proofs.Common.{◌≡◌, ◌≢◌, ◌≤◌, ℕ, Bool, true, false, cond, List, [], ◌∷◌, ◌++◌, Option, Some, None, length, codes, refl, subst, arith, nat_lt, ap}
-use Rattle.std.specs.Prelude.{◌&&◌, option_and_then}
-use Rattle.std.specs.List.{list_all, list_any}
-use Rattle.std.specs.Option.{option_map}
-use Rattle.std.specs.Str.{bytes_eq}
-use Rattle.std.proofs.lemmas.Bool.{ltb-false, or_parts}
-use Rattle.olap_base.specs.Limits.{most_text_bytes}
-use Rattle.olap_base.specs.Reaching.{is_category_name}
+use Rattle.std.{proofs.lemmas.Bool.{ltb-false, or_parts}, specs.List.{list_all, list_any}, specs.Option.option_map}
+use Rattle.std.specs.{Prelude.{◌&&◌, option_and_then}, Str.bytes_eq}
+use Rattle.olap_base.specs.{Limits.most_text_bytes, Reaching.is_category_name}
 use Rattle.olap_numerals.specs.Comparing.{Op}
-use Rattle.olap_grammar.specs.Cutting.{has_numbers}
-use Rattle.olap_grammar.specs.Forms as words
-use Rattle.olap_grammar.specs.Forms.{Atom, Form, Forms}
+use Rattle.olap_grammar.specs.{Cutting.has_numbers, Forms.{Atom, Form, Forms}}
 use Rattle.olap_grammar.specs.Grammar.{IsFormula, IsFormula.looser, IsFormula.joined, IsFormula.negated, IsFormula.bracketed, IsFormula.listed, IsFormula.plain, IsFormula.equal, IsFormula.compared, IsItems, IsItems.last, IsItems.more, IsList, IsList.none, IsList.some}
 use Rattle.olap_grammar.specs.Words.{atoms_of, compare_of, compared_in, equal_of, is_number_token, path_of, pieces_of, plain_of, reach_of}
-use Rattle.olap_grammar.specs.declared.tokens.Token.{Token}
+use Rattle.olap_grammar.specs.declared.tokens.{Token.Token, Version.Version}
+use Rattle.olap_schema_text.{proofs.BackBytes.IsPlain, proofs.ValidTexts.{AreFine, parts_fine}, specs.Tokens.is_long}
+use Rattle.olap_grammar.specs.Forms as words
 use Rattle.olap_grammar.specs.declared.tokens.Token.TheVariants as token
 use Rattle.olap_grammar.specs.declared.tokens.Mark.TheVariants as mark
-use Rattle.olap_grammar.specs.declared.tokens.Version.{Version}
-use Rattle.olap_schema_text.specs.Tokens.{is_long}
-use Rattle.olap_schema_text.proofs.BackBytes.{IsPlain}
-use Rattle.olap_schema_text.proofs.ValidTexts.{AreFine, parts_fine}
 
 -- ---- atoms
 
@@ -54,20 +46,17 @@ named_found false names f h = nothing_found
 
 -- a path has two names or more
 path_found : (names : List (List ℕ)) → Finds (path_of names)
-path_found [] = nothing_found
-path_found (root ∷ []) = nothing_found
 path_found (root ∷ d ∷ ds) = one_found (words.Atom.Path root (d ∷ ds)) more
   where
     more : d ∷ ds ≢ []
     more e = let l : ◌≡◌ {A = ℕ} (length (d ∷ ds)) 0 = ap length e in absurd (omega (arith, l))
+path_found names = nothing_found
 
 -- a reaching has no text
 reach_found : (names : List (List ℕ)) → Finds (reach_of names)
-reach_found [] = nothing_found
-reach_found (root ∷ []) = nothing_found
 reach_found (root ∷ d ∷ []) = one_found (words.Atom.Reach root d) tt
 reach_found (root ∷ d ∷ e ∷ []) = one_found (words.Atom.Via root d e) tt
-reach_found (root ∷ d ∷ e ∷ f ∷ fs) = nothing_found
+reach_found names = nothing_found
 
 -- a word by itself
 plain_found : (w : List ℕ) → Finds (plain_of w)
@@ -89,9 +78,8 @@ equal_found k p l (Some ends) = one_found (words.Atom.Equals ends.0 ends.1 k) (p
 -- a word with a number
 compare_found : (op : Op) (digits : List ℕ) (b : Bool) (o : Option (List ℕ × List ℕ))
     → Finds (cond b (option_map (λ ends. words.Atom.Compare ends.0 ends.1 op digits) o) None)
-compare_found op digits true None = nothing_found
 compare_found op digits true (Some ends) = one_found (words.Atom.Compare ends.0 ends.1 op digits) tt
-compare_found op digits false o = nothing_found
+compare_found op digits b o = nothing_found
 
 -- ---- formulas
 

@@ -1,15 +1,12 @@
 -- Two formulas that a connective joins, whichever it is.
 use Rattle.std.proofs.Common.{◌≡◌, ◌+◌, ◌++◌, ◌⊎◌, ◌∙◌, ℕ, refl, ap, inl, inr}
 use Rattle.olap_base.specs.Graph.{Graph}
-use Rattle.olap_ast.specs.Atoms.{comparisons, equalities}
-use Rattle.olap_ast.specs.Formula as Meaning
-use Rattle.olap_ast.specs.Trees.{formula_of}
-use Rattle.olap_ast.specs.Valid.{node_count}
+use Rattle.olap_ast.specs.{Atoms.{comparisons, equalities}, Trees.formula_of, Valid.node_count}
 use Rattle.olap_ast.specs.declared.formulas.Formula.{Formula}
-use Rattle.olap_schema_text.specs.Resolving.{join}
+use Rattle.olap_schema_text.specs.{Printing.{formula_text, joined_text}, Resolving.join}
 use Rattle.olap_grammar.specs.declared.tokens.Joint.{Joint}
+use Rattle.olap_ast.specs.Formula as Meaning
 use Rattle.olap_grammar.specs.declared.tokens.Joint.TheVariants as joint
-use Rattle.olap_schema_text.specs.Printing.{formula_text, joined_text}
 
 -- a tree of two parts is joined by its connective
 pub joined_by : {a b c d e : Formula} (f : Formula) (x y : Meaning.Formula) → formula_of a ≡ join joint.And x y
@@ -29,32 +26,20 @@ counted e = ap (λ (z : Formula). node_count (formula_of z)) e
 -- it has one node more than the two parts
 pub joint_nodes : (j : Joint) (x y : Meaning.Formula) → node_count (join j x y) ≡ 1 + node_count x + node_count y
 joint_nodes joint.And x y = refl
-joint_nodes joint.Or x y = refl
-joint_nodes joint.Implies x y = refl
-joint_nodes joint.Iff x y = refl
-joint_nodes joint.Xor x y = refl
+joint_nodes j x y = refl
 
 -- its text is those of the two with the mark between
 pub joint_text : (g : Graph) (r : ℕ) (j : Joint) (x y : Meaning.Formula)
     → formula_text g r (join j x y) ≡ joined_text j (formula_text g r x) (formula_text g r y)
 joint_text g r joint.And x y = refl
-joint_text g r joint.Or x y = refl
-joint_text g r joint.Implies x y = refl
-joint_text g r joint.Iff x y = refl
-joint_text g r joint.Xor x y = refl
+joint_text g r j x y = refl
 
 -- its atoms on texts are those of the two
 pub joint_equalities : (j : Joint) (x y : Meaning.Formula) → equalities (join j x y) ≡ equalities x ++ equalities y
 joint_equalities joint.And x y = refl
-joint_equalities joint.Or x y = refl
-joint_equalities joint.Implies x y = refl
-joint_equalities joint.Iff x y = refl
-joint_equalities joint.Xor x y = refl
+joint_equalities j x y = refl
 
 -- and its atoms on numbers
 pub joint_comparisons : (j : Joint) (x y : Meaning.Formula) → comparisons (join j x y) ≡ comparisons x ++ comparisons y
 joint_comparisons joint.And x y = refl
-joint_comparisons joint.Or x y = refl
-joint_comparisons joint.Implies x y = refl
-joint_comparisons joint.Iff x y = refl
-joint_comparisons joint.Xor x y = refl
+joint_comparisons j x y = refl

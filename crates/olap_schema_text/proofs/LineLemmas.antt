@@ -1,13 +1,8 @@
 -- The lines of a text, the first at a time; and which bytes are text.
 use Rattle.std.proofs.Common.{◌≡◌, ◌==◌, ◌+◌, ◌-◌, add-one, ◌<◌, ◌≤◌, ℕ, suc, Bool, true, false, cond, List, [], ◌∷◌, length, take, drop, refl, sym, ap, ◌∙◌, arith}
-use Rattle.std.specs.Str.{IsUtf8, is_utf8}
-use Rattle.std.proofs.lemmas.List.{take_rest}
-use Rattle.std.proofs.lemmas.Str.{IsUtf8-from_is_utf8}
-use Rattle.std.proofs.lemmas.Bool.{eqb-true}
-use Rattle.std.specs.Prelude.{Ok}
-use Rattle.olap_schema_text.specs.Judging.{Above, lines_on}
-use Rattle.std.specs.List.{onto_first}
-use Rattle.olap_schema_text.specs.Lines.{line_length, lines_of}
+use Rattle.std.proofs.lemmas.{Bool.eqb-true, List.take_rest, Str.IsUtf8-from_is_utf8}
+use Rattle.std.specs.{List.onto_first, Prelude.Ok, Str.{IsUtf8, is_utf8}}
+use Rattle.olap_schema_text.specs.{Judging.{Above, lines_on}, Lines.{line_length, lines_of}}
 
 -- up to its LF stands the first line
 pub lines_first : (text : List ℕ) → line_length text < length text →
@@ -48,8 +43,7 @@ no_lines = refl
 pub cut_first : (text : List ℕ) (k : ℕ) → k ≡ line_length text → k < length text →
     lines_of text ≡ take k text ∷ lines_of (take (length text - (k + 1)) (drop (k + 1) text))
 cut_first text k e h =
-    let first = lines_first text (omega arith) in
-    rw (take_rest text (k + 1), add-one) (rw (← e) at first)
+    rw (take_rest text (k + 1), add-one) (rw (← e) at (lines_first text (omega arith)))
 
 -- the last line has no LF
 pub cut_last : (text : List ℕ) (k : ℕ) → k ≡ line_length text → 0 < length text → length text ≤ k

@@ -1,11 +1,9 @@
 -- One part more of a list of parts.
 use Rattle.std.proofs.Common.{◌≡◌, ℕ, List, [], ◌∷◌, ◌++◌, Result, Ok, Err, map, refl, ap, sym}
-use Rattle.olap_ast.specs.Formula as Meaning
-use Rattle.olap_ast.specs.Listing.{parts_before}
-use Rattle.olap_ast.specs.Trees.{formula_of}
+use Rattle.olap_ast.{proofs.ListingLemmas.parts_before-push, specs.Listing.parts_before, specs.Trees.formula_of}
 use Rattle.olap_ast.specs.declared.formulas.Formula.{Formula}
-use Rattle.olap_ast.proofs.ListingLemmas.{parts_before-push}
 use Rattle.olap_base.specs.Following.{goes_on}
+use Rattle.olap_ast.specs.Formula as Meaning
 
 -- a list with these parts in front, or its fault
 abbrev with_parts : List Formula → Result Meaning.Terms (List ℕ) → Result Meaning.Terms (List ℕ)

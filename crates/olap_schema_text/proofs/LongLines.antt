@@ -2,36 +2,25 @@
 --     many_nodes, too_deep, bad_form    the fault of the formula, by what was counted
 --     unversioned, no_constraint, no_formula    the fault of the line
 use Rattle.std.proofs.Common.{◌≡◌, ◌≤◌, ◌<◌, ◌+◌, ◌-◌, ◌++◌, ◌∷◌, ◌∙◌, true, false, ℕ, suc, List, length, Option, None, Some, Err, refl, sym, ap, subst, arith, inl, inr}
-use Rattle.std.specs.Borrow.{Bor}
+use Rattle.std.{proofs.lemmas.Bool.{cases_lt, lt-ltb, or_left}, proofs.lemmas.List.length-append, specs.Borrow.Bor}
 use Rattle.std.specs.Prelude.{is_some, unwrap_or, codes}
-use Rattle.std.proofs.lemmas.Bool.{cases_lt, lt-ltb, or_left}
-use Rattle.std.proofs.lemmas.List.{length-append}
 use Rattle.olap_ast.specs.Schema.{Schema}
 use Rattle.olap_base.specs.Limits.{most_nodes}
-use Rattle.olap_grammar.specs.Brackets.{most_tokens, opens_over}
-use Rattle.olap_grammar.specs.Forms.{Form}
-use Rattle.olap_grammar.specs.Keeping.{Begins, BeginsFound, IsTallyOf, Kept}
-use Rattle.olap_grammar.specs.Machine.{the_formula}
-use Rattle.olap_grammar.specs.Nodes.{nodes_behind, nodes_of}
-use Rattle.olap_grammar.specs.Tallying.{counted_nodes}
-use Rattle.olap_grammar.specs.Words.{atoms_of}
-use Rattle.olap_grammar.specs.declared.tallying.Tally.{Tally}
-use Rattle.olap_grammar.specs.declared.tokens.Token.{Token}
-use Rattle.olap_grammar.specs.declared.tokens.Token.TheVariants as token
-use Rattle.olap_grammar.specs.declared.tokens.Mark.TheVariants as mark
-use Rattle.olap_grammar.specs.declared.tokens.Version.{Version}
-use Rattle.olap_grammar.specs.declared.tokens.Version.TheVariants as version
-use Rattle.olap_grammar.proofs.FewTokens.{few_tokens}
-use Rattle.olap_grammar.proofs.ReaderLemmas.{found_is_formula}
+use Rattle.olap_grammar.proofs.{FewTokens.few_tokens, ReaderLemmas.found_is_formula}
+use Rattle.olap_grammar.specs.{Brackets.{most_tokens, opens_over}, Forms.Form}
+use Rattle.olap_grammar.specs.{Keeping.{Begins, BeginsFound, IsTallyOf, Kept}, Machine.the_formula}
+use Rattle.olap_grammar.specs.{Nodes.{nodes_behind, nodes_of}, Tallying.counted_nodes, Words.atoms_of}
+use Rattle.olap_grammar.specs.declared.{tallying.Tally.Tally, tokens.Token.Token, tokens.Version.Version}
+use Rattle.olap_schema_text.proofs.{FormLemmas.few_alone, StatementLemmas.{IsSaid, is_said, long_says, longer}}
 use Rattle.olap_schema_text.specs.Judging.{Above, form_read, statement_read}
 use Rattle.olap_schema_text.specs.Parts.{has_too_many_nodes, question_cut, tokens_read, version_at}
-use Rattle.olap_schema_text.specs.Reading.{IsTallyBehind, said}
-use Rattle.olap_schema_text.specs.Statements as says
-use Rattle.olap_schema_text.specs.Statements.{Statement, statement_of}
+use Rattle.olap_schema_text.specs.{Reading.{IsTallyBehind, said}, Statements.{Statement, statement_of}}
 use Rattle.olap_schema_text.specs.declared.statements.Statement.{Statement as Said}
+use Rattle.olap_grammar.specs.declared.tokens.Token.TheVariants as token
+use Rattle.olap_grammar.specs.declared.tokens.Mark.TheVariants as mark
+use Rattle.olap_grammar.specs.declared.tokens.Version.TheVariants as version
+use Rattle.olap_schema_text.specs.Statements as says
 use Rattle.olap_schema_text.specs.declared.statements.Statement.TheVariants as statement
-use Rattle.olap_schema_text.proofs.FormLemmas.{few_alone}
-use Rattle.olap_schema_text.proofs.StatementLemmas.{IsSaid, is_said, long_says, longer}
 
 -- ---- constraints
 
@@ -70,9 +59,8 @@ module _ (v : Version) (before front : ℕ) (y : Tally) (ts : List Token)
     both_many : front ≤ 3 → counted_nodes ≤ y.nodes
         → has_too_many_nodes before (y.nodes - front) ≡ has_too_many_nodes before (nodes_of v ts)
     both_many f l =
-        let few = behind.few in
         or_left _ _ (lt-ltb most_nodes (y.nodes - front) (omega (arith, f, l)))
-        ∙ sym (or_left _ _ (lt-ltb most_nodes (nodes_of v ts) (omega (arith, f, l, few))))
+        ∙ sym (or_left _ _ (lt-ltb most_nodes (nodes_of v ts) (omega (arith, f, l, behind.few))))
 
     -- so what was counted says whether it has too many
     same_test : front ≤ 3 → has_too_many_nodes before (y.nodes - front) ≡ has_too_many_nodes before (nodes_of v ts)
@@ -102,8 +90,7 @@ module _ (v : Version) (before front : ℕ) (y : Tally) (ts : List Token)
         go : (o : Option Form) → the_formula (atoms_of v) ts ≡ o → o ≡ None
         go None e = refl
         go (Some f) e =
-            let few = few_tokens v (atoms_of v) ts f (found_is_formula (atoms_of v) ts f e) d in
-            absurd (omega (arith, l, few, long))
+            absurd (omega (arith, l, few_tokens v (atoms_of v) ts f (found_is_formula (atoms_of v) ts f e) d, long))
 
     pub bad_form : front ≤ 3 → has_too_many_nodes before (y.nodes - front) ≡ false → y.too_deep ≡ false
         → most_tokens most_nodes < length ts → form_read v before ts ≡ Err (codes "BadForm")
@@ -130,10 +117,7 @@ module _ (a : Above) (n : ℕ) (k : Kept) (o : Option (List Token)) (found : Beg
     long : most_tokens most_nodes + 3 < length ts
     long =
         let e : length ts ≡ length (k.first ++ begins.rest) = ap length begins.parts in
-        let f = length-append k.first begins.rest in
-        let g = begins.full more in
-        let h = begins.others more in
-        omega (arith, e, f, g, h, room)
+        omega (arith, e, length-append k.first begins.rest, begins.full more, begins.others more, room)
 
     four : 4 ≤ length ts
     four = let l = long in omega (arith, l)
@@ -149,10 +133,7 @@ module _ (a : Above) (n : ℕ) (k : Kept) (o : Option (List Token)) (found : Beg
             → statement_read a n v (longer s begins.rest) ≡ Err (codes "BadForm")
         go (Some v) s p = absurd (cc)
         go None (says.Statement.Version u) p = refl
-        go None (says.Statement.Category name number) p = refl
-        go None (says.Statement.Edge child parent) p = refl
-        go None (says.Statement.Constraint root us) p = refl
-        go None says.Statement.Other p = refl
+        go v s p = refl
 
     -- the tokens that are kept say anything but a constraint
     pub no_constraint : (s : Said) → said s ≡ statement_of k.first
@@ -164,14 +145,11 @@ module _ (a : Above) (n : ℕ) (k : Kept) (o : Option (List Token)) (found : Beg
             → ((root : Bor (List ℕ)) (us : Bor (List Token)) → t ≡ statement.Constraint root us → ⊥)
             → statement_read a n v (longer (said t) begins.rest) ≡ Err (codes "BadForm")
         go (statement.Version u) None p = refl
-        go (statement.Version u) (Some v) p = refl
         go (statement.Category name number) None p = refl
-        go (statement.Category name number) (Some v) p = refl
         go (statement.Edge child parent) None p = refl
-        go (statement.Edge child parent) (Some v) p = refl
         go (statement.Constraint root us) v p = absurd (p root us refl)
         go statement.Other None p = refl
-        go statement.Other (Some v) p = refl
+        go t v p = refl
 
     -- the fault of the formula is the line's
     pub no_formula : (e : List ℕ) (root : List ℕ) (us : List Token) → is_some a.version ≡ true
@@ -183,10 +161,8 @@ module _ (a : Above) (n : ℕ) (k : Kept) (o : Option (List Token)) (found : Beg
         let is : statement_of ts ≡ says.Statement.Constraint root whole = says_as_kept ∙ rw (← c) refl in
         let front : Fronts ts root whole = subst (IsSaid ts) is (is_said ts) in
         let same : length ts ≡ suc (suc (suc (length whole))) = ap length front.1 in
-        let l = long in
         let behind = tally_behind (version_at a) k.tally ts root whole front begins.tally in
-        let read = h whole behind (omega (arith, same, l)) in
-        rw (found.1, is) (go a.version v read)
+        rw (found.1, is) (go a.version v (h whole behind (omega (arith, same, long))))
       where
         go : (w : Option Version) → is_some w ≡ true
             → form_read (unwrap_or w version.One) a.nodes (us ++ begins.rest) ≡ Err e
@@ -211,8 +187,6 @@ pub no_question : (s : Schema) (root : ℕ) (k : Kept) (o : Option (List Token))
 no_question s root k o e found more room h =
     let b = found.2 in
     let p : length found.0 ≡ length (k.first ++ b.rest) = ap length b.parts in
-    let q = length-append k.first b.rest in
-    let r = b.full more in
     let t = b.others more in
     let behind = nothing_in_front version.Two k.tally found.0 b.tally in
-    rw (found.1, h found.0 behind (omega (arith, p, q, r, t, room))) refl
+    rw (found.1, h found.0 behind (omega (arith, p, length-append k.first b.rest, b.full more, t, room))) refl

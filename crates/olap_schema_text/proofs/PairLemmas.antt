@@ -1,15 +1,11 @@
 -- Tests over what the stored pairs stand for.
 use Rattle.std.proofs.Common.{◌≡◌, ℕ, ℤ, ◌||◌, Bool, true, false, List, [], ◌∷◌, ◌++◌, map, refl, ap, subst, ◌∙◌, sym}
+use Rattle.std.{proofs.lemmas.List.map-append, proofs.lemmas.List.Sums.fold-append, specs.List.{fold, list_any}}
 use Rattle.std.specs.Prelude.{Result, Ok, Err, OnOk}
-use Rattle.std.specs.List.{fold, list_any}
-use Rattle.std.proofs.lemmas.List.{map-append}
-use Rattle.olap_ast.specs.Atoms.{Comparison, Equality}
-use Rattle.olap_ast.specs.Pairs.{is_same_number, is_same_pair, with_number, with_pair}
+use Rattle.olap_ast.specs.{Atoms.{Comparison, Equality}, Pairs.{is_same_number, is_same_pair, with_number, with_pair}}
 use Rattle.olap_ast.specs.Valid.{with_new}
-use Rattle.olap_schema_text.specs.Reading.{number_pair_of, pair_of}
-use Rattle.olap_schema_text.specs.declared.pairing.NumberPair.{NumberPair}
+use Rattle.olap_schema_text.specs.{Reading.{number_pair_of, pair_of}, declared.pairing.NumberPair.NumberPair}
 use Rattle.olap_schema_text.specs.declared.pairing.Pair.{Pair}
-use Rattle.std.proofs.lemmas.List.Sums.{fold-append}
 
 module _ (P A : Type 0) (view : P → A) (same : A → A → Bool) where
   list_any-map : (t : A → Bool) (ps : List P) → list_any t (map view ps) ≡ list_any (λ p. t (view p)) ps

@@ -5,27 +5,21 @@ use Rattle.std.proofs.lemmas.List.Elements.{All-head, All-tail}
 use Rattle.olap_base.specs.Chains.{IsChain}
 use Rattle.olap_base.specs.Graph.{Graph, HasEdge, IsCategory, IsCategoryName, IsHierarchy, IsLetterOrDigit}
 use Rattle.olap_graph.specs.Lookups.{name_of_category}
-use Rattle.olap_ast.specs.Formula as Meaning
-use Rattle.olap_ast.specs.Formula.{Formula, Terms}
-use Rattle.olap_ast.specs.Valid.{AreFormulasAt, IsFormulaAt}
-use Rattle.olap_numerals.specs.Comparing.{Op}
-use Rattle.olap_numerals.specs.Numerals.{IsSmall, canonical}
-use Rattle.olap_grammar.specs.Cutting.{AreWordBytes, EndsWord, IsMarkIn, is_word_byte, joint_bytes, mark_bytes, Spells, nothing, quote, slash, other, IsCut, blank, word, quoted, signed}
-use Rattle.olap_grammar.specs.Longest.{EndsMark}
+use Rattle.olap_ast.specs.{Formula.{Formula, Terms}, Valid.{AreFormulasAt, IsFormulaAt}}
+use Rattle.olap_numerals.specs.{Comparing.Op, Numerals.{IsSmall, canonical}}
 use Rattle.olap_grammar.proofs.LongestLemmas.{cut_mark}
-use Rattle.olap_grammar.specs.Grammar.{comparing}
-use Rattle.olap_grammar.specs.Quoting.{escaped_byte}
-use Rattle.olap_grammar.specs.declared.tokens.Token.{Token}
-use Rattle.olap_grammar.specs.declared.tokens.Token.TheVariants as token
-use Rattle.olap_grammar.specs.declared.tokens.Mark.TheVariants as mark
-use Rattle.olap_grammar.specs.declared.tokens.Joint.{Joint}
-use Rattle.olap_grammar.specs.declared.tokens.Joint.TheVariants as joint
-use Rattle.olap_grammar.specs.declared.tokens.Version.{Version}
-use Rattle.olap_grammar.specs.declared.tokens.Version.TheVariants as version
-use Rattle.olap_schema_text.specs.Printing.{atom_word, compared_word, formula_text, joined_text, list_text, names_after, rest_text}
+use Rattle.olap_grammar.specs.Cutting.{AreWordBytes, EndsWord, IsMarkIn, is_word_byte, joint_bytes, mark_bytes, Spells, nothing, quote, slash, other, IsCut, blank, word, quoted, signed}
+use Rattle.olap_grammar.specs.{Grammar.comparing, Longest.EndsMark, Quoting.escaped_byte, declared.tokens.Joint.Joint}
+use Rattle.olap_grammar.specs.declared.tokens.{Token.Token, Version.Version}
 use Rattle.olap_schema_text.proofs.PrintNames.{letters, name_is}
 use Rattle.olap_schema_text.proofs.PrintNumerals.{AreDigits, digits_are_word, digits_behind_dash, digits_in_decimal, first_digit}
 use Rattle.olap_schema_text.proofs.PrintTokens.{joined_tokens, number_token, spelt, spelt_list, spelt_rest}
+use Rattle.olap_schema_text.specs.Printing.{atom_word, compared_word, formula_text, joined_text, list_text, names_after, rest_text}
+use Rattle.olap_ast.specs.Formula as Meaning
+use Rattle.olap_grammar.specs.declared.tokens.Token.TheVariants as token
+use Rattle.olap_grammar.specs.declared.tokens.Mark.TheVariants as mark
+use Rattle.olap_grammar.specs.declared.tokens.Joint.TheVariants as joint
+use Rattle.olap_grammar.specs.declared.tokens.Version.TheVariants as version
 
 -- ---- words
 
@@ -138,14 +132,12 @@ cut_number (negsuc n) bs ts h e d = cut_negative (decimal (suc n)) bs ts (digits
 -- the second version has each comparison
 compares_in_two : (op : Op) → IsMarkIn (comparing op) version.Two
 compares_in_two Op.Equal = tt
-compares_in_two Op.Less = refl
-compares_in_two Op.AtMost = refl
+compares_in_two op = refl
 
 -- at a space no mark goes on
 ends_at_space : (op : Op) (bs : List ℕ) → EndsMark (comparing op) (32 ∷ bs)
-ends_at_space Op.Equal bs = tt
 ends_at_space Op.Less bs = (refl, λ e. absurd (cc))
-ends_at_space Op.AtMost bs = tt
+ends_at_space op bs = tt
 
 -- a comparison and a number
 cut_compared : (op : Op) (z : ℤ) (bs : List ℕ) (ts : List Token) → IsSmall z → EndsWord bs → IsCut version.Two bs ts
@@ -163,11 +155,12 @@ Cuts text ts =
     (bs : List ℕ) (us : List Token) → EndsWord bs → IsCut version.Two bs us → IsCut version.Two (text ++ bs) (ts ++ us)
 
 -- two texts joined by a connective
-joined_cut : (j : Joint) (x y : List ℕ) (l r : List Token) → Cuts x l → Cuts y r
-    → Cuts (joined_text j x y) (joined_tokens j l r)
-joined_cut j x y l r c d bs us n e =
-    let inner =
-    c (32 ∷ (joint_bytes j ++ 32 ∷ (y ++ 41 ∷ bs))) (token.Mark (mark.Joint j) ∷ (r ++ token.Mark mark.Close ∷ us)) refl
+joined_cut : (g : Graph) (r : ℕ) (j : Joint) (f k : Formula) → Cuts (formula_text g r f) (spelt g r f)
+    → Cuts (formula_text g r k) (spelt g r k)
+    → Cuts (joined_text j (formula_text g r f) (formula_text g r k)) (joined_tokens j (spelt g r f) (spelt g r k))
+joined_cut g r j f k c d bs us n e =
+    let inner = c (32 ∷ (joint_bytes j ++ 32 ∷ (formula_text g r k ++ 41 ∷ bs)))
+    (token.Mark (mark.Joint j) ∷ (spelt g r k ++ token.Mark mark.Close ∷ us)) refl
     (blank (cut_mark (mark.Joint j) tt tt
     (blank (d (41 ∷ bs) (token.Mark mark.Close ∷ us) refl (cut_mark mark.Close tt tt e))))) in
     simp append_assoc (cut_mark mark.Open tt tt inner)
@@ -195,20 +188,15 @@ module _ (g : Graph) (h : IsHierarchy g) (r : ℕ) (l : IsCategory g r) where
         simp append_assoc (cut_word (compared_is_word g h r d l v.0) refl (cut_compared op z bs us v.2 n e))
     text_is_cut (Meaning.Formula.Not f) v bs us n e = cut_mark mark.Not tt tt (text_is_cut f v bs us n e)
     text_is_cut (Meaning.Formula.And f k) v bs us n e =
-        joined_cut joint.And (formula_text g r f) (formula_text g r k) (spelt g r f) (spelt g r k) (text_is_cut f v.0)
-        (text_is_cut k v.1) bs us n e
+        joined_cut g r joint.And f k (text_is_cut f v.0) (text_is_cut k v.1) bs us n e
     text_is_cut (Meaning.Formula.Or f k) v bs us n e =
-        joined_cut joint.Or (formula_text g r f) (formula_text g r k) (spelt g r f) (spelt g r k) (text_is_cut f v.0)
-        (text_is_cut k v.1) bs us n e
+        joined_cut g r joint.Or f k (text_is_cut f v.0) (text_is_cut k v.1) bs us n e
     text_is_cut (Meaning.Formula.Implies f k) v bs us n e =
-        joined_cut joint.Implies (formula_text g r f) (formula_text g r k) (spelt g r f) (spelt g r k)
-        (text_is_cut f v.0) (text_is_cut k v.1) bs us n e
+        joined_cut g r joint.Implies f k (text_is_cut f v.0) (text_is_cut k v.1) bs us n e
     text_is_cut (Meaning.Formula.Iff f k) v bs us n e =
-        joined_cut joint.Iff (formula_text g r f) (formula_text g r k) (spelt g r f) (spelt g r k) (text_is_cut f v.0)
-        (text_is_cut k v.1) bs us n e
+        joined_cut g r joint.Iff f k (text_is_cut f v.0) (text_is_cut k v.1) bs us n e
     text_is_cut (Meaning.Formula.Xor f k) v bs us n e =
-        joined_cut joint.Xor (formula_text g r f) (formula_text g r k) (spelt g r f) (spelt g r k) (text_is_cut f v.0)
-        (text_is_cut k v.1) bs us n e
+        joined_cut g r joint.Xor f k (text_is_cut f v.0) (text_is_cut k v.1) bs us n e
     text_is_cut (Meaning.Formula.One fs) v bs us n e =
         simp append_assoc (word 111 (110 ∷ 101 ∷ []) (refl, (refl, (refl, tt))) refl
         (cut_mark mark.Open tt tt

@@ -4,8 +4,7 @@ use Rattle.std.specs.Prelude.{Result, Ok, Err, OnOk, is_ok, if◌then◌else◌,
 use Rattle.olap_base.specs.Graph.{Graph, category_count, is_number}
 use Rattle.olap_graph.specs.Lookups.{name_of_category}
 use Rattle.olap_ast.specs.Schema.{Constraint, Schema}
-use Rattle.olap_grammar.specs.Cutting.{joint_bytes}
-use Rattle.olap_grammar.specs.declared.tokens.Joint.{Joint}
+use Rattle.olap_grammar.specs.{Cutting.joint_bytes, declared.tokens.Joint.Joint}
 use Rattle.olap_schema_text.specs.Printing.{category_text, constraint_text, edge_text, ended_line, formula_text, joined_text, schema_text, text_of_lines}
 
 -- past the end there is no line
@@ -103,10 +102,9 @@ zip_length (x ∷ xs) (y ∷ ys) l = ap (λ n. suc n) (zip_length xs ys (omega a
 pub zip_at : {A B : Type 0} (xs : List A) (ys : List B) (k : ℕ) (d : A) (e : B) → length ys ≡ length xs
     → slice_index_or (zip xs ys) k (d, e) ≡ (slice_index_or xs k d, slice_index_or ys k e)
 zip_at [] [] k d e l = refl
-zip_at [] (y ∷ ys) k d e l = absurd (omega arith)
-zip_at (x ∷ xs) [] k d e l = absurd (omega arith)
 zip_at (x ∷ xs) (y ∷ ys) zero d e l = refl
 zip_at (x ∷ xs) (y ∷ ys) (suc k) d e l = zip_at xs ys k d e (omega arith)
+zip_at xs ys k d e l = absurd (omega arith)
 
 -- three texts are written one after the other
 pub three_texts : {E : Type 0} (x y z given old first second last : List ℕ) (r : Result (Unit {0}) E) →

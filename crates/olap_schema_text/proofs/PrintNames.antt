@@ -1,14 +1,11 @@
 -- What the names of a hierarchy's categories are.
 use Rattle.std.proofs.Common.{◌≡◌, ◌==◌, ◌≤◌, inl, inr, ℕ, zero, suc, true, false, List, [], ◌∷◌, Some, get_or, arith, ap, sym, ◌∙◌, refl, codes, lit≤, zero-add}
-use Rattle.std.specs.Prelude.{All, Contains}
-use Rattle.std.specs.Str.{bytes_eq}
-use Rattle.std.proofs.lemmas.List.Elements.{All-from_recursion, All-cons, Contains-get_or}
-use Rattle.std.proofs.lemmas.Slice.Eq.{bytes_eq-Decides}
+use Rattle.std.proofs.lemmas.{List.Elements.{All-from_recursion, All-cons, Contains-get_or}, Slice.Eq.bytes_eq-Decides}
+use Rattle.std.specs.{Prelude.{All, Contains}, Str.bytes_eq}
 use Rattle.olap_base.specs.Graph.{Graph, IsCategory, IsCategoryName, IsHierarchy, IsLetterOrDigit, reserved}
 use Rattle.olap_base.specs.Reaching.{is_category_name, is_category_name_is}
+use Rattle.olap_graph.proofs.{NamesApart.names_apart, PlaceLemmas.first_at}
 use Rattle.olap_graph.specs.Lookups.{category_named, name_of_category, names_of}
-use Rattle.olap_graph.proofs.PlaceLemmas.{first_at}
-use Rattle.olap_graph.proofs.NamesApart.{names_apart}
 
 -- the first byte of a name, or 0
 first_byte : List ℕ → ℕ

@@ -1,18 +1,11 @@
 -- The bytes of canonical numerals.
 use Rattle.std.proofs.Common.{◌≡◌, ◌<◌, ◌≤◌, ◌==◌, ◌&&◌, ◌++◌, true, false, ℕ, ℤ, pos, negsuc, suc, List, [], ◌∷◌, length, Some, refl, arith, nat_lt, decimal}
-use Rattle.std.specs.Char.{is_ascii_digit}
-use Rattle.std.specs.Str.{all_ascii_digits}
-use Rattle.std.proofs.lemmas.Fmt.{decimal_is_IsNumeral_wide}
-use Rattle.std.proofs.lemmas.Int.{ints}
-use Rattle.olap_base.specs.Graph.{IsCategoryName, IsLetter}
-use Rattle.olap_numerals.specs.Numerals.{IsSmall, canonical, digits_in, most_number}
-use Rattle.olap_grammar.specs.Cutting.{AreWordBytes, is_word_byte}
-use Rattle.olap_grammar.specs.Grammar.{digits_of}
-use Rattle.olap_grammar.specs.Words.{is_number_token}
+use Rattle.std.proofs.lemmas.{Bool.and_parts, Fmt.decimal_is_IsNumeral_wide, Int.ints}
+use Rattle.std.specs.{Char.is_ascii_digit, Str.all_ascii_digits}
+use Rattle.olap_base.{proofs.GeneralLemmas.and_without_second, specs.Graph.{IsCategoryName, IsLetter}}
+use Rattle.olap_numerals.{proofs.Spelling.own, specs.Numerals.{IsSmall, canonical, digits_in, most_number}}
+use Rattle.olap_grammar.specs.{Cutting.{AreWordBytes, is_word_byte}, Grammar.digits_of, Words.is_number_token}
 use Rattle.olap_schema_text.proofs.PrintTokens.{number_token}
-use Rattle.std.proofs.lemmas.Bool.{and_parts}
-use Rattle.olap_base.proofs.GeneralLemmas.{and_without_second}
-use Rattle.olap_numerals.proofs.Spelling.{own}
 
 -- decimal digits, one at least
 pub record AreDigits (ds : List ℕ) : Type 0 where

@@ -1,16 +1,14 @@
 -- The tokens that a printed formula is cut into.
 use Rattle.std.specs.Prelude.{ℕ, ℤ, pos, negsuc, List, [], ◌∷◌, ◌++◌, codes}
 use Rattle.olap_base.specs.Graph.{Graph}
-use Rattle.olap_ast.specs.Formula as Meaning
 use Rattle.olap_ast.specs.Formula.{Formula, Terms}
 use Rattle.olap_numerals.specs.Numerals.{canonical}
-use Rattle.olap_grammar.specs.Grammar.{comparing}
-use Rattle.olap_grammar.specs.declared.tokens.Token.{Token}
+use Rattle.olap_grammar.specs.{Grammar.comparing, declared.tokens.Joint.Joint, declared.tokens.Token.Token}
+use Rattle.olap_schema_text.specs.Printing.{atom_word, compared_word}
+use Rattle.olap_ast.specs.Formula as Meaning
 use Rattle.olap_grammar.specs.declared.tokens.Token.TheVariants as token
 use Rattle.olap_grammar.specs.declared.tokens.Mark.TheVariants as mark
-use Rattle.olap_grammar.specs.declared.tokens.Joint.{Joint}
 use Rattle.olap_grammar.specs.declared.tokens.Joint.TheVariants as joint
-use Rattle.olap_schema_text.specs.Printing.{atom_word, compared_word}
 
 -- the token of a number's canonical numeral
 abbrev pub number_token : ℤ → Token

@@ -1,13 +1,9 @@
 -- A category that comes twice, gone over from the left with those before it.
 use Rattle.std.proofs.Common.{◌≡◌, ◌||◌, ◌++◌, ◌∷◌, ◌∙◌, Bool, true, false, ℕ, List, [], None, Option, Some, arith, cond, map, refl, sym, ap, subst}
-use Rattle.std.specs.List.{list_any}
-use Rattle.std.specs.Option.{option_map}
-use Rattle.std.specs.Prelude.{◌==◌}
-use Rattle.std.proofs.lemmas.Bool.{eqb-true, or_parts, or_from}
-use Rattle.std.proofs.lemmas.List.{map-append}
-use Rattle.olap_base.specs.declared.ids.CatId.{CatId}
+use Rattle.std.{proofs.lemmas.Bool.{eqb-true, or_parts, or_from}, proofs.lemmas.List.map-append, specs.List.list_any}
+use Rattle.std.specs.{Option.option_map, Prelude.◌==◌}
+use Rattle.olap_base.{proofs.GeneralLemmas.{or_true, eqb_same}, specs.declared.ids.CatId.CatId}
 use Rattle.olap_schema_text.specs.Resolving.{is_repeated}
-use Rattle.olap_base.proofs.GeneralLemmas.{or_true, eqb_same}
 
 -- the category is one of these
 abbrev pub stands_in : List ℕ → ℕ → Bool

@@ -1,27 +1,21 @@
 -- What a formula over words is resolved to.
-use Rattle.std.proofs.Common.{◌≡◌, ◌≢◌, ◌+◌, ◌∙◌, ℕ, Bool, true, false, cond, List, [], ◌∷◌, Option, Some, None, length, refl, sym, ap, subst, arith}
-use Rattle.std.specs.Prelude.{◌==◌, Result, Ok, Err, option_and_then, codes}
-use Rattle.std.specs.Option.{option_map}
-use Rattle.olap_ast.specs.Atoms.{equalities, equalities_of_terms}
-use Rattle.olap_ast.specs.Formula as Meaning
-use Rattle.olap_ast.specs.Formula.{Formula, Terms}
+use Rattle.std.proofs.Common.{◌≡◌, ◌≢◌, ◌+◌, ◌∙◌, ℕ, Bool, true, false, cond, List, [], ◌∷◌, Option, Some, length, refl, sym, ap, subst, arith}
+use Rattle.std.specs.{Option.option_map, Prelude.{◌==◌, Result, Ok, Err, option_and_then, codes}}
+use Rattle.olap_ast.specs.{Atoms.{equalities, equalities_of_terms}, Formula.{Formula, Terms}}
 use Rattle.olap_ast.specs.Valid.{AreFormulasAt, IsFormulaAt, depth_of, depth_of_terms, node_count, node_count_of_terms}
-use Rattle.olap_base.specs.Graph.{Graph, IsCategory, is_number}
+use Rattle.olap_base.specs.{Following.given, Graph.{Graph, IsCategory, is_number}}
 use Rattle.olap_graph.specs.Lookups.{category_named}
-use Rattle.olap_numerals.specs.Numerals.{number_of}
-use Rattle.olap_numerals.specs.Comparing.{Op}
-use Rattle.olap_grammar.specs.Forms as words
+use Rattle.olap_numerals.{proofs.NumeralLemmas.spelled_small, specs.Comparing.Op, specs.Numerals.number_of}
 use Rattle.olap_grammar.specs.Forms.{Atom, Form, Forms, depth_of as levels_of, depth_of_all as levels_of_all}
 use Rattle.olap_grammar.specs.declared.tokens.Joint.{Joint}
-use Rattle.olap_grammar.specs.declared.tokens.Joint.TheVariants as joint
 use Rattle.olap_schema.specs.Readable.{AreTexts}
-use Rattle.olap_base.specs.Following.{given}
-use Rattle.olap_schema_text.specs.Resolving.{all_resolved, atom_read, categories_of, ends_read, is_repeated, join, lacks_edge, path_read, resolved}
 use Rattle.olap_schema_text.proofs.FoundWords.{AllAreSpelt, AreSpelt, IsSpelt}
 use Rattle.olap_schema_text.proofs.StepLemmas.{given_ok, goes_on_ok, ok_is, passed_on}
-use Rattle.olap_schema_text.proofs.ValidNames.{differ, follows, name_at}
-use Rattle.olap_schema_text.proofs.ValidTexts.{both_texts, no_texts, one_text}
-use Rattle.olap_numerals.proofs.NumeralLemmas.{spelled_small}
+use Rattle.olap_schema_text.proofs.{ValidNames.{differ, follows, name_at}, ValidTexts.{both_texts, no_texts, one_text}}
+use Rattle.olap_schema_text.specs.Resolving.{all_resolved, atom_read, categories_of, ends_read, is_repeated, join, lacks_edge, path_read, resolved}
+use Rattle.olap_ast.specs.Formula as Meaning
+use Rattle.olap_grammar.specs.Forms as words
+use Rattle.olap_grammar.specs.declared.tokens.Joint.TheVariants as joint
 
 -- ---- nodes of words
 
@@ -55,12 +49,11 @@ some_categories g (m ∷ ms) cs n h = go (category_named g m) (categories_of g m
   where
     go : (o : Option ℕ) (p : Option (List ℕ)) → option_and_then (λ c. option_map (λ ds. c ∷ ds) p) o ≡ Some cs
         → cs ≢ []
-    go None p k e = absurd (cc)
-    go (Some c) None k e = absurd (cc)
     go (Some c) (Some ds) k e =
         let s : c ∷ ds ≡ cs = cc in
         let l : ◌≡◌ {A = ℕ} (length (c ∷ ds)) 0 = ap length (s ∙ e) in
         absurd (omega (arith, l))
+    go o p k e = absurd (cc)
 
 -- ---- atoms
 
@@ -166,25 +159,7 @@ module _ (g : Graph) (root : ℕ) where
     nodes = rw (p.nodes, q.nodes) refl;
     levels = rw (p.levels, q.levels) refl;
   }
-  joined_is joint.Implies x y f h p q = record {
-    valid = (p.valid, q.valid);
-    texts = both_texts (equalities f) (equalities h) p.texts q.texts;
-    nodes = rw (p.nodes, q.nodes) refl;
-    levels = rw (p.levels, q.levels) refl;
-  }
-  joined_is joint.Xor x y f h p q = record {
-    valid = (p.valid, q.valid);
-    texts = both_texts (equalities f) (equalities h) p.texts q.texts;
-    nodes = rw (p.nodes, q.nodes) refl;
-    levels = rw (p.levels, q.levels) refl;
-  }
-  joined_is joint.Or x y f h p q = record {
-    valid = (p.valid, q.valid);
-    texts = both_texts (equalities f) (equalities h) p.texts q.texts;
-    nodes = rw (p.nodes, q.nodes) refl;
-    levels = rw (p.levels, q.levels) refl;
-  }
-  joined_is joint.And x y f h p q = record {
+  joined_is j x y f h p q = record {
     valid = (p.valid, q.valid);
     texts = both_texts (equalities f) (equalities h) p.texts q.texts;
     nodes = rw (p.nodes, q.nodes) refl;
@@ -209,8 +184,7 @@ module _ (g : Graph) (root : ℕ) where
     resolved_is_sound (words.Form.Joined j x y) f h s =
         let t = goes_on_ok (resolved g root x) _ f h in
         let u = goes_on_ok (resolved g root y) _ f t.2 in
-        subst (IsSound (words.Form.Joined j x y)) (sym (ok_is _ _ u.2))
-        (joined_is j x y t.0 u.0 (resolved_is_sound x t.0 t.1 s.0) (resolved_is_sound y u.0 u.1 s.1))
+        rw (ok_is _ _ u.2) (joined_is j x y t.0 u.0 (resolved_is_sound x t.0 t.1 s.0) (resolved_is_sound y u.0 u.1 s.1))
     resolved_is_sound (words.Form.One xs) f h s =
         let t = goes_on_ok (all_resolved g root xs) _ f h in
         let r = all_are_sound xs t.0 t.1 s in
@@ -223,8 +197,7 @@ module _ (g : Graph) (root : ℕ) where
 
     all_are_sound : (xs : Forms) (fs : Terms) → all_resolved g root xs ≡ Ok fs → AllAreSpelt xs → AreSound xs fs
     all_are_sound words.Forms.End fs h s =
-        subst (AreSound words.Forms.End) (sym (ok_is _ _ h))
-        (record { valid = tt; texts = no_texts; nodes = refl; levels = refl })
+        rw (ok_is _ _ h) (record { valid = tt; texts = no_texts; nodes = refl; levels = refl })
     all_are_sound (words.Forms.More x xs) fs h s =
         let t = goes_on_ok (resolved g root x) _ fs h in
         let u = goes_on_ok (all_resolved g root xs) _ fs t.2 in

@@ -3,9 +3,9 @@ use Rattle.std.proofs.Common.{◌≡◌, ◌≤◌, ◌&&◌, ◌++◌, ◌∷�
 use Rattle.std.specs.Str.{bytes_eq}
 use Rattle.olap_base.specs.Reaching.{is_category_name}
 use Rattle.olap_grammar.specs.declared.tokens.Token.{Token}
+use Rattle.olap_schema_text.specs.Statements.{Statement, Version, Category, Edge, Constraint, Other, statement_of}
 use Rattle.olap_grammar.specs.declared.tokens.Token.TheVariants as token
 use Rattle.olap_grammar.specs.declared.tokens.Mark.TheVariants as mark
-use Rattle.olap_schema_text.specs.Statements.{Statement, Version, Category, Edge, Constraint, Other, statement_of}
 
 -- the tokens of a statement
 abbrev pub IsSaid : List Token → Statement → Type 0
@@ -33,40 +33,22 @@ either P false s t f h = h
 -- what is said is so
 pub is_said : (ts : List Token) → IsSaid ts (statement_of ts)
 unfolding statement_of
-is_said [] = tt
-is_said (token.Quoted k ∷ ts) = tt
-is_said (token.Signed k ∷ ts) = tt
-is_said (token.Mark m ∷ ts) = tt
-is_said (token.Word w ∷ []) = tt
-is_said (token.Word w ∷ token.Quoted k ∷ ts) = tt
-is_said (token.Word w ∷ token.Signed k ∷ ts) = tt
-is_said (token.Word w ∷ token.Mark m ∷ ts) = tt
 is_said (token.Word w ∷ token.Word n ∷ []) =
     let P : Statement → Type 0 = IsSaid (token.Word w ∷ token.Word n ∷ []) in
     either P (bytes_eq w (codes "schema") && bytes_eq n (codes "1")) _ _ (λ e. tt)
     (either P (bytes_eq w (codes "schema") && bytes_eq n (codes "2")) _ _ (λ e. tt)
     (either P (bytes_eq w (codes "category") && is_category_name n) _ _
     (λ e. last_true (bytes_eq w (codes "category")) (is_category_name n) e) tt))
-is_said (token.Word w ∷ token.Word n ∷ token.Quoted k ∷ ts) = tt
-is_said (token.Word w ∷ token.Word n ∷ token.Signed k ∷ ts) = tt
 is_said (token.Word w ∷ token.Word c ∷ token.Word d ∷ []) =
     let P : Statement → Type 0 = IsSaid (token.Word w ∷ token.Word c ∷ token.Word d ∷ []) in
     either P (bytes_eq w (codes "edge") && is_category_name c && is_category_name d) _ _ (λ e. tt)
     (either P (bytes_eq w (codes "category") && is_category_name c && bytes_eq d (codes "number")) _ _
     (λ e. last_true (bytes_eq w (codes "category")) (is_category_name c)
     (first_true (bytes_eq w (codes "category") && is_category_name c) (bytes_eq d (codes "number")) e)) tt)
-is_said (token.Word w ∷ token.Word c ∷ token.Word d ∷ t ∷ ts) = tt
 is_said (token.Word w ∷ token.Word r ∷ token.Mark mark.Colon ∷ ts) =
     either (IsSaid (token.Word w ∷ token.Word r ∷ token.Mark mark.Colon ∷ ts))
     (bytes_eq w (codes "constraint") && is_category_name r) _ _ (λ e. (w, refl)) tt
-is_said (token.Word w ∷ token.Word r ∷ token.Mark mark.Open ∷ ts) = tt
-is_said (token.Word w ∷ token.Word r ∷ token.Mark mark.Close ∷ ts) = tt
-is_said (token.Word w ∷ token.Word r ∷ token.Mark mark.Comma ∷ ts) = tt
-is_said (token.Word w ∷ token.Word r ∷ token.Mark mark.Equal ∷ ts) = tt
-is_said (token.Word w ∷ token.Word r ∷ token.Mark mark.Less ∷ ts) = tt
-is_said (token.Word w ∷ token.Word r ∷ token.Mark mark.AtMost ∷ ts) = tt
-is_said (token.Word w ∷ token.Word r ∷ token.Mark mark.Not ∷ ts) = tt
-is_said (token.Word w ∷ token.Word r ∷ token.Mark (mark.Joint j) ∷ ts) = tt
+is_said ts = tt
 
 -- a constraint goes on with more tokens, and nothing else does
 abbrev pub longer : Statement → List Token → Statement
@@ -80,15 +62,6 @@ long_says [] rest l = absurd (omega (arith, l))
 long_says (t ∷ []) rest l = absurd (omega (arith, l))
 long_says (t ∷ u ∷ []) rest l = absurd (omega (arith, l))
 long_says (t ∷ u ∷ v ∷ []) rest l = absurd (omega (arith, l))
-long_says (token.Quoted k ∷ u ∷ v ∷ x ∷ ts) rest l = refl
-long_says (token.Signed k ∷ u ∷ v ∷ x ∷ ts) rest l = refl
-long_says (token.Mark m ∷ u ∷ v ∷ x ∷ ts) rest l = refl
-long_says (token.Word w ∷ token.Quoted k ∷ v ∷ x ∷ ts) rest l = refl
-long_says (token.Word w ∷ token.Signed k ∷ v ∷ x ∷ ts) rest l = refl
-long_says (token.Word w ∷ token.Mark m ∷ v ∷ x ∷ ts) rest l = refl
-long_says (token.Word w ∷ token.Word n ∷ token.Quoted k ∷ x ∷ ts) rest l = refl
-long_says (token.Word w ∷ token.Word n ∷ token.Signed k ∷ x ∷ ts) rest l = refl
-long_says (token.Word w ∷ token.Word n ∷ token.Word d ∷ x ∷ ts) rest l = refl
 long_says (token.Word w ∷ token.Word r ∷ token.Mark mark.Colon ∷ x ∷ ts) rest l =
     go (bytes_eq w (codes "constraint") && is_category_name r)
   where
@@ -96,11 +69,4 @@ long_says (token.Word w ∷ token.Word r ∷ token.Mark mark.Colon ∷ x ∷ ts)
         → cond b (Constraint r (x ∷ (ts ++ rest))) Other ≡ longer (cond b (Constraint r (x ∷ ts)) Other) rest
     go true = refl
     go false = refl
-long_says (token.Word w ∷ token.Word r ∷ token.Mark mark.Open ∷ x ∷ ts) rest l = refl
-long_says (token.Word w ∷ token.Word r ∷ token.Mark mark.Close ∷ x ∷ ts) rest l = refl
-long_says (token.Word w ∷ token.Word r ∷ token.Mark mark.Comma ∷ x ∷ ts) rest l = refl
-long_says (token.Word w ∷ token.Word r ∷ token.Mark mark.Equal ∷ x ∷ ts) rest l = refl
-long_says (token.Word w ∷ token.Word r ∷ token.Mark mark.Less ∷ x ∷ ts) rest l = refl
-long_says (token.Word w ∷ token.Word r ∷ token.Mark mark.AtMost ∷ x ∷ ts) rest l = refl
-long_says (token.Word w ∷ token.Word r ∷ token.Mark mark.Not ∷ x ∷ ts) rest l = refl
-long_says (token.Word w ∷ token.Word r ∷ token.Mark (mark.Joint j) ∷ x ∷ ts) rest l = refl
+long_says ts rest l = refl

@@ -1,32 +1,21 @@
 -- What a line that has no fault does to what the lines above it say.
 use Rattle.std.proofs.Common.{◌≡◌, ◌+◌, ℕ, Bool, true, false, cond, List, [], ◌∷◌, ◌++◌, Option, Some, None, length, refl, sym, subst}
-use Rattle.std.specs.Prelude.{◌==◌, ◌||◌, ◌&&◌, Result, Ok, Err, not, nat_lt, nat_le}
-use Rattle.std.specs.List.{list_any}
+use Rattle.std.specs.{List.list_any, Prelude.{◌==◌, ◌||◌, ◌&&◌, Result, Ok, Err, not, nat_lt, nat_le}}
 use Rattle.olap_ast.specs.Formula.{Formula}
+use Rattle.olap_base.specs.{Following.{given, goes_on}, Limits.{most_constraints, most_text_bytes}}
 use Rattle.olap_base.specs.Reaching.{is_category_name}
-use Rattle.olap_base.specs.Limits.{most_constraints, most_text_bytes}
-use Rattle.olap_graph.specs.Building.{category_refusal, edge_refusal, with_edge, with_kind}
-use Rattle.olap_graph.specs.Lookups.{category_named}
-use Rattle.olap_graph.specs.declared.refusals.CategoryFault.{CategoryFault}
-use Rattle.olap_graph.specs.declared.refusals.EdgeFault.{EdgeFault}
-use Rattle.olap_grammar.specs.Cutting.{has_numbers}
-use Rattle.olap_grammar.specs.CuttingMachine.{tokens_of}
-use Rattle.olap_grammar.specs.Nodes.{nodes_of}
-use Rattle.olap_grammar.specs.declared.tokens.Token.{Token}
+use Rattle.olap_graph.specs.{Building.{category_refusal, edge_refusal, with_edge, with_kind}, Lookups.category_named}
+use Rattle.olap_graph.specs.declared.refusals.{CategoryFault.CategoryFault, EdgeFault.EdgeFault}
+use Rattle.olap_grammar.specs.{Cutting.has_numbers, CuttingMachine.tokens_of, Forms.Form, Nodes.nodes_of}
+use Rattle.olap_grammar.specs.declared.tokens.{Token.Token, Version.{Version as TextVersion}}
+use Rattle.olap_schema_text.proofs.{StatementLemmas.{IsSaid, is_said}, ValidTexts.{AreFine, drop_fine, line_is_fine}}
+use Rattle.olap_schema_text.specs.Judging.{Above, category_added, category_read, constraint_read, edge_added, edge_read, form_read, formula_read, line_read, lines_on, statement_read, has_too_many_constants}
+use Rattle.olap_schema_text.specs.{Lines.{chomped, is_quiet}, Parts.{tokens_read, version_at}, Resolving.resolved}
+use Rattle.olap_schema_text.specs.Statements.{Statement, Statement.Version, Statement.Category, Statement.Edge, Statement.Constraint, statement_of}
+use Rattle.olap_schema_text.specs.Tokens.{is_bad_number, is_long, is_long_name}
+use Rattle.olap_schema.specs.Readable.{is_bad}
 use Rattle.olap_grammar.specs.declared.tokens.Token.TheVariants as token
 use Rattle.olap_grammar.specs.declared.tokens.Mark.TheVariants as mark
-use Rattle.olap_grammar.specs.Forms.{Form}
-use Rattle.olap_schema_text.specs.Resolving.{resolved}
-use Rattle.olap_schema_text.specs.Judging.{Above, category_added, category_read, constraint_read, edge_added, edge_read, form_read, formula_read, line_read, lines_on, statement_read, has_too_many_constants}
-use Rattle.olap_base.specs.Following.{given, goes_on}
-use Rattle.olap_schema_text.specs.Parts.{tokens_read, version_at}
-use Rattle.olap_schema.specs.Readable.{is_bad}
-use Rattle.olap_schema_text.specs.Lines.{chomped, is_quiet}
-use Rattle.olap_schema_text.specs.Statements.{Statement, Statement.Version, Statement.Category, Statement.Edge, Statement.Constraint, Statement.Other, statement_of}
-use Rattle.olap_schema_text.specs.Tokens.{is_bad_number, is_long, is_long_name}
-use Rattle.olap_grammar.specs.declared.tokens.Version.{Version as TextVersion}
-use Rattle.olap_schema_text.proofs.StatementLemmas.{IsSaid, is_said}
-use Rattle.olap_schema_text.proofs.ValidTexts.{AreFine, drop_fine, line_is_fine}
 
 -- a category of this name, of numbers or not, is added
 pub record AddsCategory (a b : Above) (n : ℕ) (name : List ℕ) (number : Bool) : Type 0 where
@@ -180,18 +169,13 @@ statement_step : (a b : Above) (n : ℕ) (v : Option TextVersion) (s : Statement
     → ((root : List ℕ) (ts : List Token) → s ≡ Constraint root ts → AreFine ts)
     → statement_read a n v s ≡ Ok b → Step a b
 statement_step a b n None (Version u) m fine h = version u (ok_is _ _ h)
-statement_step a b n None (Category name number) m fine h = absurd (cc)
-statement_step a b n None (Edge child parent) m fine h = absurd (cc)
-statement_step a b n None (Constraint root ts) m fine h = absurd (cc)
-statement_step a b n None Other m fine h = absurd (cc)
-statement_step a b n (Some v) (Version u) m fine h = absurd (cc)
 statement_step a b n (Some v) (Category name number) m fine h =
     category n name number (m name number refl) (category_step a b n v name number h)
 statement_step a b n (Some v) (Edge child parent) m fine h =
     let t = edge_step a b child parent h in edge child parent t.0 t.1 t.2
 statement_step a b n (Some v) (Constraint root ts) m fine h =
     let t = constraint_step a b v root ts (fine root ts refl) h in constraint v root ts t.0 t.1 t.2
-statement_step a b n (Some v) Other m fine h = absurd (cc)
+statement_step a b n v s m fine h = absurd (cc)
 
 -- and so do the tokens of a line
 tokens_step : (a b : Above) (n : ℕ) (o : Option (List Token)) → ((ts : List Token) → o ≡ Some ts → AreFine ts)

@@ -1,9 +1,8 @@
 -- The first category that doesn't reach `All`.
 use Rattle.std.proofs.Common.{◌≡◌, ◌+◌, ◌≤◌, ◌<◌, ℕ, suc, zero, Bool, true, false, not, cond, List, Some, None, refl, arith, length, ap, sym, ◌∙◌}
-use Rattle.std.specs.Prelude.{◌-◌, find, slice_index, Ok, Err, codes}
-use Rattle.std.specs.List.{range_with_len}
-use Rattle.olap_base.specs.Reaching.{category_reaches, category_reaches_is}
+use Rattle.std.specs.{List.range_with_len, Prelude.{◌-◌, find, slice_index, Ok, Err, codes}}
 use Rattle.olap_base.specs.Graph.{CategoryReaches, Graph, IsCategory}
+use Rattle.olap_base.specs.Reaching.{category_reaches, category_reaches_is}
 use Rattle.olap_graph.specs.Building.{IsFirstWithoutWay}
 use Rattle.olap_schema_text.specs.Judging.{Above, first_stuck, whole}
 use Rattle.olap_ast.specs.Schema.{Constraint}

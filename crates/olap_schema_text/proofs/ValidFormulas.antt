@@ -1,24 +1,20 @@
 -- A formula over words has as many nodes as its tokens; a formula of a graph is one of a larger graph.
 use Rattle.std.proofs.Common.{◌≡◌, ◌+◌, ℕ, false, cond, List, [], ◌∷◌, ◌++◌, Option, Some, None, append-nil, append_assoc, refl, ap, ◌∙◌, subst, arith}
-use Rattle.std.specs.Prelude.{codes}
-use Rattle.std.specs.Option.{option_map}
-use Rattle.olap_ast.specs.Formula.{Formula, Formula.Truth, Formula.Falsity, Formula.Path, Formula.Reach, Formula.Via, Formula.Equals, Formula.Compare, Formula.Not, Formula.And, Formula.Or, Formula.Implies, Formula.Iff, Formula.Xor, Formula.One, Terms, Terms.End, Terms.More}
+use Rattle.std.specs.{Option.option_map, Prelude.codes}
+use Rattle.olap_ast.specs.Formula.{Formula, Formula.Path, Formula.Reach, Formula.Via, Formula.Equals, Formula.Compare, Formula.Not, Formula.And, Formula.Or, Formula.Implies, Formula.Iff, Formula.Xor, Formula.One, Terms, Terms.End, Terms.More}
 use Rattle.olap_ast.specs.Valid.{AreFormulasAt, IsFormulaAt}
-use Rattle.olap_base.specs.Chains.{IsChain}
-use Rattle.olap_base.specs.Graph.{Graph, HasEdge, IsCategory, is_number}
+use Rattle.olap_base.specs.{Chains.IsChain, Graph.{Graph, HasEdge, IsCategory, is_number}}
 use Rattle.olap_numerals.specs.Comparing.{Op}
-use Rattle.olap_grammar.specs.Forms as words
 use Rattle.olap_grammar.specs.Forms.{Atom, Form, Forms}
 use Rattle.olap_grammar.specs.Grammar.{IsFormula, IsFormula.looser, IsFormula.joined, IsFormula.negated, IsFormula.bracketed, IsFormula.listed, IsFormula.plain, IsFormula.equal, IsFormula.compared, IsItems, IsItems.last, IsItems.more, IsList, IsList.none, IsList.some, comparing, digits_of}
 use Rattle.olap_grammar.specs.Nodes.{compares, is_node, nodes_behind, nodes_of}
-use Rattle.olap_grammar.specs.Words.{atoms_of, compare_of, equal_of, plain_of}
-use Rattle.olap_grammar.specs.declared.tokens.Joint.{Joint}
-use Rattle.olap_grammar.specs.declared.tokens.Token.{Token}
+use Rattle.olap_grammar.specs.{Words.{atoms_of, compare_of, equal_of, plain_of}, declared.tokens.Token.Token}
+use Rattle.olap_grammar.specs.declared.tokens.Version.{Version}
+use Rattle.olap_schema_text.proofs.ResolvedLemmas.{nodes_in, nodes_in_all}
+use Rattle.olap_grammar.specs.Forms as words
 use Rattle.olap_grammar.specs.declared.tokens.Token.TheVariants as token
 use Rattle.olap_grammar.specs.declared.tokens.Mark.TheVariants as mark
-use Rattle.olap_grammar.specs.declared.tokens.Version.{Version}
 use Rattle.olap_grammar.specs.declared.tokens.Version.TheVariants as version
-use Rattle.olap_schema_text.proofs.ResolvedLemmas.{nodes_in, nodes_in_all}
 
 -- ---- nodes
 
@@ -32,47 +28,12 @@ no_nodes : (v : Version) → nodes_behind v false [] ≡ 0
 unfolding nodes_behind
 no_nodes v = refl
 
--- a token that doesn't compare, and isn't compared with
-node_at : (v : Version) (t : Token) (ts : List Token) → compares v t ≡ false
+-- a token that doesn't compare in the second version, and isn't compared with
+node_at : (v : Version) (t : Token) (ts : List Token) → compares version.Two t ≡ false
     → nodes_behind v false (t ∷ ts) ≡ cond (is_node t) 1 0 + nodes_behind v false ts
 unfolding nodes_behind
-node_at v t ts e = ap (λ b. cond (is_node t) 1 0 + nodes_behind v b ts) e
-
--- a word is a node
-word_node : (v : Version) (w : List ℕ) (ts : List Token)
-    → nodes_behind v false (token.Word w ∷ ts) ≡ 1 + nodes_behind v false ts
-word_node version.One w ts = node_at version.One (token.Word w) ts refl
-word_node version.Two w ts = node_at version.Two (token.Word w) ts refl
-
--- and a `!`
-not_node : (v : Version) (ts : List Token)
-    → nodes_behind v false (token.Mark mark.Not ∷ ts) ≡ 1 + nodes_behind v false ts
-not_node version.One ts = node_at version.One (token.Mark mark.Not) ts refl
-not_node version.Two ts = node_at version.Two (token.Mark mark.Not) ts refl
-
--- and a connective
-joint_node : (v : Version) (j : Joint) (ts : List Token)
-    → nodes_behind v false (token.Mark (mark.Joint j) ∷ ts) ≡ 1 + nodes_behind v false ts
-joint_node version.One j ts = node_at version.One (token.Mark (mark.Joint j)) ts refl
-joint_node version.Two j ts = node_at version.Two (token.Mark (mark.Joint j)) ts refl
-
--- an open bracket is none
-open_node : (v : Version) (ts : List Token)
-    → nodes_behind v false (token.Mark mark.Open ∷ ts) ≡ nodes_behind v false ts
-open_node version.One ts = omega (arith, node_at version.One (token.Mark mark.Open) ts refl)
-open_node version.Two ts = omega (arith, node_at version.Two (token.Mark mark.Open) ts refl)
-
--- nor a closed one
-close_node : (v : Version) (ts : List Token)
-    → nodes_behind v false (token.Mark mark.Close ∷ ts) ≡ nodes_behind v false ts
-close_node version.One ts = omega (arith, node_at version.One (token.Mark mark.Close) ts refl)
-close_node version.Two ts = omega (arith, node_at version.Two (token.Mark mark.Close) ts refl)
-
--- nor a comma
-comma_node : (v : Version) (ts : List Token)
-    → nodes_behind v false (token.Mark mark.Comma ∷ ts) ≡ nodes_behind v false ts
-comma_node version.One ts = omega (arith, node_at version.One (token.Mark mark.Comma) ts refl)
-comma_node version.Two ts = omega (arith, node_at version.Two (token.Mark mark.Comma) ts refl)
+node_at version.One t ts e = refl
+node_at version.Two t ts e = ap (λ b. cond (is_node t) 1 0 + nodes_behind version.Two b ts) e
 
 -- the word alone is a node of an equality
 equal_nodes : (v : Version) (w k : List ℕ) (us : List Token)
@@ -93,8 +54,7 @@ compared_nodes Op.Less (token.Word b) w digits us p = refl
 compared_nodes Op.Less (token.Signed b) w digits us p = refl
 compared_nodes Op.AtMost (token.Word b) w digits us p = refl
 compared_nodes Op.AtMost (token.Signed b) w digits us p = refl
-compared_nodes op (token.Quoted k) w digits us p = absurd (cc)
-compared_nodes op (token.Mark m) w digits us p = absurd (cc)
+compared_nodes op b w digits us p = absurd (cc)
 
 -- a word with a number is one
 comparison_nodes : (v : Version) (op : Op) (t : Token) (w digits : List ℕ) (f : Form) (us : List Token)
@@ -108,9 +68,11 @@ comparison_nodes version.Two op t w digits f us p e = compared_nodes op t w digi
 bracket_nodes : (v : Version) (ts us : List Token)
     → nodes_behind v false (token.Mark mark.Open ∷ ((ts ++ token.Mark mark.Close ∷ []) ++ us))
     ≡ nodes_behind v false (ts ++ token.Mark mark.Close ∷ us)
-bracket_nodes v ts us =
-    open_node v ((ts ++ token.Mark mark.Close ∷ []) ++ us)
-    ∙ ap (nodes_behind v false) (append_assoc ts (token.Mark mark.Close ∷ []) us)
+bracket_nodes v ts us = omega (
+  arith,
+  node_at v (token.Mark mark.Open) ((ts ++ token.Mark mark.Close ∷ []) ++ us) refl,
+  ap (nodes_behind v false) (append_assoc ts (token.Mark mark.Close ∷ []) us),
+)
 
 module _ (v : Version) where
   mutual
@@ -124,22 +86,27 @@ module _ (v : Version) where
           arith,
           ap (nodes_behind v false) (append_assoc left (token.Mark (mark.Joint j) ∷ right) us),
           nodes_on d more,
-          joint_node v j (right ++ us),
+          node_at v (token.Mark (mark.Joint j)) (right ++ us) refl,
           nodes_on e us,
         )
-    nodes_on (negated {ts = ts} d) us = omega (arith, not_node v (ts ++ us), nodes_on d us)
+    nodes_on (negated {ts = ts} d) us = omega (arith, node_at v (token.Mark mark.Not) (ts ++ us) refl, nodes_on d us)
     nodes_on (bracketed {ts = ts} d) us =
-        omega (arith, bracket_nodes v ts us, nodes_on d (token.Mark mark.Close ∷ us), close_node v us)
+        omega (
+          arith,
+          bracket_nodes v ts us,
+          nodes_on d (token.Mark mark.Close ∷ us),
+          node_at v (token.Mark mark.Close) us refl,
+        )
     nodes_on (listed {ts = ts} d) us =
         omega (
           arith,
-          word_node v (codes "one") (token.Mark mark.Open ∷ ((ts ++ token.Mark mark.Close ∷ []) ++ us)),
+          node_at v (token.Word (codes "one")) (token.Mark mark.Open ∷ ((ts ++ token.Mark mark.Close ∷ []) ++ us)) refl,
           bracket_nodes v ts us,
           list_nodes_on d (token.Mark mark.Close ∷ us),
-          close_node v us,
+          node_at v (token.Mark mark.Close) us refl,
         )
     nodes_on (plain {w = w} {f = f} e) us =
-        omega (arith, word_node v w us, atom_nodes (plain_of w) f e)
+        omega (arith, node_at v (token.Word w) us refl, atom_nodes (plain_of w) f e)
     nodes_on (equal {w = w} {k = k} {f = f} e) us =
         omega (arith, equal_nodes v w k us, atom_nodes (equal_of w k) f e)
     nodes_on (compared op t {w = w} {digits = digits} {f = f} p e) us =
@@ -162,7 +129,7 @@ module _ (v : Version) where
           arith,
           ap (nodes_behind v false) (append_assoc ts (token.Mark mark.Comma ∷ vs) us),
           nodes_on d (token.Mark mark.Comma ∷ (vs ++ us)),
-          comma_node v (vs ++ us),
+          node_at v (token.Mark mark.Comma) (vs ++ us) refl,
           items_nodes_on e us,
         )
 
@@ -182,16 +149,13 @@ pub record IsWithin (g h : Graph) : Type 0 where
 
 -- a chain of edges is one in a larger graph
 chain_within : (g h : Graph) → IsWithin g h → (cs : List ℕ) → IsChain (HasEdge g) cs → IsChain (HasEdge h) cs
-chain_within g h w [] t = tt
-chain_within g h w (c ∷ []) t = tt
 chain_within g h w (c ∷ d ∷ cs) t = (w.edges c d t.0, chain_within g h w (d ∷ cs) t.1)
+chain_within g h w cs t = tt
 
 module _ (g h : Graph) (within : IsWithin g h) (c : ℕ) where
   mutual
     -- a formula of a graph is one of a larger graph
     pub grown_is_valid : (f : Formula) → IsFormulaAt g c f → IsFormulaAt h c f
-    grown_is_valid Truth t = tt
-    grown_is_valid Falsity t = tt
     grown_is_valid (Path cs) t = (t.0, chain_within g h within (c ∷ cs) t.1, t.2)
     grown_is_valid (Reach d) t = within.categories d t
     grown_is_valid (Via d e) t = (within.categories d t.0, within.categories e t.1)
@@ -204,6 +168,7 @@ module _ (g h : Graph) (within : IsWithin g h) (c : ℕ) where
     grown_is_valid (Iff f k) t = (grown_is_valid f t.0, grown_is_valid k t.1)
     grown_is_valid (Xor f k) t = (grown_is_valid f t.0, grown_is_valid k t.1)
     grown_is_valid (One ts) t = grown_are_valid ts t
+    grown_is_valid f t = tt
 
     grown_are_valid : (ts : Terms) → AreFormulasAt g c ts → AreFormulasAt h c ts
     grown_are_valid End t = tt

@@ -1,17 +1,12 @@
 -- Names that are known in a graph, and the paths through their categories.
 use Rattle.std.proofs.Common.{◌≡◌, ◌≢◌, ℕ, Bool, true, false, List, [], ◌∷◌, Option, Some, None, get_or, refl, arith, subst, inl, inr, is_some}
-use Rattle.std.specs.Prelude.{◌==◌, AllPairs, Contains}
-use Rattle.std.specs.List.{list_any}
-use Rattle.std.specs.Str.{bytes_eq}
-use Rattle.std.proofs.lemmas.Slice.Eq.{bytes_eq-Decides}
-use Rattle.olap_base.specs.Chains.{IsChain}
-use Rattle.olap_base.specs.Deciding.{contains_cases}
-use Rattle.olap_base.specs.Graph.{Graph, HasEdge, IsCategory}
-use Rattle.olap_base.proofs.ListLemmas.{AllPairs-from_Distinct, Contains-nil, Distinct}
-use Rattle.olap_graph.specs.Lookups.{category_named, edge_between, joins, names_of}
+use Rattle.std.{proofs.lemmas.Bool.{not-false, or_parts}, proofs.lemmas.Slice.Eq.bytes_eq-Decides, specs.List.list_any}
+use Rattle.std.specs.{Prelude.{◌==◌, AllPairs, Contains}, Str.bytes_eq}
+use Rattle.olap_base.{proofs.ListLemmas.{AllPairs-from_Distinct, Contains-nil, Distinct}, specs.Chains.IsChain}
+use Rattle.olap_base.specs.{Deciding.contains_cases, Graph.{Graph, HasEdge, IsCategory}}
 use Rattle.olap_graph.proofs.PlaceLemmas.{found, joins-Decides}
+use Rattle.olap_graph.specs.Lookups.{category_named, edge_between, joins, names_of}
 use Rattle.olap_schema_text.specs.Resolving.{is_repeated, lacks_edge}
-use Rattle.std.proofs.lemmas.Bool.{not-false, or_parts}
 
 -- ---- tests
 

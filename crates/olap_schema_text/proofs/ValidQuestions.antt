@@ -2,37 +2,21 @@
 --     asked_is_question       in the words of the code: it is one of the schema, and keeps the limits
 --     asked_has_texts         its constants are UTF-8 without control characters
 use Rattle.std.proofs.Common.{◌≡◌, ℕ, false, List, Option, Some, None, Result, Ok, Err, refl, sym, subst, arith}
-use Rattle.std.specs.Prelude.{IfOk}
-use Rattle.std.proofs.lemmas.Bool.{ltb-false}
-use Rattle.olap_ast.specs.Atoms.{equalities}
-use Rattle.olap_ast.specs.Formula.{Formula}
-use Rattle.olap_ast.specs.Schema.{Schema}
-use Rattle.olap_ast.specs.Trees.{formula_of}
+use Rattle.std.{proofs.lemmas.Bool.ltb-false, specs.Prelude.IfOk}
+use Rattle.olap_ast.specs.{Atoms.equalities, Constants.all_compared, Formula.Formula, Schema.Schema, Trees.formula_of}
 use Rattle.olap_ast.specs.Valid.{IsQuestion, constant_count}
-use Rattle.olap_ast.specs.declared.formulas.Formula as built
-use Rattle.olap_ast.specs.Constants.{all_compared}
-use Rattle.olap_base.specs.Graph.{IsDeclared}
-use Rattle.olap_base.specs.Limits.{most_constants}
+use Rattle.olap_base.specs.{Graph.IsDeclared, Limits.most_constants, declared.refusals.Refusal.Refusal}
 use Rattle.olap_graph.specs.Lookups.{name_of_category}
-use Rattle.olap_grammar.specs.CuttingMachine.{tokens_of}
-use Rattle.olap_grammar.specs.declared.tokens.Token.{Token}
-use Rattle.olap_grammar.specs.declared.tokens.Version.TheVariants as version
-use Rattle.olap_grammar.specs.Forms.{Form}
-use Rattle.olap_schema_text.specs.Resolving.{resolved}
-use Rattle.olap_schema_text.specs.Judging.{formula_read, question_read, has_too_many_constants}
-use Rattle.olap_schema_text.specs.Parts.{question_cut}
-use Rattle.olap_schema_text.specs.Laws.{ReadQuestionsAreValid}
-use Rattle.olap_schema.specs.Readable.{is_bad}
-use Rattle.olap_schema.specs.Readable.{AreTexts, IsReadable}
-use Rattle.olap_schema_text.specs.Reading.{ReadsFormula}
-use Rattle.olap_base.specs.declared.refusals.Refusal.{Refusal}
-use Rattle.olap_schema_text.specs.declared.kinds.SchemaKind.{SchemaKind}
+use Rattle.olap_grammar.specs.{CuttingMachine.tokens_of, Forms.Form, declared.tokens.Token.Token}
+use Rattle.olap_schema_text.proofs.{FoundWords.found_are_spelt, ResolvedLemmas.resolved_is_sound}
 use Rattle.olap_schema_text.proofs.StepLemmas.{IsRead, form_is_read, goes_on_ok, ok_is, passed_on}
-use Rattle.olap_schema_text.proofs.FoundWords.{found_are_spelt}
-use Rattle.olap_schema_text.proofs.ResolvedLemmas.{resolved_is_sound}
-use Rattle.olap_schema_text.proofs.ValidFormulas.{form_nodes}
-use Rattle.olap_schema_text.proofs.ValidSteps.{formed}
-use Rattle.olap_schema_text.proofs.ValidTexts.{line_is_fine}
+use Rattle.olap_schema_text.proofs.{ValidFormulas.form_nodes, ValidSteps.formed, ValidTexts.line_is_fine}
+use Rattle.olap_schema_text.specs.Judging.{formula_read, question_read, has_too_many_constants}
+use Rattle.olap_schema_text.specs.{Laws.ReadQuestionsAreValid, Parts.question_cut, Reading.ReadsFormula}
+use Rattle.olap_schema_text.specs.{Resolving.resolved, declared.kinds.SchemaKind.SchemaKind}
+use Rattle.olap_schema.specs.Readable.{is_bad, AreTexts, IsReadable}
+use Rattle.olap_ast.specs.declared.formulas.Formula as built
+use Rattle.olap_grammar.specs.declared.tokens.Version.TheVariants as version
 
 module _ (s : Schema) (readable : IsReadable s) (root : ℕ) (declared : IsDeclared s.graph root)
     (text : List ℕ) (clean : is_bad text ≡ false) (f : Formula)
@@ -47,15 +31,13 @@ module _ (s : Schema) (readable : IsReadable s) (root : ℕ) (declared : IsDecla
         → has_too_many_constants s.constraints f ≡ false → IsGood
     good ts e form checked at_root few =
         let read = formed version.Two 0 ts form checked.formed in
-        let fine = line_is_fine version.Two text ts clean e in
         let sound = resolved_is_sound s.graph root form f at_root
-        (found_are_spelt version.Two read.formed fine checked.short) in
-        let count = form_nodes version.Two read.formed in
+        (found_are_spelt version.Two read.formed (line_is_fine version.Two text ts clean e) checked.short) in
         let level = read.depth in (
           record {
             declared = declared;
             formula = sound.valid;
-            nodes_fit = omega (arith, sound.nodes, count, read.few);
+            nodes_fit = omega (arith, sound.nodes, form_nodes version.Two read.formed, read.few);
             depth_fits = rw sound.levels level;
             constants_fit = ltb-false most_constants (constant_count (all_compared s.constraints f)) few;
           },

@@ -1,22 +1,17 @@
 -- A schema that is read is valid, and its constants are text.
 use Rattle.std.proofs.Common.{◌≡◌, ℕ, zero, suc, Bool, true, false, not, cond, List, [], ◌∷◌, Option, Some, None, Ok, Err, length, refl, sym, arith, subst, inl, inr}
+use Rattle.std.{proofs.lemmas.Bool.not-false, specs.List.range_with_len}
 use Rattle.std.specs.Prelude.{Contains, find, flat_map, is_some, codes}
-use Rattle.std.specs.List.{range_with_len}
-use Rattle.olap_ast.specs.Atoms.{equalities}
-use Rattle.olap_ast.specs.Valid.{IsValidSchema}
-use Rattle.olap_base.specs.Deciding.{contains_cases}
+use Rattle.olap_ast.specs.{Atoms.equalities, Valid.IsValidSchema}
+use Rattle.olap_base.proofs.{GeneralLemmas.none_past, ListLemmas.{Contains-nil, Contains-range_at}}
+use Rattle.olap_base.specs.{Deciding.contains_cases, Graph.{CategoryReaches, Graph, IsCategory}}
 use Rattle.olap_base.specs.Reaching.{category_reaches, category_reaches_is}
-use Rattle.olap_base.specs.Graph.{CategoryReaches, Graph, IsCategory}
-use Rattle.olap_base.proofs.ListLemmas.{Contains-nil, Contains-range_at}
-use Rattle.olap_schema_text.specs.Judging.{Above, first_stuck, lines_on, nothing_above, schema_read, whole, Read, text_ended}
-use Rattle.olap_schema_text.specs.Laws.{GivesReadable, ReadSchemasAreReadable, ReadSchemasAreValid}
-use Rattle.olap_schema.specs.Readable.{AreTexts, IsReadable}
-use Rattle.olap_schema_text.specs.Lines.{lines_of}
 use Rattle.olap_schema_text.proofs.StepLemmas.{Step, Step.quiet, Step.version, Step.category, Step.edge, Step.constraint, all_steps, ok_is}
-use Rattle.olap_schema_text.proofs.ValidTexts.{all_texts}
 use Rattle.olap_schema_text.proofs.ValidSteps.{IsSoundSoFar, category_kept, constraint_kept, edge_kept}
-use Rattle.std.proofs.lemmas.Bool.{not-false}
-use Rattle.olap_base.proofs.GeneralLemmas.{none_past}
+use Rattle.olap_schema_text.proofs.ValidTexts.{all_texts}
+use Rattle.olap_schema_text.specs.Judging.{Above, first_stuck, lines_on, nothing_above, schema_read, whole, Read, text_ended}
+use Rattle.olap_schema_text.specs.{Laws.{GivesReadable, ReadSchemasAreReadable, ReadSchemasAreValid}, Lines.lines_of}
+use Rattle.olap_schema.specs.Readable.{AreTexts, IsReadable}
 
 -- ---- all lines
 

@@ -1,39 +1,27 @@
 -- A line without a fault keeps what holds of what the lines above it say.
 use Rattle.std.proofs.Common.{◌≡◌, ◌≢◌, ◌+◌, ◌<◌, ◌≤◌, ℕ, zero, suc, Bool, true, false, List, [], ◌∷◌, ◌++◌, Option, Some, None, Ok, length, is_some, refl, sym, ◌∙◌, arith, subst, inl, inr}
-use Rattle.std.specs.Prelude.{Contains, flat_map, nat_lt, sum_by}
-use Rattle.std.proofs.lemmas.Bool.{eqb-false, leb-false, ltb-false}
-use Rattle.std.proofs.lemmas.List.{get_or_append_left, length_push}
+use Rattle.std.proofs.lemmas.{Bool.{eqb-false, leb-false, ltb-false}, List.{get_or_append_left, length_push}}
 use Rattle.std.proofs.lemmas.List.Elements.{Contains-append_left, Contains-push_cases}
 use Rattle.std.proofs.lemmas.List.Sums.{sum_by-append, sum_by-cons}
-use Rattle.olap_ast.specs.Atoms.{equalities}
-use Rattle.olap_ast.specs.Formula.{Formula, compared}
-use Rattle.olap_ast.specs.Schema.{Constraint}
+use Rattle.std.specs.Prelude.{Contains, flat_map, nat_lt, sum_by}
+use Rattle.olap_ast.specs.{Atoms.equalities, Constants.all_compared, Formula.{Formula, compared}, Schema.Constraint}
 use Rattle.olap_ast.specs.Valid.{IsFormulaAt, depth_of, node_count, constant_count}
-use Rattle.olap_ast.specs.Constants.{all_compared}
-use Rattle.olap_schema_text.proofs.CountedLemmas.{one_behind}
-use Rattle.olap_base.specs.Reaching.{is_category_name, is_category_name_is}
+use Rattle.olap_schema_text.proofs.{CountedLemmas.one_behind, FormLemmas.{few_alone, few_in_all}}
+use Rattle.olap_schema_text.proofs.{FoundWords.found_are_spelt, ResolvedLemmas.resolved_is_sound}
+use Rattle.olap_schema_text.proofs.StepLemmas.{AddsCategory, AddsConstraint, AddsEdge, given_ok, ok_is, passed_on}
+use Rattle.olap_schema_text.proofs.{ValidFormulas.{IsWithin, form_nodes, grown_is_valid}, ValidNames.name_at}
+use Rattle.olap_schema_text.specs.Judging.{Above, form_read}
+use Rattle.olap_base.proofs.GeneralLemmas.{none_past}
 use Rattle.olap_base.specs.Graph.{Graph, IsCategory, IsDeclared, category_count, is_number}
 use Rattle.olap_base.specs.Limits.{most_categories, most_constants, most_constraints, most_depth, most_edges, most_nodes, most_schema_nodes, most_text_bytes}
+use Rattle.olap_base.specs.Reaching.{is_category_name, is_category_name_is}
+use Rattle.olap_graph.proofs.GrowthLemmas.{limits-with_category, limits-with_edge, unfinished-with_category, unfinished-with_edge}
 use Rattle.olap_graph.specs.Building.{IsUnfinished, IsWithinLimits, category_refusal, edge_refusal, with_edge, with_kind}
 use Rattle.olap_graph.specs.Lookups.{category_named, edge_between}
-use Rattle.olap_graph.proofs.GrowthLemmas.{limits-with_category, limits-with_edge, unfinished-with_category, unfinished-with_edge}
-use Rattle.olap_grammar.specs.Forms.{Form, depth_of as levels_of}
-use Rattle.olap_grammar.specs.Grammar.{IsFormula}
-use Rattle.olap_grammar.specs.Machine.{the_formula}
-use Rattle.olap_grammar.specs.Nodes.{nodes_of}
-use Rattle.olap_grammar.specs.Words.{atoms_of}
-use Rattle.olap_grammar.specs.declared.tokens.Token.{Token}
-use Rattle.olap_grammar.specs.declared.tokens.Version.{Version}
-use Rattle.olap_grammar.proofs.ReaderLemmas.{found_is_formula}
-use Rattle.olap_schema_text.specs.Judging.{Above, form_read}
+use Rattle.olap_grammar.{proofs.ReaderLemmas.found_is_formula, specs.Forms.{Form, depth_of as levels_of}}
+use Rattle.olap_grammar.specs.{Grammar.IsFormula, Machine.the_formula, Nodes.nodes_of, Words.atoms_of}
+use Rattle.olap_grammar.specs.declared.tokens.{Token.Token, Version.Version}
 use Rattle.olap_schema.specs.Readable.{AreTexts}
-use Rattle.olap_schema_text.proofs.StepLemmas.{AddsCategory, AddsConstraint, AddsEdge, given_ok, ok_is, passed_on}
-use Rattle.olap_schema_text.proofs.FormLemmas.{few_alone, few_in_all}
-use Rattle.olap_schema_text.proofs.FoundWords.{found_are_spelt}
-use Rattle.olap_schema_text.proofs.ResolvedLemmas.{resolved_is_sound}
-use Rattle.olap_schema_text.proofs.ValidFormulas.{IsWithin, form_nodes, grown_is_valid}
-use Rattle.olap_schema_text.proofs.ValidNames.{name_at}
-use Rattle.olap_base.proofs.GeneralLemmas.{none_past}
 
 -- what holds of one constraint
 pub record IsSoundConstraint (g : Graph) (c : Constraint) : Type 0 where
@@ -196,8 +184,7 @@ pub formed : (v : Version) (before : ℕ) (ts : List Token) (f : Form) → form_
 unfolding form_read
 formed v before ts f h =
     let many = passed_on _ _ _ _ h in
-    let deep = passed_on _ _ _ _ many.1 in
-    let t = given_ok (the_formula (atoms_of v) ts) _ _ f deep.1 in
+    let t = given_ok (the_formula (atoms_of v) ts) _ _ f (passed_on _ _ _ _ many.1).1 in
     let u = passed_on (nat_lt most_depth (levels_of t.0)) _ _ f t.2 in
     let same : f ≡ t.0 = ok_is _ _ u.1 in
     record {
@@ -235,12 +222,11 @@ constraint_kept a b v name ts f root s p =
     let good = resolved_is_sound a.graph root s.form f s.at_root
     (found_are_spelt v read.formed s.fine s.short) in
     let counted = form_nodes v read.formed in
-    let level = read.depth in
     let sound : IsSoundConstraint a.graph (record { root = root; formula = f }) = record {
       declared = (eqb-false root 0 s.below_all, (name_at a.graph name root s.root_is).0);
       formula = good.valid;
       nodes = omega (arith, good.nodes, counted, read.few);
-      depth = rw good.levels level;
+      depth = rw good.levels read.depth;
       texts = good.texts;
     } in
     subst IsSoundSoFar (sym s.new) (record {

@@ -1,31 +1,21 @@
 -- The constants of a line that is UTF-8 without control characters are so too.
-use Rattle.std.proofs.Common.{◌≡◌, ◌<◌, ◌≤◌, ℕ, zero, suc, true, false, List, [], ◌∷◌, ◌++◌, Some, length, get_or, drop, append_assoc, refl, sym, arith, subst, inl, inr}
-use Rattle.std.specs.Prelude.{◌==◌, ◌||◌, Contains, flat_map}
-use Rattle.std.specs.Char.{is_ascii_alphanumeric, is_ascii_digit}
-use Rattle.std.specs.Int.{is_in_range}
-use Rattle.std.specs.List.{list_any}
-use Rattle.std.specs.Str.{IsUtf8}
-use Rattle.std.proofs.lemmas.Bool.{eqb-true, leb-true, and_parts, or_parts, or_cases}
-use Rattle.std.proofs.lemmas.List.{drop_at, take_at}
-use Rattle.std.proofs.lemmas.List.Concat.{flat_map-cons}
-use Rattle.std.proofs.lemmas.List.Elements.{Contains-append_cases}
+use Rattle.std.proofs.Common.{◌≡◌, ◌<◌, ◌≤◌, ℕ, zero, suc, true, false, List, [], ◌∷◌, ◌++◌, Some, length, get_or, drop, append_assoc, nat_lt, refl, sym, arith, subst, inl, inr}
+use Rattle.std.proofs.lemmas.Bool.{eqb-true, leb-true, ltb-true, and_parts, or_parts, or_cases}
+use Rattle.std.proofs.lemmas.List.{drop_at, take_at, Concat.flat_map-cons, Elements.Contains-append_cases}
 use Rattle.std.proofs.lemmas.Str.{IsCharBoundary-after_ascii, IsCharBoundary-before_ascii, IsUtf8-append, IsUtf8-drop, IsUtf8-take}
-use Rattle.olap_ast.specs.Atoms.{Equality, equalities}
-use Rattle.olap_ast.specs.Schema.{Constraint}
-use Rattle.olap_base.specs.Deciding.{contains_cases, contains_cons}
-use Rattle.olap_base.proofs.ListLemmas.{Contains-nil, contains_head}
-use Rattle.olap_grammar.specs.Cutting.{AreWordBytes, IsCut, IsCut.end, IsCut.blank, IsCut.tabbed, IsCut.word, IsCut.quoted, IsCut.signed, IsCut.marked, Spells, Spells.nothing, Spells.quote, Spells.slash, Spells.other, is_word_byte, joint_bytes, mark_bytes}
-use Rattle.olap_grammar.specs.CuttingMachine.{tokens_of}
-use Rattle.olap_grammar.specs.declared.tokens.Joint.{Joint}
-use Rattle.olap_grammar.specs.declared.tokens.Joint.TheVariants as joint
-use Rattle.olap_grammar.specs.declared.tokens.Token.{Token}
-use Rattle.olap_grammar.specs.declared.tokens.Token.TheVariants as token
-use Rattle.olap_grammar.specs.declared.tokens.Mark.{Mark}
-use Rattle.olap_grammar.specs.declared.tokens.Mark.TheVariants as mark
-use Rattle.olap_grammar.specs.declared.tokens.Version.{Version}
+use Rattle.std.specs.{Char.{is_ascii_alphanumeric, is_ascii_digit}, Int.is_in_range, List.{list_all, list_any}}
+use Rattle.std.specs.{Prelude.{◌==◌, ◌||◌, Contains, flat_map}, Str.IsUtf8}
+use Rattle.olap_ast.specs.{Atoms.{Equality, equalities}, Schema.Constraint}
+use Rattle.olap_base.{proofs.ListLemmas.{Contains-nil, contains_head}, specs.Deciding.{contains_cases, contains_cons}}
 use Rattle.olap_grammar.proofs.CutSound.{found_is_cut}
+use Rattle.olap_grammar.specs.Cutting.{AreWordBytes, IsCut, IsCut.end, IsCut.blank, IsCut.tabbed, IsCut.word, IsCut.quoted, IsCut.signed, IsCut.marked, Spells, Spells.nothing, Spells.quote, Spells.slash, Spells.other, is_word_byte, mark_bytes}
+use Rattle.olap_grammar.specs.{CuttingMachine.tokens_of, declared.tokens.Mark.Mark, declared.tokens.Token.Token}
+use Rattle.olap_grammar.specs.declared.tokens.Version.{Version}
 use Rattle.olap_schema.specs.Readable.{AreTexts, is_bad, is_control}
 use Rattle.olap_schema_text.proofs.BackBytes.{IsPlain, from_not_bad, not_bad}
+use Rattle.olap_grammar.specs.declared.tokens.Joint.TheVariants as joint
+use Rattle.olap_grammar.specs.declared.tokens.Token.TheVariants as token
+use Rattle.olap_grammar.specs.declared.tokens.Mark.TheVariants as mark
 
 -- ---- cutting a text at ASCII bytes
 
@@ -163,41 +153,15 @@ word_ascii : (w : List ℕ) → AreWordBytes w → AreAscii w
 word_ascii [] h = tt
 word_ascii (b ∷ w) h = (word_byte b h.0, word_ascii w h.1)
 
--- a connective
-joint_ascii : (j : Joint) → AreAscii (joint_bytes j)
-joint_ascii joint.Iff = (omega arith, (omega arith, (omega arith, tt)))
-joint_ascii joint.Implies = (omega arith, (omega arith, tt))
-joint_ascii joint.Xor = (omega arith, tt)
-joint_ascii joint.Or = (omega arith, tt)
-joint_ascii joint.And = (omega arith, tt)
+-- the bytes of a mark are
+mark_ascii : (m : Mark) → list_all (λ b. nat_lt b 128) (mark_bytes m) ≡ true
+mark_ascii (mark.Joint joint.Iff) = refl
+mark_ascii m = refl
 
--- a mark
-mark_ascii : (m : Mark) → AreAscii (mark_bytes m)
-mark_ascii mark.Open = (omega arith, tt)
-mark_ascii mark.Close = (omega arith, tt)
-mark_ascii mark.Comma = (omega arith, tt)
-mark_ascii mark.Colon = (omega arith, tt)
-mark_ascii mark.Equal = (omega arith, tt)
-mark_ascii mark.Less = (omega arith, tt)
-mark_ascii mark.AtMost = (omega arith, (omega arith, tt))
-mark_ascii mark.Not = (omega arith, tt)
-mark_ascii (mark.Joint j) = joint_ascii j
-
--- a word is no string
-no_quote : (w : List ℕ) (k : List ℕ) → token.Word w ≡ token.Quoted k → ⊥
-no_quote w k e = absurd (cc)
-
--- nor is a number
-no_number : (w : List ℕ) (k : List ℕ) → token.Signed w ≡ token.Quoted k → ⊥
-no_number w k e = absurd (cc)
-
--- nor a mark
-no_string : (m : Mark) (k : List ℕ) → token.Mark m ≡ token.Quoted k → ⊥
-no_string m k e = absurd (cc)
-
--- strings that are equal have one text
-same_string : (j k : List ℕ) → token.Quoted j ≡ token.Quoted k → j ≡ k
-same_string j k e = cc
+-- by a test
+tested_ascii : (bs : List ℕ) → list_all (λ b. nat_lt b 128) bs ≡ true → AreAscii bs
+tested_ascii [] h = tt
+tested_ascii (b ∷ bs) h = let t = and_parts _ _ h in (ltb-true b 128 t.0, tested_ascii bs t.1)
 
 -- so the tokens of a plain line are fine
 cut_is_fine : {v : Version} {line : List ℕ} {ts : List Token} → IsCut v line ts → IsPlain line → AreFine ts
@@ -205,17 +169,16 @@ cut_is_fine end p = tt
 cut_is_fine (blank {bs = bs} d) p = cut_is_fine d (past_ascii 32 bs (omega arith) p)
 cut_is_fine (tabbed {bs = bs} d) p = cut_is_fine d (past_ascii 9 bs (omega arith) p)
 cut_is_fine (word b w {bs = bs} h e d) p =
-    (λ k q. absurd (no_quote (b ∷ w) k q), cut_is_fine d (past_all (b ∷ w) bs (word_ascii (b ∷ w) h) p))
+    (λ k q. absurd (cc), cut_is_fine d (past_all (b ∷ w) bs (word_ascii (b ∷ w) h) p))
 cut_is_fine (quoted {body = body} {k = k} {bs = bs} s d) p =
-    let inner = past_ascii 34 (body ++ 34 ∷ bs) (omega arith) p in
-    let t = cut_plain body 34 bs (omega arith) inner in
+    let t = cut_plain body 34 bs (omega arith) (past_ascii 34 (body ++ 34 ∷ bs) (omega arith) p) in
     let text : IsPlain k = record { utf8 = spelt s [] t.0.utf8; plain = spelt_controls s t.0.plain } in
-    (λ j q. subst IsPlain (same_string k j q) text, cut_is_fine d (past_ascii 34 bs (omega arith) t.1))
+    (λ j q. let e : k ≡ j = cc in subst IsPlain e text, cut_is_fine d (past_ascii 34 bs (omega arith) t.1))
 cut_is_fine (signed b w {bs = bs} two digit h e d) p =
     let ascii : AreAscii (45 ∷ b ∷ w) = (omega arith, (digit_byte b digit, word_ascii w h)) in
-    (λ k q. absurd (no_number (45 ∷ b ∷ w) k q), cut_is_fine d (past_all (45 ∷ b ∷ w) bs ascii p))
+    (λ k q. absurd (cc), cut_is_fine d (past_all (45 ∷ b ∷ w) bs ascii p))
 cut_is_fine (marked m {bs = bs} known ends d) p =
-    (λ k q. absurd (no_string m k q), cut_is_fine d (past_all (mark_bytes m) bs (mark_ascii m) p))
+    (λ k q. absurd (cc), cut_is_fine d (past_all (mark_bytes m) bs (tested_ascii (mark_bytes m) (mark_ascii m)) p))
 
 -- the tokens of such a line
 pub line_is_fine : (v : Version) (line : List ℕ) (ts : List Token) → is_bad line ≡ false → tokens_of v line ≡ Some ts

@@ -2,12 +2,11 @@
 use Rattle.std.proofs.Common.{◌≡◌, ℕ, map, refl}
 use Rattle.olap_base.specs.Graph.{Graph}
 use Rattle.olap_graph.specs.Lookups.{name_of_category}
-use Rattle.olap_ast.specs.Formula as Meaning
-use Rattle.olap_ast.specs.Formula.{Formula, Terms}
-use Rattle.olap_ast.specs.Valid.{depth_of, depth_of_terms}
+use Rattle.olap_ast.specs.{Formula.{Formula, Terms}, Valid.{depth_of, depth_of_terms}}
 use Rattle.olap_numerals.specs.Numerals.{canonical}
-use Rattle.olap_grammar.specs.Forms as words
 use Rattle.olap_grammar.specs.Forms.{Form, Forms, depth_of as levels_of, depth_of_all as levels_of_all}
+use Rattle.olap_ast.specs.Formula as Meaning
+use Rattle.olap_grammar.specs.Forms as words
 use Rattle.olap_grammar.specs.declared.tokens.Joint.TheVariants as joint
 
 abbrev mutual
@@ -42,13 +41,6 @@ module _ (g : Graph) (r : ℕ) where
   mutual
     -- it has as many levels
     pub written_depth : (f : Formula) → levels_of (written g r f) ≡ depth_of f
-    written_depth Meaning.Formula.Truth = refl
-    written_depth Meaning.Formula.Falsity = refl
-    written_depth (Meaning.Formula.Path cs) = refl
-    written_depth (Meaning.Formula.Reach d) = refl
-    written_depth (Meaning.Formula.Via d e) = refl
-    written_depth (Meaning.Formula.Equals d k) = refl
-    written_depth (Meaning.Formula.Compare d op n) = refl
     written_depth (Meaning.Formula.Not f) = rw (written_depth f) refl
     written_depth (Meaning.Formula.And f h) = rw (written_depth f, written_depth h) refl
     written_depth (Meaning.Formula.Or f h) = rw (written_depth f, written_depth h) refl
@@ -56,6 +48,7 @@ module _ (g : Graph) (r : ℕ) where
     written_depth (Meaning.Formula.Iff f h) = rw (written_depth f, written_depth h) refl
     written_depth (Meaning.Formula.Xor f h) = rw (written_depth f, written_depth h) refl
     written_depth (Meaning.Formula.One fs) = rw (all_depth fs) refl
+    written_depth f = refl
 
     all_depth : (fs : Terms) → levels_of_all (all_written g r fs) ≡ depth_of_terms fs
     all_depth Meaning.Terms.End = refl

@@ -1,16 +1,11 @@
 -- What is found of the frozen dimensions of a root, or isn't, in all legal instances.
-use Rattle.std.proofs.Common.{ℕ, refl, ◌↔◌}
-use Rattle.std.specs.Prelude.{Option, Some, None, Result, Ok, Err, IfOk, IfSome, IsNone}
+use Rattle.std.{proofs.Common.{ℕ, refl, ◌↔◌}, specs.Prelude.{Option, Some, None, Result, Ok, Err, IfOk, IfSome, IsNone}}
 use Rattle.olap_base.specs.Graph.{IsHierarchy}
-use Rattle.olap_ast.specs.Formula.{Formula}
-use Rattle.olap_ast.specs.Schema.{Schema}
-use Rattle.olap_dimsat.specs.Finding.{HasNone, IsFoundAs}
-use Rattle.olap_dimsat.specs.OneFound.{IsOneFound}
-use Rattle.olap_dimsat.specs.declared.finding.Wanted.{Wanted}
-use Rattle.olap_dimsat.specs.declared.finding.Wanted.TheVariants as wanted
+use Rattle.olap_ast.specs.{Formula.Formula, Schema.Schema}
+use Rattle.olap_dimsat.specs.{Finding.{HasNone, IsFoundAs}, OneFound.IsOneFound, declared.finding.Wanted.Wanted}
 use Rattle.olap_frozen.specs.declared.founding.Found.{Found}
-use Rattle.olap_summ.proofs.NowhereLemmas.{none_is, nowhere, one_of, some_is, somewhere}
-use Rattle.olap_summ.specs.Answers.{IsNowhere}
+use Rattle.olap_summ.{proofs.NowhereLemmas.{none_is, nowhere, one_of, some_is, somewhere}, specs.Answers.IsNowhere}
+use Rattle.olap_dimsat.specs.declared.finding.Wanted.TheVariants as wanted
 
 -- what was found as it was wanted is one
 pub found_is_one : (w : Wanted) (s : Schema) (q : Formula) (r : ℕ) (found : Found) → IsFoundAs w s q r found

@@ -1,24 +1,15 @@
 -- What the first bottom category with a frozen dimension says of summarizability.
-use Rattle.std.proofs.Common.{◌≡◌, ℕ, ◌<◌, List, refl, sym, subst, Option, Some, None}
-use Rattle.std.specs.Prelude.{IfSome, IsSome}
+use Rattle.std.{proofs.Common.{◌≡◌, ℕ, ◌<◌, List, refl, sym, subst, Option, Some, None}, specs.Prelude.{IfSome, IsSome}}
 use Rattle.olap_base.specs.Graph.{IsBottom, IsHierarchy}
-use Rattle.olap_ast.specs.Formula.{Formula}
-use Rattle.olap_ast.specs.Constants.{HasKinds}
-use Rattle.olap_ast.specs.Frozen.{CandidatesExist}
-use Rattle.olap_ast.specs.Schema.{Schema}
+use Rattle.olap_ast.{proofs.SmallModel.frozen_exactly, proofs.Summing.summarizable_exactly, specs.Constants.HasKinds}
+use Rattle.olap_ast.specs.{Formula.Formula, Frozen.CandidatesExist, Schema.Schema}
 use Rattle.olap_ast.specs.Summarizable.{IsSummarizable, not_by_one}
-use Rattle.olap_ast.proofs.SmallModel.{frozen_exactly}
-use Rattle.olap_ast.proofs.Summing.{summarizable_exactly}
-use Rattle.olap_dimsat.specs.Finding.{IsFoundAs}
-use Rattle.olap_dimsat.specs.declared.finding.Wanted.{Wanted}
-use Rattle.olap_dimsat.specs.declared.finding.Wanted.TheVariants as wanted
-use Rattle.olap_frozen.specs.declared.founding.Found.{Found}
-use Rattle.olap_frozen.specs.LeastFound.{frozen_of}
+use Rattle.olap_dimsat.specs.{Finding.IsFoundAs, declared.finding.Wanted.Wanted}
+use Rattle.olap_frozen.specs.{LeastFound.frozen_of, declared.founding.Found.Found}
 use Rattle.olap_names.specs.Names.{candidates_of}
-use Rattle.olap_summ.specs.Answers.{IsNowhere}
-use Rattle.olap_summ.specs.Asking.{IsFirstFound}
+use Rattle.olap_summ.{proofs.AskingLemmas.found_is_one, specs.Answers.IsNowhere, specs.Asking.IsFirstFound}
 use Rattle.olap_summ.specs.Counterexamples.{IsCounterexampleFound, IsOneCounterexampleFound}
-use Rattle.olap_summ.proofs.AskingLemmas.{found_is_one}
+use Rattle.olap_dimsat.specs.declared.finding.Wanted.TheVariants as wanted
 
 -- ---- the answer
 

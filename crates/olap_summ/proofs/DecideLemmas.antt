@@ -1,24 +1,15 @@
 -- A decision, as its searches are asked in turn.
-use Rattle.std.proofs.Common.{◌≡◌, ◌<◌, ◌+◌, ℕ, List, length, get_or, refl, sym, ◌∙◌}
-use Rattle.std.specs.Prelude.{slice_set}
-use Rattle.std.specs.Vec.{with_items}
-use Rattle.std.proofs.lemmas.List.{length-set}
-use Rattle.olap_ast.specs.Questions.{NoneFrozen}
-use Rattle.olap_ast.specs.Schema.{Schema}
-use Rattle.olap_ast.specs.Summarizable.{IsSummarizable}
-use Rattle.olap_ast.specs.Valid.{IsValidSchema}
-use Rattle.olap_dimsat.specs.declared.searching.Search.{Search}
-use Rattle.olap_dimsat.specs.declared.finding.Wanted.TheVariants as wanted
+use Rattle.std.proofs.{Common.{◌≡◌, ◌<◌, ◌+◌, ℕ, List, length, get_or, refl, sym, ◌∙◌}, lemmas.List.length-set}
+use Rattle.std.specs.{Prelude.slice_set, Vec.with_items}
+use Rattle.olap_ast.specs.{Questions.NoneFrozen, Schema.Schema, Summarizable.IsSummarizable, Valid.IsValidSchema}
 use Rattle.olap_dimsat.specs.Searches.{IsMadeWith, candidates_in, found_in, named_in, root_of}
-use Rattle.olap_frozen.specs.declared.frozen.Frozen.{Frozen}
-use Rattle.olap_frozen.specs.LeastFound.{IsLeastFound}
-use Rattle.olap_summ.specs.Asking.{IsFirstFound}
-use Rattle.olap_summ.specs.Counterexamples.{IsCounterexampleFound}
-use Rattle.olap_summ.specs.Decisions.{HasSizesOf, IsDecisionOf, asked_by, candidates_at, found_at, sources_of, target_of}
-use Rattle.olap_summ.specs.declared.deciding.Asked.{Asked}
-use Rattle.olap_summ.specs.declared.deciding.Decision.{Decision}
-use Rattle.olap_summ.specs.declared.questioning.Questions.{Questions}
+use Rattle.olap_dimsat.specs.declared.searching.Search.{Search}
+use Rattle.olap_frozen.specs.{LeastFound.IsLeastFound, declared.frozen.Frozen.Frozen}
 use Rattle.olap_summ.proofs.DecisionLemmas.{AreThose, NoneAmong, answer_is_no, decision_kept, found_here, none_more, one_asked, shows_no, those_back}
+use Rattle.olap_summ.specs.{Asking.IsFirstFound, Counterexamples.IsCounterexampleFound}
+use Rattle.olap_summ.specs.Decisions.{HasSizesOf, IsDecisionOf, asked_by, candidates_at, found_at, sources_of, target_of}
+use Rattle.olap_summ.specs.declared.{deciding.Asked.Asked, deciding.Decision.Decision, questioning.Questions.Questions}
+use Rattle.olap_dimsat.specs.declared.finding.Wanted.TheVariants as wanted
 
 -- the decision with these searches
 abbrev pub with_searches : Decision → List Asked → Decision

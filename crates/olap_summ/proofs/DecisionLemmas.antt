@@ -1,40 +1,26 @@
 -- The searches of a decision: as they are made, asked and given up.
 -- `all_made`
 use Rattle.std.proofs.Common.{◌≡◌, ◌==◌, ◌<◌, ◌≤◌, ◌+◌, ◌↔◌, ◌⊎◌, ◌∷◌, ◌++◌, ◌∙◌, ℕ, zero, suc, List, [], length, get_or, take, drop, if◌then◌else◌, inl, inr, refl, ap, sym, subst, eq-eqb, arith}
-use Rattle.std.specs.Prelude.{All, AllPairs, Contains, slice_index, slice_set}
-use Rattle.std.proofs.lemmas.Bool.{ne_eqb}
+use Rattle.std.proofs.{Math.Seq.{map-set_same, take-append_seam}, lemmas.Bool.ne_eqb}
 use Rattle.std.proofs.lemmas.List.{get_or-map, get_or_default, length-map, map-append}
 use Rattle.std.proofs.lemmas.List.Elements.{All-push, All-set, Contains-append_left, Contains-get_or, Contains-push, Contains-push_cases}
 use Rattle.std.proofs.lemmas.List.Quantifiers.{all_pairs_push}
-use Rattle.std.proofs.Math.Seq.{map-set_same, take-append_seam}
-use Rattle.olap_base.specs.Graph.{IsBottom, category_count}
+use Rattle.std.specs.Prelude.{All, AllPairs, Contains, slice_index, slice_set}
+use Rattle.olap_base.{proofs.GeneralLemmas.less_equal_greater, specs.Graph.{IsBottom, category_count}}
 use Rattle.olap_base.specs.Limits.{most_constants}
-use Rattle.olap_ast.specs.Atoms.{all_comparisons, all_equalities}
-use Rattle.olap_ast.specs.Pairs.{pair_count}
-use Rattle.olap_ast.specs.Formula.{Formula}
-use Rattle.olap_ast.specs.Frozen.{CandidatesExist}
-use Rattle.olap_ast.specs.Questions.{NoneFrozen}
-use Rattle.olap_ast.specs.Schema.{Schema}
-use Rattle.olap_ast.specs.Summarizable.{IsSummarizable}
+use Rattle.olap_ast.proofs.SourceLemmas.{question_at, question_few, question_kinds, until}
+use Rattle.olap_ast.specs.{Atoms.{all_comparisons, all_equalities}, Formula.Formula, Frozen.CandidatesExist}
+use Rattle.olap_ast.specs.{Pairs.pair_count, Questions.NoneFrozen, Schema.Schema, Summarizable.IsSummarizable}
 use Rattle.olap_ast.specs.Valid.{IsFormulaAt, IsValidSchema}
-use Rattle.olap_dimsat.specs.declared.searching.Search.{Search}
-use Rattle.olap_dimsat.specs.declared.finding.Wanted.TheVariants as wanted
 use Rattle.olap_dimsat.specs.Searches.{IsMadeWith, IsSizedFor, candidates_in, found_in, named_in, root_of}
-use Rattle.olap_frozen.specs.declared.founding.Found.{Found}
-use Rattle.olap_frozen.specs.declared.frozen.Frozen.{Frozen}
-use Rattle.olap_frozen.specs.LeastFound.{IsLeastFound}
-use Rattle.olap_names.specs.Names.{Named}
-use Rattle.olap_summ.specs.Answers.{IsNowhere}
-use Rattle.olap_summ.specs.Asking.{IsFirstFound}
+use Rattle.olap_dimsat.specs.declared.searching.Search.{Search}
+use Rattle.olap_frozen.specs.{LeastFound.IsLeastFound, declared.founding.Found.Found, declared.frozen.Frozen.Frozen}
+use Rattle.olap_summ.proofs.CounterexampleLemmas.{counterexample_is, summarizable_is, summarizable_isnt}
+use Rattle.olap_summ.{proofs.NowhereLemmas.nowhere, specs.Answers.IsNowhere, specs.Asking.IsFirstFound}
 use Rattle.olap_summ.specs.Counterexamples.{IsCounterexampleFound}
 use Rattle.olap_summ.specs.Decisions.{AreQuestionsFor, HasSizesOf, IsAskedOf, IsDecisionOf, asked_by, names_among, roots_in, roots_of, sources_of, target_of}
-use Rattle.olap_summ.specs.declared.deciding.Asked.{Asked}
-use Rattle.olap_summ.specs.declared.deciding.Decision.{Decision}
-use Rattle.olap_summ.specs.declared.questioning.Questions.{Questions}
-use Rattle.olap_ast.proofs.SourceLemmas.{question_at, question_few, question_kinds, until}
-use Rattle.olap_summ.proofs.CounterexampleLemmas.{counterexample_is, summarizable_is, summarizable_isnt}
-use Rattle.olap_summ.proofs.NowhereLemmas.{nowhere}
-use Rattle.olap_base.proofs.GeneralLemmas.{less_equal_greater}
+use Rattle.olap_summ.specs.declared.{deciding.Asked.Asked, deciding.Decision.Decision, questioning.Questions.Questions}
+use Rattle.olap_dimsat.specs.declared.finding.Wanted.TheVariants as wanted
 
 -- ---- roots and names
 
@@ -61,9 +47,7 @@ own_names xs k d h o =
     first_names xs k (get_or xs k d).root.0 d h
     (λ j l q.
     let m = length-map xs (λ (a : Asked). a.root.0) in
-    let below = o j k 0 l (omega arith) in
-    let same = root_at xs k d h in
-    omega (arith, below, same, q))
+    omega (arith, o j k 0 l (omega arith), root_at xs k d h, q))
     refl
 
 -- a search of this root stands at the place or after it
@@ -141,9 +125,7 @@ all_made s q n xs m e b = (
 
 -- the question is a formula of the graph at each bottom category
 pub asked_at : (s : Schema) (q : Questions) (b : ℕ) → AreQuestionsFor s q → IsFormulaAt s.graph b (asked_by q)
-asked_at s q b is =
-    subst (IsFormulaAt s.graph b) (sym is.asked)
-    (question_at s.graph b (target_of q) (sources_of q) is.target is.sources)
+asked_at s q b is = rw is.asked (question_at s.graph b (target_of q) (sources_of q) is.target is.sources)
 
 -- it has no constants of its own, so the schema's limit is kept
 pub asked_few : (s : Schema) (q : Questions) → IsValidSchema s → AreQuestionsFor s q
@@ -187,8 +169,7 @@ one_asked s q old xs k d search t h made root names = record {
 pub those_back : (s : Schema) (q : Formula) (old xs : List Asked) (n : ℕ) → length xs ≡ n → AreThose s q old xs
     → AreThose s q old (take n (xs ++ drop (length xs) old))
 those_back s q old xs n e t =
-    subst (AreThose s q old) (sym (ap (λ m. take m (xs ++ drop (length xs) old)) (sym e)
-    ∙ take-append_seam xs (drop (length xs) old))) t
+    rw (ap (λ m. take m (xs ++ drop (length xs) old)) (sym e) ∙ take-append_seam xs (drop (length xs) old)) t
 
 -- the decision with these searches
 pub decision_kept : (s : Schema) (q : Questions) (old new : Decision) → IsDecisionOf s q old
@@ -274,9 +255,7 @@ pub found_here : (s : Schema) (q : Questions) (old : Decision) (xs new : List As
     → IsFirstFound wanted.Least s (asked_by q) (record { frozen = f; candidates = names_among new f.root.0 })
 found_here s q old xs new k d f is t h none l u = record {
   bottom = subst (IsBottom s.graph) (sym root) (place_has_bottom s q old k is inside);
-  found_as = subst (λ (m : Named). IsLeastFound s (asked_by q) f.root.0 (record { frozen = f; candidates = m }))
-      (sym named)
-      (subst (λ r. IsLeastFound s (asked_by q) r (found_in (get_or xs k d).search f)) (sym l.root) l);
+  found_as = rw named (subst (λ r. IsLeastFound s (asked_by q) r (found_in (get_or xs k d).search f)) (sym l.root) l);
   first = λ b less. before_place s q old k is inside none b (subst (λ r. b < r) root less);
 }
   where

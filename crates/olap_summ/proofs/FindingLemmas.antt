@@ -1,6 +1,5 @@
 -- The findings so far, and one more.
 use Rattle.std.proofs.Common.{◌≡◌, ℕ, zero, suc, ◌+◌, ◌<◌, ◌≤◌, List, [], ◌∷◌, ◌++◌, length, get_or, map, refl, ap, sym, subst, ◌∙◌, ◌⊎◌, inl, inr, arith}
-use Rattle.std.specs.Prelude.{Contains}
 use Rattle.std.proofs.lemmas.List.{map-append}
 use Rattle.std.proofs.lemmas.List.Elements.{Contains-append_left, Contains-get_or, Contains-push, Contains-push_cases}
 use Rattle.std.proofs.lemmas.List.Quantifiers.{all_pairs_push}
@@ -17,26 +16,19 @@ use Rattle.olap_summ.specs.declared.auditing.Finding.{Finding as Told}
 -- findings of one kind at one place are one
 same_finding : (f g : Finding) → kind_of f ≡ kind_of g → place_of f ≡ place_of g → f ≡ g
 same_finding (Unsatisfiable c) (Unsatisfiable d) k p = ap Unsatisfiable p
-same_finding (Unsatisfiable c) (Redundant n) k p = absurd (omega (arith, k))
-same_finding (Unsatisfiable c) (Unused e) k p = absurd (omega (arith, k))
-same_finding (Redundant n) (Unsatisfiable d) k p = absurd (omega (arith, k))
 same_finding (Redundant n) (Redundant m) k p = ap Redundant p
-same_finding (Redundant n) (Unused e) k p = absurd (omega (arith, k))
-same_finding (Unused e) (Unsatisfiable d) k p = absurd (omega (arith, k))
-same_finding (Unused e) (Redundant m) k p = absurd (omega (arith, k))
 same_finding (Unused e) (Unused x) k p = ap Unused p
+same_finding f g k p = absurd (omega (arith, k))
 
 -- the rank of a finding is its kind and its place
 rank_is : (f : Finding) → finding_rank f ≡ kind_of f ∷ place_of f ∷ []
 rank_is (Unsatisfiable c) = refl
-rank_is (Redundant n) = refl
-rank_is (Unused e) = refl
+rank_is f = refl
 
 -- a finding before another's kind and place is earlier
 earlier : (f g : Finding) → IsBefore (kind_of g) (place_of g) f → IsEarlier f g
 earlier f g b = (
-  subst (λ xs. IsNotAfter xs (finding_rank g)) (sym (rank_is f))
-      (subst (λ ys. IsNotAfter (kind_of f ∷ place_of f ∷ []) ys) (sym (rank_is g)) (not_after b)),
+  rw (rank_is f, rank_is g) (not_after b),
   λ e. differ b (ap kind_of e) (ap place_of e),
 )
   where
@@ -54,20 +46,12 @@ earlier f g b = (
 -- what comes before the next place comes before this one, or stands here
 which : (kind place n k p : ℕ) → n ≡ place + 1 → (k < kind) ⊎ ((k ≡ kind) × (p < n))
     → ((k < kind) ⊎ ((k ≡ kind) × (p < place))) ⊎ ((k ≡ kind) × (p ≡ place))
-which kind place n k p e (inl l) = inl (inl l)
-which kind place n k p e (inr h) = elim (at n p place e h.1) [
-  | inl l ↦ inl (inr (h.0, l))
-  | inr q ↦ inr (h.0, q)
-]
-  where
-    at : (n p place : ℕ) → n ≡ place + 1 → p < n → (p < place) ⊎ (p ≡ place)
-    at n p place e l = grind arith
+which kind place n k p e h = grind arith
 
 -- what comes before this place comes before the next
 wider : (kind place n k p : ℕ) → n ≡ place + 1 → (k < kind) ⊎ ((k ≡ kind) × (p < place))
     → (k < kind) ⊎ ((k ≡ kind) × (p < n))
-wider kind place n k p e (inl l) = inl l
-wider kind place n k p e (inr h) = inr (h.0, let l = h.1 in omega arith)
+wider kind place n k p e h = grind arith
 
 -- a finding at this place is put after the others
 pub one_more : (s : Schema) (kind place n : ℕ) (list : List Finding) (f : Finding)
@@ -76,16 +60,14 @@ pub one_more : (s : Schema) (kind place n : ℕ) (list : List Finding) (f : Find
 one_more s kind place n list f b k p e is = record {
   ordered = all_pairs_push IsEarlier list f b.ordered (λ i d h.
       let g = get_or list i d in
-      let before = (b.sound g (Contains-get_or list i d h)).1 in
-      earlier g f (subst (λ m. IsBefore m (place_of f) g) (sym k) (subst (λ m. IsBefore kind m g) (sym p) before)));
+      earlier g f (rw (k, p) ((b.sound g (Contains-get_or list i d h)).1)));
   sound = λ g c. elim (Contains-push_cases list f g c) [
     | inl h ↦ let t = b.sound g h in (t.0, wider kind place n (kind_of g) (place_of g) e t.1)
-    | inr q ↦ subst (λ h. IsFinding s h × IsBefore kind n h) q (is, inr (k, omega (arith, p, e)))
+    | inr q ↦ rw (← q) (is, inr (k, omega (arith, p, e)))
   ];
   complete = λ g g_is before. elim (which kind place n (kind_of g) (place_of g) e before) [
     | inl h ↦ Contains-append_left list (f ∷ []) g (b.complete g g_is h)
-    | inr h ↦ subst (λ x. Contains (list ++ f ∷ []) x) (same_finding f g (k ∙ sym h.0) (p ∙ sym h.1))
-        (Contains-push list f)
+    | inr h ↦ rw (same_finding g f (h.0 ∙ sym k) (h.1 ∙ sym p)) (Contains-push list f)
   ];
 }
 
@@ -109,50 +91,40 @@ pub added : (s : Schema) (old new : List Told) (x : Told)
     → AreFindingsBefore s (kind_of (finding_of x)) (place_of (finding_of x)) (map finding_of old)
     → IsFinding s (finding_of x) → new ≡ old ++ x ∷ []
     → AreFindingsBefore s (kind_of (finding_of x)) (place_of (finding_of x) + 1) (map finding_of new)
-added s old new x b is q =
-    subst (AreFindingsBefore s (kind_of f) (place_of f + 1))
-    (sym (ap (map finding_of) q ∙ map-append finding_of old (x ∷ [])))
-    (one_more s (kind_of f) (place_of f) (place_of f + 1) (map finding_of old) f b refl refl refl is)
-  where
-    f : Finding
-    f = finding_of x
+added s old new x b is q = rw (q, map-append)
+    (one_more s _ _ _ (map finding_of old) (finding_of x) b refl refl refl is)
 
 -- and none is
 pub none_added : (s : Schema) (kind place : ℕ) {old new : List Told}
     → AreFindingsBefore s kind place (map finding_of old)
     → ((f : Finding) → kind_of f ≡ kind → place_of f ≡ place → IsFinding s f → ⊥) → new ≡ old
     → AreFindingsBefore s kind (place + 1) (map finding_of new)
-none_added s kind place {old = old} b none q =
-    subst (λ l. AreFindingsBefore s kind (place + 1) (map finding_of l)) (sym q)
-    (no_more s kind place (place + 1) (map finding_of old) b refl none)
+none_added s kind place {old = old} b none q = rw q (no_more s kind place _ (map finding_of old) b refl none)
 
 -- a category that can have a member is no finding
 pub not_unsatisfiable : (s : Schema) (c : ℕ) → (IsUnsatisfiable s c → ⊥) → (f : Finding) → kind_of f ≡ 1
     → place_of f ≡ c → IsFinding s f → ⊥
-not_unsatisfiable s c n (Unsatisfiable d) k p is = n (subst (IsUnsatisfiable s) p is.1)
-not_unsatisfiable s c n (Redundant m) k p is = omega (arith, k)
-not_unsatisfiable s c n (Unused e) k p is = omega (arith, k)
+not_unsatisfiable s c n (Unsatisfiable d) k p is = n (rw p at is.1)
+not_unsatisfiable s c n f k p is = omega (arith, k)
 
 -- nor is a constraint that the others don't imply
 pub not_redundant : (s : Schema) (j : ℕ) → (IsRedundant s j → ⊥) → (f : Finding) → kind_of f ≡ 2
     → place_of f ≡ j + 1 → IsFinding s f → ⊥
-not_redundant s j n (Unsatisfiable d) k p is = omega (arith, k)
 not_redundant s j n (Redundant zero) k p is = is
-not_redundant s j n (Redundant (suc m)) k p is = n (subst (IsRedundant s) (let q : m ≡ j = omega (arith, p) in q) is)
-not_redundant s j n (Unused e) k p is = omega (arith, k)
+not_redundant s j n (Redundant (suc m)) k p is = let q : m ≡ j = omega (arith, p) in n (rw q at is)
+not_redundant s j n f k p is = omega (arith, k)
 
 -- nor is an edge that some legal instance uses
 pub not_unused : (s : Schema) (j : ℕ) → (IsUnused s (edge_at s.graph j) → ⊥) → (f : Finding) → kind_of f ≡ 3
     → place_of f ≡ j → IsFinding s f → ⊥
-not_unused s j n (Unsatisfiable d) k p is = omega (arith, k)
-not_unused s j n (Redundant m) k p is = omega (arith, k)
 not_unused s j n (Unused x) k p is =
     let at = get_or_from_slice_get s.graph.edges x is.0 (record { child = 0; parent = 0 }) is.1 in
     n (subst (λ y. IsUnused s (edge_at s.graph y)) p (subst (IsUnused s) (sym at) is.2))
+not_unused s j n f k p is = omega (arith, k)
 
 -- a redundant constraint is a finding, counted from 1
 pub redundant_found : (s : Schema) (j n : ℕ) → n ≡ j + 1 → IsRedundant s j → IsFinding s (Redundant n)
-redundant_found s j n e r = subst (λ m. IsFinding s (Redundant m)) (let q : suc j ≡ n = omega (arith, e) in q) r
+redundant_found s j n e r = let q : n ≡ suc j = omega (arith, e) in rw q r
 
 -- an unused edge is a finding
 pub unused_found : (s : Schema) (j : ℕ) → j < length s.graph.edges → IsUnused s (edge_at s.graph j)
@@ -173,8 +145,7 @@ next_kind s kind place next first list b e within from = record {
 }
   where
     below : (k p : ℕ) → (k < kind) ⊎ ((k ≡ kind) × (p < place)) → k < next
-    below k p (inl l) = omega (arith, l, e)
-    below k p (inr h) = let q = h.0 in omega (arith, q, e)
+    below k p h = grind (arith, e)
 
     split : (k : ℕ) → k < next → (k < kind) ⊎ (k ≡ kind)
     split k l = grind (arith, e)
@@ -190,10 +161,9 @@ pub to_edges : (s : Schema) (n : ℕ) (list : List Finding) → n ≡ length s.c
 to_edges s n list e b = next_kind s 2 n 3 0 list b refl within (λ f k is. omega arith)
   where
     within : (f : Finding) → kind_of f ≡ 2 → IsFinding s f → place_of f < n
-    within (Unsatisfiable c) k is = absurd (omega (arith, k))
     within (Redundant zero) k is = absurd is
     within (Redundant (suc m)) k is = let l = slice_get_within s.constraints m is.0 is.1 in omega (arith, l, e)
-    within (Unused x) k is = absurd (omega (arith, k))
+    within f k is = absurd (omega (arith, k))
 
 -- after the edges there is nothing
 pub all_found : (s : Schema) (n : ℕ) (list : List Finding) → n ≡ length s.graph.edges
@@ -206,6 +176,5 @@ all_found s n list e b = record {
 }
   where
     before : (f : Finding) → IsFinding s f → IsBefore 3 n f
-    before (Unsatisfiable c) is = inl (omega arith)
-    before (Redundant m) is = inl (omega arith)
     before (Unused k) is = inr (refl, let l = slice_get_within s.graph.edges k is.0 is.1 in omega (arith, l, e))
+    before f is = inl (omega arith)

@@ -1,18 +1,12 @@
 -- What a search finds, or doesn't, in all legal instances.
 use Rattle.std.proofs.Common.{◌≡◌, ℕ, Bool, refl, sym, ◌↔◌, ◌∙◌, true, false, Option, Some, None}
 use Rattle.std.specs.Prelude.{IfSome, IsNone, IsTrue, is_some, not}
-use Rattle.olap_base.specs.Graph.{IsHierarchy}
-use Rattle.olap_base.specs.Instance.{Instance}
-use Rattle.olap_ast.specs.Findings.{IsUnsatisfiable}
-use Rattle.olap_ast.specs.Formula.{Formula, Formula.Truth, Formula.Not, Holds}
-use Rattle.olap_ast.specs.Frozen.{AreCandidates, Candidates}
-use Rattle.olap_ast.specs.Questions.{IsImplied, NoneFrozen}
-use Rattle.olap_ast.specs.Schema.{Schema}
-use Rattle.olap_ast.proofs.Decided.{decide_holds}
-use Rattle.olap_ast.proofs.SmallModel.{frozen_exactly}
+use Rattle.olap_base.specs.{Graph.IsHierarchy, Instance.Instance}
+use Rattle.olap_ast.{proofs.Decided.decide_holds, proofs.SmallModel.frozen_exactly, specs.Findings.IsUnsatisfiable}
+use Rattle.olap_ast.specs.{Formula.{Formula, Formula.Truth, Formula.Not, Holds}, Frozen.{AreCandidates, Candidates}}
+use Rattle.olap_ast.specs.{Questions.{IsImplied, NoneFrozen}, Schema.Schema}
 use Rattle.olap_names.specs.Names.{candidates_of}
-use Rattle.olap_frozen.specs.declared.founding.Found.{Found}
-use Rattle.olap_frozen.specs.LeastFound.{IsLeastFound, frozen_of}
+use Rattle.olap_frozen.specs.{LeastFound.{IsLeastFound, frozen_of}, declared.founding.Found.Found}
 use Rattle.olap_dimsat.specs.OneFound.{IsOneFound}
 use Rattle.olap_summ.specs.Answers.{IsNowhere}
 

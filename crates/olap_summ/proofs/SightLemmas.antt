@@ -1,22 +1,17 @@
 -- What a frozen dimension that was found shows of categories and edges.
-use Rattle.std.proofs.Common.{◌≡◌, ℕ, zero, suc, ◌+◌, ◌<◌, List, [], ◌∷◌, Bool, true, false, length, get_or, refl, ap, sym, subst, ◌∙◌, ◌⊎◌, inl, inr, arith}
+use Rattle.std.proofs.Common.{◌≡◌, ℕ, zero, suc, ◌+◌, ◌<◌, List, ◌∷◌, Bool, true, false, length, get_or, refl, ap, sym, subst, ◌∙◌, ◌⊎◌, inl, inr, arith}
+use Rattle.std.proofs.lemmas.{Bool.false_from_ne_true, List.{get_or-set_other, get_or-set_same, length-set}}
 use Rattle.std.specs.Prelude.{slice_set, slice_index_or}
-use Rattle.std.proofs.lemmas.List.{get_or-set_other, length-set}
-use native.Mathlib.Decide.{ℕ_discrete}
-use Rattle.olap_base.specs.Graph.{Edge, IsCategory, IsHierarchy}
-use Rattle.olap_base.specs.Instance.{Instance}
-use Rattle.olap_ast.specs.Findings.{IsUnsatisfiable, IsUnused}
-use Rattle.olap_ast.specs.Frozen.{chosen, is_present, name_in, thawed}
+use Rattle.olap_base.specs.{Graph.{Edge, IsCategory, IsHierarchy}, Instance.Instance}
+use Rattle.olap_ast.specs.{Findings.{IsUnsatisfiable, IsUnused}, Frozen.{chosen, is_present, name_in, thawed}}
 use Rattle.olap_ast.specs.Schema.{IsLegal, Schema}
 use Rattle.olap_names.specs.Names.{candidates_of}
-use Rattle.olap_frozen.specs.Chosen.{IsChoice, Joins}
-use Rattle.olap_frozen.specs.LeastFound.{frozen_of}
-use Rattle.olap_frozen.specs.declared.founding.Found.{Found}
 use Rattle.olap_frozen.proofs.ChosenInstance.{child_present, edge_below, member_is, parent_present, place}
-use Rattle.olap_frozen.proofs.ChosenLemmas.{choice_of, place_chosen}
+use Rattle.olap_frozen.{proofs.ChosenLemmas.{choice_of, place_chosen}, specs.Chosen.{IsChoice, Joins}}
+use Rattle.olap_frozen.specs.{LeastFound.frozen_of, declared.founding.Found.Found}
 use Rattle.olap_graph.specs.Lookups.{edge_at}
-use Rattle.olap_summ.specs.Sights.{AreSettled, HasCategory, IsSeen, IsWitness, Keeps}
-use Rattle.olap_summ.specs.declared.seeing.Seen.{Seen}
+use Rattle.olap_summ.specs.{Sights.{AreSettled, HasCategory, IsSeen, IsWitness, Keeps}, declared.seeing.Seen.Seen}
+use native.Mathlib.Decide.{ℕ_discrete}
 
 -- ---- what was found
 
@@ -87,15 +82,15 @@ module _ (s : Schema) (old new : Seen) (e : ℕ) (c d : ℕ)
         ∙ length-set old.categories.items c true ∙ is.category_places;
     edge_places = ap length used ∙ length-set old.edges.items e true ∙ is.edge_places;
     categories = λ n h.
-        elim (mark_cases (slice_set old.categories.items c true) d n (subst (λ xs. Has xs n) marked h)) [
-          | inl q ↦ subst (λ x. IsUnsatisfiable s x → ⊥) (sym q) parent
+        elim (mark_cases (slice_set old.categories.items c true) d n (rw marked at h)) [
+          | inl q ↦ rw q parent
           | inr k ↦ elim (mark_cases old.categories.items c n k) [
-            | inl q ↦ subst (λ x. IsUnsatisfiable s x → ⊥) (sym q) child
+            | inl q ↦ rw q child
             | inr l ↦ is.categories n l
           ]
         ];
-    edges = λ k h. elim (mark_cases old.edges.items e k (subst (λ xs. Has xs k) used h)) [
-      | inl q ↦ subst (λ x. IsUnused s (edge_at s.graph x) → ⊥) (sym q) used_once
+    edges = λ k h. elim (mark_cases old.edges.items e k (rw used at h)) [
+      | inl q ↦ rw q used_once
       | inr l ↦ is.edges k l
     ];
   }
@@ -123,44 +118,39 @@ seen_root s found w old new marked same is = record {
       ap length marked ∙ length-set old.categories.items found.frozen.root.0 true ∙ is.category_places;
   edge_places = ap length same ∙ is.edge_places;
   categories = λ n h.
-      elim (mark_cases old.categories.items found.frozen.root.0 n (subst (λ xs. Has xs n) marked h)) [
-        | inl q ↦ subst (λ x. IsUnsatisfiable s x → ⊥) (sym q)
+      elim (mark_cases old.categories.items found.frozen.root.0 n (rw marked at h)) [
+        | inl q ↦ rw q
             (λ u. u (thawed s (candidates_of found.candidates) found.frozen.root.0 (frozen_of found.frozen))
             w.1.is_one.stands_for.legal w.1.is_one.stands_for.root w.1.is_one.stands_for.root_is)
         | inr l ↦ is.categories n l
       ];
-  edges = λ k h. is.edges k (subst (λ xs. Has xs k) same h);
+  edges = λ k h. is.edges k (rw same at h);
 }
 
 -- ---- marks that stay
 
 -- a mark that is set is there
 is_marked : (marks : List Bool) (i : ℕ) → i < length marks → Has (slice_set marks i true) i
-is_marked [] i h = absurd (omega arith)
-is_marked (b ∷ bs) zero h = refl
-is_marked (b ∷ bs) (suc i) h = is_marked bs i (omega arith)
+is_marked marks i h = get_or-set_same marks i true false h
 
 -- those that were there stay
 marks_stay : (marks : List Bool) (i k : ℕ) → Has marks k → Has (slice_set marks i true) k
-marks_stay [] i k h = h
 marks_stay (b ∷ bs) zero zero h = refl
-marks_stay (b ∷ bs) zero (suc k) h = h
-marks_stay (b ∷ bs) (suc i) zero h = h
 marks_stay (b ∷ bs) (suc i) (suc k) h = marks_stay bs i k h
+marks_stay marks i k h = h
 
 -- the root's is there once it is set
 pub root_marked : (s : Schema) (c : ℕ) (old : Seen) (now : List Bool) → IsSeen s old → IsCategory s.graph c
     → now ≡ slice_set old.categories.items c true → Has now c
 root_marked s c old now is h e =
-    subst (λ xs. Has xs c) (sym e)
-    (is_marked old.categories.items c (let l = is.category_places in omega (arith, h, l)))
+    rw e (is_marked old.categories.items c (let l = is.category_places in omega (arith, h, l)))
 
 -- it loses none
 pub root_keeps : (c : ℕ) (old new : Seen) → new.categories.items ≡ slice_set old.categories.items c true
     → new.edges.items ≡ old.edges.items → Keeps old new
 root_keeps c old new marked same = record {
-  categories = λ n h. subst (λ xs. Has xs n) (sym marked) (marks_stay old.categories.items c n h);
-  edges = λ k h. subst (λ xs. Has xs k) (sym same) h;
+  categories = λ n h. rw marked (marks_stay old.categories.items c n h);
+  edges = λ k h. rw same h;
 }
 
 -- nor do those of an edge
@@ -168,9 +158,8 @@ pub edge_keeps : (e c d : ℕ) (old new : Seen)
     → new.categories.items ≡ slice_set (slice_set old.categories.items c true) d true
     → new.edges.items ≡ slice_set old.edges.items e true → Keeps old new
 edge_keeps e c d old new marked used = record {
-  categories = λ n h. subst (λ xs. Has xs n) (sym marked)
-      (marks_stay (slice_set old.categories.items c true) d n (marks_stay old.categories.items c n h));
-  edges = λ k h. subst (λ xs. Has xs k) (sym used) (marks_stay old.edges.items e k h);
+  categories = λ n h. rw marked (marks_stay _ d n (marks_stay old.categories.items c n h));
+  edges = λ k h. rw used (marks_stay old.edges.items e k h);
 }
 
 -- what loses none, twice
@@ -184,19 +173,15 @@ keeps_both a b c k l = record {
 
 -- a mark more settles no less
 pub settled_still : (s : Schema) (n : ℕ) (old new : Seen) → Keeps old new → AreSettled s n old → AreSettled s n new
-settled_still s n old new k a c above below h = a c above below (go (get_or old.categories.items c false) refl)
-  where
-    go : (b : Bool) → get_or old.categories.items c false ≡ b → get_or old.categories.items c false ≡ false
-    go false e = e
-    go true e = absurd (let t : true ≡ false = sym (k.categories c e) ∙ h in cc)
+settled_still s n old new k a c above below h = a c above below (false_from_ne_true _
+    (λ e. let t : true ≡ false = sym (k.categories c e) ∙ h in cc))
 
 -- and so does a category that can't have a member
 settled_more : (s : Schema) (n m : ℕ) (seen : Seen) → m ≡ n + 1 → AreSettled s n seen
     → (slice_index_or seen.categories.items n false ≡ false → IsUnsatisfiable s n) → AreSettled s m seen
 settled_more s n m seen e a last c above below h = elim (which c n m below e) [
   | inl l ↦ a c above l h
-  | inr q ↦ subst (IsUnsatisfiable s) (sym q)
-      (last (subst (λ x. slice_index_or seen.categories.items x false ≡ false) q h))
+  | inr q ↦ rw q (last (rw q at h))
 ]
   where
     which : (c n m : ℕ) → c < m → m ≡ n + 1 → (c < n) ⊎ (c ≡ n)

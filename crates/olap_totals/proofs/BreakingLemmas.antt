@@ -1,18 +1,12 @@
 -- What is told of the members at which totals differ.
 use Rattle.std.proofs.Common.{◌≡◌, ℕ, List, [], ◌∷◌, Ok, cond, length, map, true, false, sym, subst, arith}
-use Rattle.std.proofs.lemmas.Bool.Decides.{nat_tests}
-use Rattle.std.specs.Prelude.{◌==◌}
+use Rattle.std.{proofs.lemmas.Bool.eqb-true, proofs.lemmas.Bool.Decides.nat_tests, specs.Prelude.◌==◌}
 use Rattle.olap_base.specs.Instance.{Instance}
-use Rattle.olap_breaks.specs.Breaks.{Break, breaks_text}
-use Rattle.olap_breaks.specs.Seen.{break_seen}
-use Rattle.olap_breaks.specs.declared.finding.Break as code
-use Rattle.olap_order.specs.Judged.{IsVerdict, Replies}
-use Rattle.olap_order.specs.Order.{Told}
-use Rattle.olap_order.specs.declared.replies.Reply.{Reply}
-use Rattle.olap_order.specs.declared.status.Status.{Status}
-use Rattle.olap_order.specs.declared.status.Status.TheVariants.{No, Yes}
+use Rattle.olap_breaks.specs.{Breaks.{Break, breaks_text}, Seen.break_seen}
+use Rattle.olap_order.specs.{Judged.{IsVerdict, Replies}, Order.Told, declared.replies.Reply.Reply}
+use Rattle.olap_order.specs.declared.status.Status.{Status, TheVariants.{No, Yes}}
 use Rattle.olap_totals.specs.Under.{breaks_status}
-use Rattle.std.proofs.lemmas.Bool.{eqb-true}
+use Rattle.olap_breaks.specs.declared.finding.Break as code
 
 -- what is told is told, where it is a yes or a no
 told_as : {Q : Type 0} {answers : Q → Status → List ℕ → Type 0} (st : Status) (text : List ℕ) (reply : Reply)

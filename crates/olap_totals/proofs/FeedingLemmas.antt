@@ -1,45 +1,25 @@
 -- Stored views that change by the facts of a file that is read piece by piece.
 use Rattle.std.proofs.Common.{◌≡◌, ◌≤◌, ◌∙◌, ℕ, List, Option, Result, Ok, Err, length, codes, ap, refl}
-use Rattle.std.specs.Io.KnownBytes.{Consumes}
-use Rattle.std.specs.Result.{result_map_both}
-use Rattle.olap_base.specs.Graph.{Graph}
-use Rattle.olap_base.specs.Instance.{Instance}
-use Rattle.olap_base.specs.Limits.{most_facts}
-use Rattle.olap_base.specs.Views.{Fact, View}
+use Rattle.std.specs.{Io.KnownBytes.Consumes, Result.result_map_both}
+use Rattle.olap_base.specs.{Graph.Graph, Instance.Instance, Limits.most_facts, Views.{Fact, View}}
 use Rattle.olap_base.specs.declared.refusals.Fault.{Fault}
 use Rattle.olap_ast.specs.Schema.{Schema}
-use Rattle.olap_records.specs.Records.{records_of}
-use Rattle.olap_records.specs.Standing.{unmarked}
-use Rattle.olap_records.specs.Tables.{named}
-use Rattle.olap_facts.specs.FactMeaning.{facts_meant}
-use Rattle.olap_facts.specs.FactText.{facts_read_within}
-use Rattle.olap_facts.specs.Kinds.{name_of_kind as fact_kind}
+use Rattle.olap_records.specs.{Records.records_of, Standing.unmarked, Tables.named}
+use Rattle.olap_facts.{proofs.MeaningLemmas.facts-named, specs.FactMeaning.facts_meant}
+use Rattle.olap_facts.specs.{FactText.facts_read_within, Kinds.{name_of_kind as fact_kind}}
 use Rattle.olap_facts.specs.declared.kinds.FactKind.{FactKind}
-use Rattle.olap_facts.proofs.MeaningLemmas.{facts-named}
-use Rattle.olap_outside.specs.Files.{Opens}
-use Rattle.olap_outside.specs.declared.outside.Library.{Ghosts as Library}
-use Rattle.olap_order.specs.Judged.{IsLater}
-use Rattle.olap_order.specs.Order.{Order, and_then}
-use Rattle.olap_order.specs.Refusals.{IsRefusal, part_text}
-use Rattle.olap_order.specs.Steps.{meaning_or_fault}
-use Rattle.olap_order.specs.Taken.{FileStep}
-use Rattle.olap_order.specs.declared.replies.Stop.{Stop}
+use Rattle.olap_outside.specs.{Files.Opens, declared.outside.Library.{Ghosts as Library}}
+use Rattle.olap_order.specs.{Judged.IsLater, Order.{Order, and_then}, Refusals.{IsRefusal, part_text}}
+use Rattle.olap_order.specs.{Steps.meaning_or_fault, Taken.FileStep, declared.replies.Stop.Stop}
+use Rattle.olap_reading.proofs.{ReadingLemmas.{content_read, fault_read}, RollingLemmas.content}
 use Rattle.olap_reading.specs.Rest.{IsOfRest}
-use Rattle.olap_reading.proofs.ReadingLemmas.{content_read, fault_read}
-use Rattle.olap_reading.proofs.RollingLemmas.{content}
-use Rattle.olap_view.specs.Seen.{views_of}
-use Rattle.olap_view.specs.declared.views.Store.{Store}
-use Rattle.olap_delta.specs.Changes.{store_after}
-use Rattle.olap_delta.specs.Changing.{step_named, step_of}
-use Rattle.olap_delta.specs.Kinds.{name_of_change_kind, name_of_kind}
-use Rattle.olap_delta.specs.Reading.{views_changed}
-use Rattle.olap_delta.specs.Taking.{HasTakenText, TextChange}
-use Rattle.olap_delta.specs.declared.changes.Change.{Change}
-use Rattle.olap_delta.specs.declared.kinds.ChangeKind.{ChangeKind}
-use Rattle.olap_delta.specs.declared.kinds.ChangeKind.TheVariants as change
-use Rattle.olap_delta.specs.declared.kinds.DeltaKind.{DeltaKind}
-use Rattle.olap_delta.proofs.NamedLemmas.{change-named}
+use Rattle.olap_view.specs.{Seen.views_of, declared.views.Store.Store}
+use Rattle.olap_delta.{proofs.NamedLemmas.change-named, specs.Changes.store_after, specs.Changing.{step_named, step_of}}
+use Rattle.olap_delta.specs.{Kinds.{name_of_change_kind, name_of_kind}, Reading.views_changed}
+use Rattle.olap_delta.specs.{Taking.{HasTakenText, TextChange}, declared.changes.Change.Change}
+use Rattle.olap_delta.specs.declared.kinds.{ChangeKind.ChangeKind, DeltaKind.DeltaKind}
 use Rattle.olap_totals.specs.Commands.{changed_file}
+use Rattle.olap_delta.specs.declared.kinds.ChangeKind.TheVariants as change
 
 -- these bytes were taken off the front of what was left, the last this many at once, and the changer has taken them
 pub record IsSoFar (old new : Option (List ℕ)) (count : ℕ) (by : Change) (g : Graph) (i : Instance)

@@ -1,21 +1,13 @@
 -- The text of stored views, as it is told or refused.
 use Rattle.std.proofs.Common.{◌≡◌, List, ℕ, Ok, Err, true, false, ap, refl, subst, sym}
 use Rattle.std.specs.Prelude.{Bool, codes, if◌then◌else◌, length, nat_lt}
-use Rattle.olap_base.specs.Graph.{Graph}
-use Rattle.olap_base.specs.Instance.{Instance}
-use Rattle.olap_base.specs.Limits.{most_store_bytes}
-use Rattle.olap_base.specs.Views.{View}
+use Rattle.olap_base.specs.{Graph.Graph, Instance.Instance, Limits.most_store_bytes, Views.View}
 use Rattle.olap_view.specs.StoreText.{store_text}
-use Rattle.olap_order.specs.Judged.{Replies}
-use Rattle.olap_order.specs.Order.{Order, Told, refused}
-use Rattle.olap_order.specs.Refusals.{IsRefusal}
-use Rattle.olap_order.specs.declared.replies.Reply.{Reply}
-use Rattle.olap_order.specs.declared.replies.Stop.{Stop}
-use Rattle.olap_order.specs.declared.replies.Stop.TheVariants as stops
+use Rattle.olap_order.{proofs.Replying.told_shown, specs.Judged.Replies, specs.Order.{Order, Told, refused}}
+use Rattle.olap_order.specs.{Refusals.IsRefusal, declared.replies.Reply.Reply, declared.replies.Stop.Stop}
 use Rattle.olap_order.specs.declared.status.Status.TheVariants.{Yes}
-use Rattle.olap_order.proofs.Replying.{told_shown}
-use Rattle.olap_totals.specs.Commands.{store_told}
-use Rattle.olap_totals.specs.Questions.{IsAnswer, Question}
+use Rattle.olap_totals.specs.{Commands.store_told, Questions.{IsAnswer, Question}}
+use Rattle.olap_order.specs.declared.replies.Stop.TheVariants as stops
 
 -- what is refused answers its order
 refused_shown : (why : List ℕ) (stop : Stop) → IsRefusal why stop → Replies IsAnswer (refused why) (Err stop)

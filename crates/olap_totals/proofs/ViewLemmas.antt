@@ -1,9 +1,7 @@
 -- Views of facts, as they are told.
-use Rattle.std.proofs.Common.{◌≡◌, ℕ, ◌<◌, List, [], ◌∷◌, get_or, ap, ◌∙◌}
+use Rattle.std.proofs.{Common.{◌≡◌, ℕ, ◌<◌, List, [], ◌∷◌, get_or, ap, ◌∙◌}, lemmas.List.Elements.All-map}
 use Rattle.std.specs.Prelude.{All}
-use Rattle.std.proofs.lemmas.List.Elements.{All-map}
-use Rattle.olap_base.specs.Graph.{Graph, IsCategory}
-use Rattle.olap_base.specs.Instance.{Instance}
+use Rattle.olap_base.specs.{Graph.{Graph, IsCategory}, Instance.Instance}
 use Rattle.olap_base.specs.Views.{Fact, Row, View, direct_view, direct_views, members}
 use Rattle.olap_view.specs.Seen.{each_view_of, row_of, view_of}
 use Rattle.olap_view.specs.declared.views.Row as told_row

@@ -1,23 +1,13 @@
 -- Words of a command line as commands, and a step that is refused.
 use Rattle.std.proofs.Common.{◌≡◌, ℕ, suc, ◌+◌, ◌<◌, ◌≤◌, ◌&&◌, nat_le, nat_lt, length, List, [], ◌∷◌, cond, get_or, Err, None, Some, ap, arith, refl, subst, sym}
-use Rattle.std.proofs.lemmas.Bool.Decides.{nat_tests}
-use Rattle.olap_base.specs.Limits.{most_views}
-use Rattle.std.specs.String.{string_bytes}
+use Rattle.std.{proofs.lemmas.Bool.Decides.nat_tests, specs.String.string_bytes, specs.declared.alloc.Global.Global}
 use Rattle.std.specs.declared.string.String.{String}
-use Rattle.std.specs.declared.alloc.Global.{Global}
-use Rattle.olap_order.specs.Arguments.{between}
-use Rattle.olap_order.specs.Behind.{by_four}
-use Rattle.olap_order.specs.Families.{IsNoUsage}
-use Rattle.olap_order.specs.Judged.{Replies}
-use Rattle.olap_order.specs.Order.{Order, refused}
-use Rattle.olap_order.specs.Refusals.{IsRefusal}
-use Rattle.olap_order.specs.Taken.{NoAnswer, PlainStep}
-use Rattle.olap_order.specs.Words.{texts}
+use Rattle.olap_base.specs.Limits.{most_views}
+use Rattle.olap_order.specs.{Arguments.between, Behind.by_four, Families.IsNoUsage, Judged.Replies}
+use Rattle.olap_order.specs.{Order.{Order, refused}, Refusals.IsRefusal, Taken.{NoAnswer, PlainStep}, Words.texts}
 use Rattle.olap_order.specs.declared.replies.Stop.{Stop}
+use Rattle.olap_totals.specs.{Commands.store_order, Seen.{seen, store_by}, declared.words.Command.Command}
 use Rattle.olap_order.specs.declared.replies.Stop.TheVariants as stops
-use Rattle.olap_totals.specs.Commands.{store_order}
-use Rattle.olap_totals.specs.Seen.{seen, store_by}
-use Rattle.olap_totals.specs.declared.words.Command.{Command}
 
 -- the order of a command isn't the usage
 pub seen_is_no_usage : (command : Command) → IsNoUsage (seen command)

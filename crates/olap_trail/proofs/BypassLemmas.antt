@@ -1,14 +1,14 @@
 -- Whether one of a list of edges is bypassed.
 use Rattle.std.proofs.Common.{◌≡◌, ℕ, ◌+◌, ◌<◌, ◌≤◌, ◌↔◌, List, length, get_or, map, Bool, true, false, ap, sym, subst, ◌∙◌, inl, inr, arith}
-use Rattle.std.specs.Prelude.{IsTrue}
-use Rattle.std.proofs.lemmas.List.{get_or_default}
-use Rattle.std.proofs.lemmas.List.Elements.{Contains-get_or}
-use Rattle.olap_base.proofs.ListLemmas.{Contains-from_map, Contains-map}
+use Rattle.std.{proofs.lemmas.List.get_or_default, proofs.lemmas.List.Elements.Contains-get_or, specs.Prelude.IsTrue}
+use Rattle.olap_base.proofs.{GeneralLemmas.below_or_same, ListLemmas.{Contains-from_map, Contains-map}}
 use Rattle.olap_base.specs.Graph.{Edge}
-use Rattle.olap_trail.specs.Drawing.{HoldsBypass, IsBypassed, Joins, edge_of}
-use Rattle.olap_trail.specs.declared.drawing.Ends.{Ends}
 use Rattle.olap_trail.proofs.WalkLemmas.{joins_cases, joins_new, more}
-use Rattle.olap_base.proofs.GeneralLemmas.{below_or_same}
+use Rattle.olap_trail.specs.{Drawing.{HoldsBypass, IsBypassed, Joins, edge_of}, declared.drawing.Ends.Ends}
+
+-- what is read if there are no ends
+abbrev pub nowhere : Ends
+nowhere = record { child = record { 0 = 0 }; parent = record { 0 = 0 } }
 
 -- the ends at a place are those of an edge
 pub joins_at : (items : List Ends) (es : List Edge) (k : ℕ) (d : Ends) → map edge_of items ≡ es → k < length items

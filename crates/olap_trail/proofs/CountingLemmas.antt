@@ -1,14 +1,10 @@
 -- There are no more decisions than edges, nor present edges than decisions.
 use Rattle.std.proofs.Common.{◌≡◌, ℕ, suc, ◌<◌, ◌≤◌, List, [], ◌∷◌, length, cond, Bool, true, false, subst, arith, eqb, eqb-true}
-use Rattle.std.specs.Prelude.{Contains, filter}
-use Rattle.std.proofs.lemmas.Bool.Decides.{Decides-eqb}
-use Rattle.std.proofs.lemmas.List.{length-map}
-use Rattle.std.proofs.lemmas.Map.Made.{IsDistinct-from_AllPairs}
-use Rattle.std.proofs.lemmas.Map.Steps.{length-le_from_distinct_below}
+use Rattle.std.proofs.lemmas.{Bool.Decides.Decides-eqb, List.length-map, Map.Made.IsDistinct-from_AllPairs}
+use Rattle.std.{proofs.lemmas.Map.Steps.length-le_from_distinct_below, specs.Prelude.{Contains, filter}}
 use Rattle.olap_base.proofs.ListLemmas.{Contains-from_map, list_any_is}
 use Rattle.olap_graph.specs.Lookups.{edge_at}
-use Rattle.olap_trail.specs.Decisions.{AreDecisions, Decided, Decision, present_edges}
-use Rattle.olap_trail.proofs.DecisionLemmas.{edges_of}
+use Rattle.olap_trail.{proofs.DecisionLemmas.edges_of, specs.Decisions.{AreDecisions, Decided, Decision, present_edges}}
 
 -- each edge is decided once at most
 pub few_decisions : (t : Decided) → AreDecisions t → length t.decisions ≤ length t.graph.edges

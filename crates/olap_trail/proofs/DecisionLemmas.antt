@@ -1,16 +1,12 @@
 -- Decisions, and the edges that are decided present, with one decision more or without the last one.
 use Rattle.std.proofs.Common.{◌≡◌, ◌≢◌, ℕ, ◌-◌, ◌<◌, ◌⊎◌, ◌↔◌, List, [], ◌∷◌, ◌++◌, length, get_or, set, take, map, cond, Bool, true, false, refl, ap, sym, subst, ◌∙◌, inl, inr, arith, eq-eqb}
-use Rattle.std.specs.Prelude.{AllPairs, Contains, Option, Some, None, filter, ◌==◌}
-use Rattle.std.proofs.Math.ListN.{get_or-append}
-use Rattle.std.proofs.Math.Seq.{get_or-append_seam, take-append_seam}
+use Rattle.std.proofs.Math.{ListN.get_or-append, Seq.{get_or-append_seam, take-append_seam}}
 use Rattle.std.proofs.lemmas.Bool.{ne_eqb, cases_eq}
 use Rattle.std.proofs.lemmas.List.{append-nil, get_or-set_other, get_or-set_same, length_push, map-append, map_push}
-use Rattle.std.proofs.lemmas.List.Elements.{All-push, Contains-get_or, filter-append}
-use Rattle.std.proofs.lemmas.List.Quantifiers.{all_pairs_push}
+use Rattle.std.proofs.lemmas.List.{Elements.{All-push, Contains-get_or, filter-append}, Quantifiers.all_pairs_push}
+use Rattle.std.specs.Prelude.{AllPairs, Contains, Option, Some, None, filter, ◌==◌}
 use Rattle.olap_base.proofs.ListLemmas.{Contains-from_filter, Contains-from_map, Contains-map, Contains-nil, Distinct-from_AllPairs, Distinct-places}
-use Rattle.olap_base.specs.Deciding.{contains_cases, contains_cons}
-use Rattle.olap_base.specs.Chains.{IsOrLeads}
-use Rattle.olap_base.specs.Graph.{Edge, Graph}
+use Rattle.olap_base.specs.{Chains.IsOrLeads, Deciding.{contains_cases, contains_cons}, Graph.{Edge, Graph}}
 use Rattle.olap_base.specs.Steps.{Climb, Climb-from_leads, leads_from_Climb}
 use Rattle.olap_graph.specs.Lookups.{edge_at}
 use Rattle.olap_trail.specs.Decisions.{AreDecisions, Decided, Decision, HoldsShortcut, present_edges, status_in}

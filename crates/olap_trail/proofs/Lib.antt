@@ -6,4 +6,6 @@ mod TableLemmas
 pub mod TakingLemmas
 mod DecisionLemmas
 mod CountingLemmas
+mod TrailLemmas
+mod DrawnLemmas
 mod BypassLemmas

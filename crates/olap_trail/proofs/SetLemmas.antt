@@ -1,13 +1,10 @@
 -- What is in a set after a number is taken out, in what two sets share, and in a set that grew.
 use Rattle.std.proofs.Common.{◌≡◌, ◌≢◌, ℕ, ◌⊎◌, ◌↔◌, Bool, true, false, not, refl, ap, sym, subst, ◌∙◌, inl, inr, eq-eqb}
-use Rattle.std.specs.Cmp.{nat_cmp_total}
+use Rattle.std.{proofs.lemmas.Bool.{and_from, ne_eqb}, specs.Cmp.nat_cmp_total}
 use Rattle.std.specs.FinSet.{FinSet, empty, intersection, remove, union, contains-empty, contains-intersection}
-use Rattle.std.specs.Ordering.{nat_cmp}
-use Rattle.std.specs.Prelude.{IfSome, IsNone, IsTrue, None, Option, Some, is_some}
-use Rattle.std.proofs.lemmas.Bool.{and_from, ne_eqb}
+use Rattle.std.specs.{Ordering.nat_cmp, Prelude.{IfSome, IsNone, IsTrue, None, Option, Some, is_some}}
 use Rattle.olap_base.proofs.ListLemmas.{first_true, second_true}
-use Rattle.olap_bits.specs.CatSet.{IsLeast}
-use Rattle.olap_bits.proofs.CatSetLemmas.{in_remove}
+use Rattle.olap_bits.{proofs.CatSetLemmas.in_remove, specs.CatSet.IsLeast}
 use Rattle.olap_graph.proofs.RowLemmas.{has_union}
 use Rattle.olap_trail.specs.Drawing.{IsGrown, IsIn}
 

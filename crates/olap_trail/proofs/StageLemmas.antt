@@ -1,14 +1,10 @@
 -- The sets of one number of edges, copied after themselves and grown by the next edge.
 use Rattle.std.proofs.Common.{◌≡◌, ℕ, ◌+◌, ◌*◌, ◌<◌, ◌≤◌, List, length, set, ap, sym, subst, ◌∙◌, inl, inr, arith}
-use Rattle.std.proofs.Math.ListN.{length-set}
-use Rattle.std.proofs.Math.Nat.{mul-le-mul_right}
-use Rattle.std.specs.FinSet.{FinSet}
+use Rattle.std.{proofs.Math.ListN.length-set, proofs.Math.Nat.mul-le-mul_right, specs.FinSet.FinSet}
 use Rattle.std.specs.Ordering.{nat_cmp}
-use Rattle.olap_bits.specs.Sets.{members}
-use Rattle.olap_bits.specs.declared.sets.CatSet.{CatSet}
-use Rattle.olap_graph.specs.Rows.{row}
+use Rattle.olap_bits.specs.{Sets.members, declared.sets.CatSet.CatSet}
+use Rattle.olap_graph.{proofs.RowLemmas.{row_other, row_same, newest}, specs.Rows.row}
 use Rattle.olap_trail.specs.Drawing.{IsGrown}
-use Rattle.olap_graph.proofs.RowLemmas.{row_other, row_same, newest}
 
 -- the sets of the first categories are copied and grown
 pub record AreCopied {W : ℕ} (old new : List (CatSet W)) (place count c : ℕ) (through : FinSet nat_cmp) (k : ℕ)

@@ -1,24 +1,16 @@
 -- What the tables beside a list of edges say, and how they change with an edge.
 use Rattle.std.proofs.Common.{◌≡◌, ◌≢◌, ℕ, ◌+◌, ◌*◌, ◌<◌, ◌≤◌, ◌⊎◌, ◌↔◌, List, [], ◌∷◌, length, get_or, set, take, Bool, true, false, ap, sym, subst, ◌∙◌, inl, inr, arith}
-use Rattle.std.specs.Prelude.{Contains, IsTrue}
-use Rattle.std.specs.FinSet.{FinSet, insert}
-use Rattle.std.specs.Ordering.{nat_cmp}
-use Rattle.std.proofs.Math.ListN.{length-set}
-use Rattle.std.proofs.Math.Nat.{mul-le-mul_right}
-use Rattle.std.proofs.Math.Seq.{take-length}
+use Rattle.std.proofs.Math.{ListN.length-set, Nat.mul-le-mul_right, Seq.take-length}
 use Rattle.std.proofs.lemmas.List.{get_or_default, get_or-set_other, get_or-set_same, length_push, take-append-le}
-use Rattle.std.proofs.lemmas.List.Quantifiers.{all_pairs_push}
-use Rattle.std.proofs.lemmas.List.Elements.{Contains-get_or}
-use Rattle.olap_base.specs.Graph.{Edge}
-use Rattle.olap_base.specs.Steps.{Climb}
-use Rattle.olap_bits.specs.Sets.{members}
-use Rattle.olap_bits.specs.declared.sets.CatSet.{CatSet}
-use Rattle.olap_graph.specs.Rows.{row}
-use Rattle.olap_trail.specs.Drawing.{AreBeyond, Drawing, IsAbove, IsBeyond, IsBypassed, IsCyclic, IsGrown, IsIn, IsNext, Joins}
-use Rattle.olap_trail.specs.Drawn.{AreTables}
-use Rattle.olap_graph.proofs.RowLemmas.{has_insert, row_other, row_read, row_same}
+use Rattle.std.proofs.lemmas.List.{Elements.Contains-get_or, Quantifiers.all_pairs_push}
+use Rattle.std.specs.{FinSet.{FinSet, insert}, Ordering.nat_cmp, Prelude.{Contains, IsTrue}}
+use Rattle.olap_base.specs.{Graph.Edge, Steps.Climb}
+use Rattle.olap_bits.specs.{Sets.members, declared.sets.CatSet.CatSet}
+use Rattle.olap_graph.{proofs.RowLemmas.{has_insert, row_other, row_read, row_same}, specs.Rows.row}
 use Rattle.olap_trail.proofs.StageLemmas.{AreCopied, stage_end}
 use Rattle.olap_trail.proofs.WalkLemmas.{climb_grown, cyclic_more, grows, joins_cases, joins_more, joins_new, more}
+use Rattle.olap_trail.specs.Drawing.{AreBeyond, Drawing, IsAbove, IsBeyond, IsBypassed, IsCyclic, IsGrown, IsIn, IsNext, Joins}
+use Rattle.olap_trail.specs.Drawn.{AreTables}
 
 -- ---- sets
 
@@ -44,24 +36,19 @@ module _ (es : List Edge) (c p : ℕ) where
     ]),
   )
 
-  -- where edges lead from the new edge's child
-  pub next_more : (s t : FinSet nat_cmp) → IsNext es c s → t ≡ insert s p → IsNext (more es c p) c t
-  next_more s t n e d = subst (λ u. IsIn u d ↔ Joins (more es c p) c d) (sym e) (
+  -- where edges lead from a category with the new edge
+  pub next_now : (x : ℕ) (s t : FinSet nat_cmp) → IsNext es x s
+      → ((x ≡ c) × (t ≡ insert s p)) ⊎ ((x ≢ c) × (t ≡ s)) → IsNext (more es c p) x t
+  next_now x s t n (inl w) d = rw w.1 (
     λ m. elim ((has_insert s p d).0 m) [
-      | inl q ↦ subst (λ y. Joins (more es c p) c y) q (joins_new es c p)
-      | inr i ↦ joins_more es c p c d ((n d).0 i)
+      | inl q ↦ rw (w.0, ← q) (joins_new es c p)
+      | inr i ↦ joins_more es c p x d ((n d).0 i)
     ],
-    λ j. (has_insert s p d).1 (elim (joins_cases es c p c d j) [
-      | inl k ↦ inr ((n d).1 k)
-      | inr q ↦ inl q.1
-    ]),
+    λ j. (has_insert s p d).1 (elim (joins_cases es c p x d j) [ inl k ↦ inr ((n d).1 k) | inr q ↦ inl q.1 ]),
   )
-
-  -- and from another category
-  pub next_same : (x : ℕ) (s : FinSet nat_cmp) → x ≢ c → IsNext es x s → IsNext (more es c p) x s
-  next_same x s ne n d = (
+  next_now x s t n (inr w) d = rw w.1 (
     λ m. joins_more es c p x d ((n d).0 m),
-    λ j. elim (joins_cases es c p x d j) [ inl k ↦ (n d).1 k | inr q ↦ absurd (ne q.0) ],
+    λ j. elim (joins_cases es c p x d j) [ inl k ↦ (n d).1 k | inr q ↦ absurd (w.0 q.0) ],
   )
 
 -- whether there is a cycle with the new edge: where there was none, by whether its parent led to its child
@@ -176,37 +163,27 @@ module _ {W : ℕ} {room set_room : ℕ} {es : List Edge} {place : ℕ} {rows pa
         few = omega (arith, full, size, marks);
         reserved = omega (arith, reserved, marks);
         size = let l = copied.same_length in omega (arith, fits, at_end, l, count);
-        reserved_sets = subst (λ n. n ≤ set_room) (λ i. sym marks i * sym count i) t.reserved_sets;
-        place =
-            let q = t.place in
-            let e : (length es + 1) * length parents ≡ length es * length parents + length parents = grind arith in
-            (let s : new_place ≡ (length es + 1) * length parents = omega (arith, at_end, q, e) in s)
-            ∙ (λ i. sym size i * sym count i);
+        reserved_sets = rw (marks, count) t.reserved_sets;
+        place = rw (size, count) (let e : (length es + 1) * n ≡ length es * n + n = grind arith in
+            omega (arith, at_end, t.place, e));
         within = λ x y j. elim (joins_cases es c p x y j) [
-          | inl k ↦ let w = t.within x y k in (omega (arith, w.0, count), omega (arith, w.1, count))
-          | inr q ↦ (let e = q.0 in omega (arith, hc, count, e), let e = q.1 in omega (arith, hp, count, e))
+          | inl k ↦ rw count (t.within x y k)
+          | inr q ↦ rw (count, q.0, ← q.1) (hc, hp)
         ];
         differ =
             all_pairs_push ◌≢◌ es (record { child = c; parent = p }) t.differ
             (λ k d h e. new (subst (λ z. Contains es z) e (Contains-get_or es k d h)));
-        rows = λ k h. subst (λ n. AreBeyond (take k (more es c p)) n (k * n) new_rows) (sym count) (stages k h);
-        parents = λ x h. elim (same_or_not x c) [
-          | inl e ↦ subst (λ y. IsNext (more es c p) y (row (set parents c r) y)) (sym e)
-              (subst (λ s. IsNext (more es c p) c s) (sym (row_same parents c r hc))
-              (next_more es c p (row parents c) (members r) (t.parents c hc) own))
-          | inr n ↦ subst (λ s. IsNext (more es c p) x s) (sym (row_other parents c x r n))
-              (next_same es c p x (row parents x) n (t.parents x (omega (arith, h, count))))
-        ];
+        rows = λ k h. rw count (stages k h);
+        parents = λ x h. next_now es c p x (row parents x) _ (t.parents x (omega (arith, h, count))) (
+            elim (same_or_not x c) [
+              | inl e ↦ inl (e, rw (e, row_same parents c r hc) own)
+              | inr m ↦ inr (m, row_other parents c x r m)
+            ]);
         cycles = λ k h. elim (upto k (length es) (omega (arith, h, size))) [
           | inl l ↦
-              subst (λ b. (b ≡ true) ↔ IsCyclic (take k (more es c p)))
-              (sym (get_or-set_other cycles stage k closes false (omega (arith, l, next))))
-              (subst (λ fs. (get_or cycles k false ≡ true) ↔ IsCyclic fs) (sym (before k l)) (t.cycles k l))
+              rw (get_or-set_other cycles stage k closes false (omega (arith, l, next)), before k l) (t.cycles k l)
           | inr e ↦
-              subst (λ b. (b ≡ true) ↔ IsCyclic (take k (more es c p)))
-              (sym (ap (λ j. get_or (set cycles stage closes) j false) (e ∙ sym next)
-              ∙ get_or-set_same cycles stage closes false (omega (arith, next, full))))
-              (subst (λ fs. IsTrue closes ↔ IsCyclic fs) (sym (whole k e)) cyclic)
+              rw (whole k e, e ∙ sym next, get_or-set_same cycles stage closes false (omega (arith, next, full))) cyclic
         ];
       }
     where
@@ -228,24 +205,19 @@ module _ {W : ℕ} {room set_room : ℕ} {es : List Edge} {place : ℕ} {rows pa
       whole : (k : ℕ) → k ≡ length es + 1 → take k (more es c p) ≡ more es c p
       whole k e = ap (λ j. take j (more es c p)) (e ∙ sym size) ∙ take-length (more es c p)
 
-      stages : (k : ℕ) → k ≤ length (more es c p)
-          → AreBeyond (take k (more es c p)) (length parents) (k * length parents) new_rows
+      n : ℕ
+      n = length parents
+
+      stages : (k : ℕ) → k ≤ length (more es c p) → AreBeyond (take k (more es c p)) n (k * n) new_rows
       stages k h = elim (upto k (length es) (omega (arith, h, size))) [
         | inl l ↦ λ x i.
-            let q = t.place in
-            let m : k * length parents ≤ length es * length parents = mul-le-mul_right (length parents) l in
-            let kept = copied.kept (k * length parents + x) (omega (arith, m, q, i)) in
-            subst (λ s. IsBeyond (take k (more es c p)) x s) (sym kept)
-            (subst (λ fs. IsBeyond fs x (row rows (k * length parents + x))) (sym (before k l)) (t.rows k l x i))
+            let m : k * n ≤ length es * n = mul-le-mul_right n l in
+            rw (copied.kept (k * n + x) (omega (arith, m, t.place, i)), before k l) (t.rows k l x i)
         | inr e ↦ λ x i.
-            let q = t.place in
-            let f : (length es + 1) * length parents ≡ length es * length parents + length parents = grind arith in
-            let g : k * length parents ≡ (length es + 1) * length parents = ap (λ j. j * length parents) e in
-            let at : k * length parents + x ≡ place + length parents + x = omega (arith, q, f, g) in
-            subst (λ fs. IsBeyond fs x (row new_rows (k * length parents + x))) (sym (whole k e))
-            (subst (λ j. IsBeyond (more es c p) x (row new_rows j)) (sym at)
-            (beyond_more es c p x (row rows (place + x)) through (row new_rows (place + length parents + x))
-            (beyond_top x i) above (copied.grown x i)))
+            let f : (length es + 1) * n ≡ length es * n + n = grind arith in
+            let at : k * n + x ≡ place + n + x = omega (arith, t.place, f, ap (λ j. j * n) e) in
+            rw (whole k e, at) (beyond_more es c p x (row rows (place + x)) through (row new_rows (place + n + x))
+            (beyond_top x i) above (copied.grown x i))
       ]
 
 -- what is below a number is below an equal one

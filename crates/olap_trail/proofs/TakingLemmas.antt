@@ -1,22 +1,14 @@
 -- The tables of no edges, and after the last edge is taken back.
-use Rattle.std.proofs.Common.{◌≡◌, ◌≢◌, ℕ, zero, suc, ◌+◌, ◌*◌, ◌-◌, ◌<◌, ◌≤◌, ◌⊎◌, ◌↔◌, List, [], ◌∷◌, length, get_or, set, take, replicate, Bool, true, false, refl, ap, sym, subst, ◌∙◌, inl, inr, arith}
-use Rattle.std.specs.FinSet.{FinSet, empty, remove}
-use Rattle.std.specs.Ordering.{nat_cmp}
-use Rattle.std.proofs.Math.ListN.{get_or-append, length-set}
-use Rattle.std.proofs.Math.Seq.{get_or-append_seam}
+use Rattle.std.proofs.Common.{◌≡◌, ◌≢◌, ℕ, zero, suc, ◌+◌, ◌*◌, ◌-◌, ◌<◌, ◌≤◌, ◌⊎◌, List, [], ◌∷◌, length, set, take, replicate, Bool, true, false, refl, ap, sym, subst, ◌∙◌, inl, inr, arith}
+use Rattle.std.proofs.Math.{ListN.{get_or-append, length-set}, Seq.get_or-append_seam}
 use Rattle.std.proofs.lemmas.List.{length-replicate, length_push, take-append-le, take_all}
-use Rattle.olap_base.proofs.ListLemmas.{Contains-nil, none_marked}
-use Rattle.olap_base.specs.Graph.{Edge}
-use Rattle.olap_base.specs.Steps.{Climb, Climb.climb}
-use Rattle.olap_bits.specs.CatSet.{IsOfWidth}
-use Rattle.olap_bits.specs.Sets.{members}
-use Rattle.olap_bits.specs.declared.sets.CatSet.{CatSet}
-use Rattle.olap_graph.specs.Rows.{row}
-use Rattle.olap_trail.specs.Drawing.{AreBeyond, IsCyclic, IsIn, IsNext, Joins}
-use Rattle.olap_trail.specs.Drawn.{AreTables}
-use Rattle.olap_graph.proofs.RowLemmas.{row_other, row_same}
+use Rattle.std.specs.{FinSet.{FinSet, empty, remove}, Ordering.nat_cmp}
+use Rattle.olap_base.{proofs.ListLemmas.{Contains-nil, none_marked}, specs.Graph.Edge, specs.Steps.{Climb, Climb.climb}}
+use Rattle.olap_bits.specs.{CatSet.IsOfWidth, Sets.members, declared.sets.CatSet.CatSet}
+use Rattle.olap_graph.{proofs.RowLemmas.{row_other, row_same}, specs.Rows.row}
 use Rattle.olap_trail.proofs.SetLemmas.{in_without, not_in_empty}
 use Rattle.olap_trail.proofs.WalkLemmas.{joins_cases, joins_more, joins_new, more}
+use Rattle.olap_trail.specs.{Drawing.{IsIn, IsNext, Joins}, Drawn.AreTables}
 
 -- ---- no edges
 
@@ -69,19 +61,17 @@ tables_none {W} room set_room n stages x rows parents cycles width wide e some r
 -- ---- the last edge is taken back
 
 module _ (es : List Edge) (c p : ℕ) where
-  -- where edges lead from the last edge's child
-  next_less : (s u : FinSet nat_cmp) → IsNext (more es c p) c s → u ≡ remove s p → (Joins es c p → ⊥) → IsNext es c u
-  next_less s u n e new d = subst (λ v. IsIn v d ↔ Joins es c d) (sym e) (
+  -- where edges lead from a category without the last edge
+  next_less : (x : ℕ) (s u : FinSet nat_cmp) → IsNext (more es c p) x s → (Joins es c p → ⊥)
+      → ((x ≡ c) × (u ≡ remove s p)) ⊎ ((x ≢ c) × (u ≡ s)) → IsNext es x u
+  next_less x s u n new (inl w) d = rw w.1 (
     λ m.
-        let w = (in_without s p d).0 m in
-        elim (joins_cases es c p c d ((n d).0 w.1)) [ inl k ↦ k | inr q ↦ absurd (w.0 q.1) ],
-    λ j. (in_without s p d).1 (λ q. new (subst (λ y. Joins es c y) (sym q) j), (n d).1 (joins_more es c p c d j)),
+        let v = (in_without s p d).0 m in
+        elim (joins_cases es c p x d ((n d).0 v.1)) [ inl k ↦ k | inr q ↦ absurd (v.0 q.1) ],
+    λ j. (in_without s p d).1 (λ q. new (rw (← w.0, q) j), (n d).1 (joins_more es c p x d j)),
   )
-
-  -- and from another category
-  next_still : (x : ℕ) (s : FinSet nat_cmp) → x ≢ c → IsNext (more es c p) x s → IsNext es x s
-  next_still x s ne n d = (
-    λ m. elim (joins_cases es c p x d ((n d).0 m)) [ inl k ↦ k | inr q ↦ absurd (ne q.0) ],
+  next_less x s u n new (inr w) d = rw w.1 (
+    λ m. elim (joins_cases es c p x d ((n d).0 m)) [ inl k ↦ k | inr q ↦ absurd (w.0 q.0) ],
     λ j. (n d).1 (joins_more es c p x d j),
   )
 
@@ -122,33 +112,22 @@ module _ {W : ℕ} {room set_room place : ℕ} (es : List Edge) (c p : ℕ) {row
     few = let f = t.few in omega (arith, f, size);
     reserved = reserved;
     size = let s = t.size in omega (arith, s, back, count);
-    reserved_sets = subst (λ n. n ≤ set_room) (λ i. length cycles * sym count i) t.reserved_sets;
-    place =
-        let q = t.place in
-        let g : length (more es c p) * length parents ≡ (length es + 1) * length parents =
-        ap (λ j. j * length parents) size in
+    reserved_sets = rw count t.reserved_sets;
+    place = rw count (let q = t.place in let g = ap (λ j. j * length parents) size in
         let e : (length es + 1) * length parents ≡ length es * length parents + length parents = grind arith in
-        (let s : new_place ≡ length es * length parents = omega (arith, back, q, g, e) in s)
-        ∙ (λ i. length es * sym count i);
-    within = λ x y j.
-        let w = t.within x y (joins_more es c p x y j) in
-        (omega (arith, w.0, count), omega (arith, w.1, count));
+        omega (arith, back, q, g, e));
+    within = λ x y j. rw count (t.within x y (joins_more es c p x y j));
     differ = λ i j d l h. λ q.
         t.differ i j d l (omega (arith, h, size))
         (get_or-append es ((record { child = c; parent = p }) ∷ []) d i (omega (arith, l, h)) ∙ q
         ∙ sym (get_or-append es ((record { child = c; parent = p }) ∷ []) d j h));
-    rows = λ k h. subst (λ n. AreBeyond (take k es) n (k * n) rows) (sym count)
-        (subst (λ fs. AreBeyond fs (length parents) (k * length parents) rows) (before k h)
-        (t.rows k (omega (arith, h, size))));
-    parents = λ x h. elim (same_or_not x c) [
-      | inl e ↦ subst (λ y. IsNext es y (row (set parents c r) y)) (sym e)
-          (subst (λ s. IsNext es c s) (sym (row_same parents c r last_within.0))
-          (next_less es c p (row parents c) (members r) (t.parents c last_within.0) taken new_last))
-      | inr n ↦ subst (λ s. IsNext es x s) (sym (row_other parents c x r n))
-          (next_still es c p x (row parents x) n (t.parents x (omega (arith, h, count))))
-    ];
-    cycles = λ k h.
-        subst (λ fs. (get_or cycles k false ≡ true) ↔ IsCyclic fs) (before k h) (t.cycles k (omega (arith, h, size)));
+    rows = λ k h. rw (count, ← before k h) (t.rows k (omega (arith, h, size)));
+    parents = λ x h. next_less es c p x (row parents x) _ (t.parents x (omega (arith, h, count))) new_last (
+        elim (same_or_not x c) [
+          | inl e ↦ inl (e, rw (e, row_same parents c r last_within.0) taken)
+          | inr n ↦ inr (n, row_other parents c x r n)
+        ]);
+    cycles = λ k h. rw (← before k h) (t.cycles k (omega (arith, h, size)));
   }
     where
       count : length (set parents c r) ≡ length parents

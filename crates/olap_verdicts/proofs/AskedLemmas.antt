@@ -1,20 +1,12 @@
 -- Each question that an order of this family comes to is about a valid schema.
-use Rattle.std.proofs.Common.{ℕ, List, [], None, drop}
-use Rattle.std.specs.Prelude.{codes, if◌then◌else◌}
-use Rattle.std.specs.Str.{bytes_eq}
+use Rattle.std.{proofs.Common.{ℕ, List, [], None, drop}, specs.Prelude.{codes, if◌then◌else◌}, specs.Str.bytes_eq}
 use Rattle.olap_base.specs.Limits.{most_certificate_bytes}
-use Rattle.olap_order.specs.Arguments.{at_least, word}
-use Rattle.olap_order.specs.Behind.{categories_from}
-use Rattle.olap_order.specs.Order.{Done, and_then}
-use Rattle.olap_order.specs.Steps.{category_word, text_file}
 use Rattle.olap_order.proofs.Coming.{Comes, MayCome, asked, may_at_least, may_either, no_order, pass}
-use Rattle.olap_order.proofs.ComingSteps.{under_schema}
-use Rattle.olap_proof.specs.declared.forms.Form.{Form}
-use Rattle.olap_proof.specs.declared.forms.Form.TheVariants.{Long, Short}
+use Rattle.olap_order.{proofs.ComingSteps.under_schema, specs.Arguments.{at_least, word}, specs.Behind.categories_from}
+use Rattle.olap_order.specs.{Order.{Done, and_then}, Steps.{category_word, text_file}}
+use Rattle.olap_proof.specs.declared.forms.Form.{Form, TheVariants.{Long, Short}}
 use Rattle.olap_schema_text.specs.Laws.{ReadSchemasAreReadable}
-use Rattle.olap_verdicts.specs.Commands.{order_named, verify_order}
-use Rattle.olap_verdicts.specs.Laws.{IsAsked}
-use Rattle.olap_verdicts.specs.Questions.{ByCertificate}
+use Rattle.olap_verdicts.specs.{Commands.{order_named, verify_order}, Laws.IsAsked, Questions.ByCertificate}
 use Rattle.olap_verdicts.specs.Seen.{verify_under}
 
 module _ (readable : ReadSchemasAreReadable) where

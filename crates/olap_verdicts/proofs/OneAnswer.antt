@@ -1,16 +1,11 @@
 -- There is one answer at most to a question about a text, and where it is yes the target is summarizable.
-use Rattle.std.proofs.Common.{◌≡◌, ◌<◌, ◌^◌, ◌++◌, ◌∙◌, ℕ, List, length, ap, sym, inl, inr, arith}
+use Rattle.std.{proofs.Common.{◌≡◌, ◌<◌, ◌^◌, ◌++◌, ◌∙◌, ℕ, List, length, ap, sym, inl, inr, arith}, specs.Fmt.decimal}
 use Rattle.std.specs.Prelude.{codes}
-use Rattle.std.specs.Fmt.{decimal}
-use Rattle.olap_ast.specs.Schema.{Schema}
-use Rattle.olap_ast.specs.Summarizable.{not_by_one}
-use Rattle.olap_ast.specs.Valid.{IsValidSchema}
+use Rattle.olap_ast.specs.{Schema.Schema, Summarizable.not_by_one, Valid.IsValidSchema}
 use Rattle.olap_order.specs.Outputs.{line}
 use Rattle.olap_proof.specs.Certificates.{CertificatesAreRight}
-use Rattle.olap_proof.specs.Verifying.{IsCertificateFor, IsFirstWrongFor, VerdictsAreOne}
-use Rattle.olap_proof.specs.declared.forms.Form.{Form}
-use Rattle.olap_verdicts.specs.Laws.{AcceptedIsSummarizable, AnswersAreOne}
-use Rattle.olap_verdicts.specs.Questions.{ByCertificate}
+use Rattle.olap_proof.specs.{Verifying.{IsCertificateFor, IsFirstWrongFor, VerdictsAreOne}, declared.forms.Form.Form}
+use Rattle.olap_verdicts.specs.{Laws.{AcceptedIsSummarizable, AnswersAreOne}, Questions.ByCertificate}
 
 module _ (one : VerdictsAreOne) where
   few : (s : Schema) → IsValidSchema s → length s.constraints < 2 ^ 64

@@ -1,15 +1,9 @@
 -- The reply to a text that is no certificate.
-use Rattle.std.proofs.Common.{◌≡◌, ◌++◌, ℕ, List, Ok, inr, subst, sym}
-use Rattle.std.specs.Prelude.{codes}
-use Rattle.std.specs.Fmt.{decimal}
+use Rattle.std.{proofs.Common.{◌≡◌, ◌++◌, ℕ, List, Ok, inr, subst, sym}, specs.Fmt.decimal, specs.Prelude.codes}
 use Rattle.olap_ast.specs.Schema.{Schema}
-use Rattle.olap_order.specs.Judged.{IsVerdict, Replies}
-use Rattle.olap_order.specs.Order.{Done}
-use Rattle.olap_order.specs.Outputs.{line}
-use Rattle.olap_order.specs.declared.replies.Reply.{Reply}
+use Rattle.olap_order.specs.{Judged.{IsVerdict, Replies}, Order.Done, Outputs.line, declared.replies.Reply.Reply}
 use Rattle.olap_order.specs.declared.status.Status.TheVariants.{No}
-use Rattle.olap_proof.specs.Verifying.{IsFirstWrongFor}
-use Rattle.olap_proof.specs.declared.forms.Form.{Form}
+use Rattle.olap_proof.specs.{Verifying.IsFirstWrongFor, declared.forms.Form.Form}
 use Rattle.olap_verdicts.specs.Questions.{ByCertificate, IsAnswer}
 
 -- the first line that is wrong is told

@@ -1,14 +1,9 @@
 -- Each question about a text, of a valid schema, has an answer.
-use Rattle.std.proofs.Common.{◌++◌, refl, inl, inr}
-use Rattle.std.specs.Prelude.{codes}
-use Rattle.std.specs.Fmt.{decimal}
-use Rattle.olap_ast.specs.Questions.{SourcesHaveCandidates}
-use Rattle.olap_ast.specs.Summarizable.{not_by_one}
-use Rattle.olap_order.specs.Outputs.{line}
-use Rattle.olap_order.specs.declared.status.Status.TheVariants.{Yes, No}
+use Rattle.std.{proofs.Common.{◌++◌, refl, inl, inr}, specs.Fmt.decimal, specs.Prelude.codes}
+use Rattle.olap_ast.specs.{Questions.SourcesHaveCandidates, Summarizable.not_by_one}
+use Rattle.olap_order.specs.{Outputs.line, declared.status.Status.TheVariants.{Yes, No}}
 use Rattle.olap_proof.specs.Judged.{TextsAreJudged}
-use Rattle.olap_verdicts.specs.Laws.{AnswersExist}
-use Rattle.olap_verdicts.specs.Questions.{ByCertificate}
+use Rattle.olap_verdicts.specs.{Laws.AnswersExist, Questions.ByCertificate}
 
 -- a question about a valid schema has an answer
 pub answers_exist : SourcesHaveCandidates → TextsAreJudged → AnswersExist

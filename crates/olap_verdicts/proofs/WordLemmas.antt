@@ -1,7 +1,6 @@
 -- A command isn't what is answered by the usage.
 use Rattle.olap_order.specs.Families.{IsNoUsage}
-use Rattle.olap_verdicts.specs.Seen.{seen}
-use Rattle.olap_verdicts.specs.declared.words.Command.{Command}
+use Rattle.olap_verdicts.specs.{Seen.seen, declared.words.Command.Command}
 use Rattle.olap_verdicts.specs.declared.words.Command.TheVariants as code
 
 -- the order of a command isn't the usage

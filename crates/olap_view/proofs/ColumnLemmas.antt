@@ -1,10 +1,9 @@
 -- Columns, member by member and category by category.
 use Rattle.std.proofs.Common.{◌≡◌, ◌≢◌, ℕ, ◌+◌, ◌<◌, List, [], ◌∷◌, ◌++◌, length, get_or, refl, ap, sym, subst, ◌∙◌, arith, length-append}
-use native.Mathlib.Decide.{ℕ_discrete}
-use Rattle.std.proofs.Math.ListN.{get_or-append}
-use Rattle.std.proofs.Math.Seq.{get_or-append_seam}
+use Rattle.std.proofs.Math.{ListN.get_or-append, Seq.get_or-append_seam}
 use Rattle.olap_base.specs.Instance.{Instance}
 use Rattle.olap_view.specs.Columns.{AreColumns, Ascent, IsTold, Tells, ascent}
+use native.Mathlib.Decide.{ℕ_discrete}
 
 -- no cell
 pub told_start : (i : Instance) (c : ℕ) → IsTold i c 0 []

@@ -1,21 +1,16 @@
 -- Rows at members of a category, in file order.
 --     each-in-order they stand so
 use Rattle.std.proofs.Common.{◌≡◌, ◌≢◌, ◌+◌, ◌<◌, ◌≤◌, ◌==◌, ◌∷◌, ◌∙◌, [], ℕ, zero, suc, Bool, true, false, cond, List, length, get_or, map, filter, filter_map, Option, Some, None, IfSome, option_map, refl, sym, ap, subst, inl, inr, arith}
-use Rattle.std.specs.Prelude.{All, AllPairs, Contains}
-use Rattle.std.specs.List.{cons_option, range_with_len}
-use Rattle.std.proofs.lemmas.Bool.Decides.{Decides-eqb, eqb_tells, nat_tests}
-use Rattle.std.proofs.lemmas.List.{get_or-map, length-map}
+use Rattle.std.proofs.lemmas.{Bool.Decides.{Decides-eqb, eqb_tells, nat_tests}, List.{get_or-map, length-map}}
 use Rattle.std.proofs.lemmas.List.Elements.{All-cons, All-contains, All-map, All-nil, Contains-get_or}
-use Rattle.std.proofs.lemmas.List.Kept.{AllPairs-cons, AllPairs-filter}
-use Rattle.olap_base.specs.Deciding.{contains_cons}
-use Rattle.olap_base.specs.Instance.{Instance, IsMemberOf, category_of}
-use Rattle.olap_base.specs.Limits.{most_views}
-use Rattle.olap_base.specs.Summaries.{Summary}
-use Rattle.olap_base.specs.Views.{Row, View, members_of, row_at}
+use Rattle.std.{proofs.lemmas.List.Kept.{AllPairs-cons, AllPairs-filter}, specs.List.{cons_option, range_with_len}}
+use Rattle.std.specs.Prelude.{All, AllPairs, Contains}
 use Rattle.olap_base.proofs.ListLemmas.{Contains-from_filter, Contains-from_range_at, contains_head, filter_map_same}
+use Rattle.olap_base.{proofs.ViewLemmas.members_of_is, specs.Deciding.contains_cons}
+use Rattle.olap_base.specs.{Instance.{Instance, IsMemberOf, category_of}, Limits.most_views, Summaries.Summary}
+use Rattle.olap_base.specs.Views.{Row, View, members_of, row_at}
 use Rattle.olap_view.specs.Stores.{IsInFileOrder, IsStore, row_in, summary_in}
 pub use Rattle.olap_view.specs.Tables.{view_by}
-use Rattle.olap_base.proofs.ViewLemmas.{members_of_is}
 
 -- the rows of these members, if there are any
 abbrev pub rows_by : (ℕ → Option Summary) → List ℕ → List (Row ℕ)
@@ -195,6 +190,4 @@ back-from p n (suc k) (r ∷ rows) a o q = elim (eqb_tells r.at n) [
 -- rows in file order are those of the function that finds each at its member
 pub rows-back : (i : Instance) (v : View ℕ ℕ) → IsInFileOrder i v
     → rows_by (summary_in v.rows) (members_of i v.target) ≡ v.rows
-rows-back i v o = back-from (λ y. category_of i y == v.target) 0 (length i) v.rows (λ k d l. omega arith) o.ascend
-    (λ k d l. let m = o.members k d l in
-    (omega (arith, m.0), (Decides-eqb (category_of i (get_or v.rows k d).at) v.target).1 m.1))
+rows-back i v o = grind (arith, back-from, Decides-eqb)

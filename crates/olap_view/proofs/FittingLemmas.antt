@@ -1,20 +1,13 @@
 -- The rows of a direct view are within the bounds of stored rows.
-use Rattle.std.proofs.Common.{ℕ, ◌≤◌, List, [], ◌∷◌, length, arith, Option, Some, None, IfSome, w64}
-use Rattle.std.specs.Prelude.{All, filter, filter_map}
-use Rattle.std.specs.List.{cons_option}
-use mir.Val.{SFits}
-use Rattle.std.proofs.lemmas.Int.{ints}
-use Rattle.std.proofs.lemmas.List.{length-map}
-use Rattle.std.proofs.lemmas.List.Elements.{All-cons, All-filter, All-map, All-nil}
-use Rattle.olap_base.specs.Reaching.{reaches}
-use Rattle.olap_base.specs.Instance.{Instance}
-use Rattle.olap_base.specs.Limits.{most_count}
-use Rattle.olap_base.specs.Summaries.{Summary}
+use Rattle.std.proofs.{Common.{ℕ, ◌≤◌, List, [], ◌∷◌, length, arith, Option, Some, None, IfSome, w64}, lemmas.Int.ints}
+use Rattle.std.proofs.lemmas.List.{length-map, Elements.{All-cons, All-filter, All-map, All-nil}}
+use Rattle.std.specs.{List.cons_option, Prelude.{All, filter, filter_map}}
+use Rattle.olap_base.{proofs.ListLemmas.length-filter, specs.Instance.Instance, specs.Limits.most_count}
+use Rattle.olap_base.specs.{Reaching.reaches, Summaries.Summary}
 use Rattle.olap_base.specs.Views.{Fact, direct_rows, members, members_of, row_at, total_of_facts, values_at}
-use Rattle.olap_view.specs.Bounds.{IsOfValues}
+use Rattle.olap_view.{proofs.SummaryLemmas.{of_values_more, total_of_value_list}, specs.Bounds.IsOfValues}
 use Rattle.olap_view.specs.Stores.{IsStored}
-use Rattle.olap_view.proofs.SummaryLemmas.{of_values_more, total_of_value_list}
-use Rattle.olap_base.proofs.ListLemmas.{length-filter}
+use mir.Val.{SFits}
 
 -- what is of some values is of more
 of_values : (o : Option Summary) (n k : ℕ) → n ≤ k → IfSome o (IsOfValues n) → IfSome o (IsOfValues k)

@@ -2,11 +2,9 @@
 use Rattle.std.proofs.Common.{◌≡◌, ◌<◌, ◌∙◌, ℕ, List, [], length, get_or, map, Some, sym, ap, arith, zero-add}
 use Rattle.std.proofs.lemmas.List.{get_or-map, length-map}
 use Rattle.olap_base.specs.Graph.{Graph, IsCategory, IsHierarchy}
-use Rattle.olap_base.specs.Instance.{Instance, IsInstance, IsMember, member_at, nobody}
-use Rattle.olap_base.specs.Naming.{place_of}
+use Rattle.olap_base.specs.{Instance.{Instance, IsInstance, IsMember, member_at, nobody}, Naming.place_of}
 use Rattle.olap_graph.specs.Lookups.{category_named, name_of_category}
-use Rattle.olap_instance.proofs.CategoryNames.{named-category}
-use Rattle.olap_instance.proofs.PlaceFacts.{first-at}
+use Rattle.olap_instance.proofs.{CategoryNames.named-category, PlaceFacts.first-at}
 
 -- a member is found by its id
 pub member-found : (i : Instance) → IsInstance i → (m : ℕ) → IsMember i m

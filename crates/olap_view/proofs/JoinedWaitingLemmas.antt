@@ -2,18 +2,12 @@
 --     joined_room                             no sum wraps
 use Rattle.std.proofs.Common.{◌≡◌, ℕ, ◌+◌, ◌*◌, ◌<◌, length, get_or, take, Bool, true, false, cond, refl, sym, ap, subst, ◌∙◌, Option, Some, None, IfSome, arith}
 use Rattle.std.specs.Option.{option_map}
-use Rattle.olap_base.specs.Instance.{Instance}
-use Rattle.olap_base.specs.Limits.{most_count}
-use Rattle.olap_base.specs.Reaching.{reaches}
-use Rattle.olap_base.specs.Summaries.{Summary, ◌⊕◌}
-use Rattle.olap_base.proofs.TotalLemmas.{⊕_assoc, ⊕_none}
-use Rattle.olap_view.specs.Seen.{summary_of}
-use Rattle.olap_view.specs.SummaryTables.{Summarized, stands_at}
-use Rattle.olap_view.specs.Tables.{IsAmong, when}
+use Rattle.olap_base.{proofs.TotalLemmas.{⊕_assoc, ⊕_none}, specs.Instance.Instance, specs.Limits.most_count}
+use Rattle.olap_base.specs.{Reaching.reaches, Summaries.{Summary, ◌⊕◌}}
+use Rattle.olap_view.proofs.{TallyLemmas.among, WaitingLemmas.{waiting_taken, within_cond, within_joined, within_more}}
+use Rattle.olap_view.specs.{Seen.summary_of, SummaryTables.{Summarized, stands_at}, Tables.{IsAmong, when}}
 use Rattle.olap_view.specs.Tallies.{IsTableWithin, IsWaitingWithin, IsWithin, Waiting, waiting_at}
 use Rattle.olap_view.specs.declared.summaries.Summary as told
-use Rattle.olap_view.proofs.TallyLemmas.{among}
-use Rattle.olap_view.proofs.WaitingLemmas.{waiting_taken, within_cond, within_joined, within_more}
 
 -- what waits at each of the first n members is joined to what stands in t at the members that it reaches
 pub record HasJoined (t u : Summarized) (ws : Waiting) (n : ℕ) : Type 0 where
@@ -25,12 +19,7 @@ pub record HasJoined (t u : Summarized) (ws : Waiting) (n : ℕ) : Type 0 where
 
 -- of no member
 pub joined_start : (t : Summarized) (ws : Waiting) → IsTableWithin most_count t → HasJoined t t ws 0
-joined_start t ws h = record {
-  instance = refl;
-  categories = refl;
-  at = λ y m. sym (⊕_none (stands_at t y));
-  small = λ y m. within_more most_count ((0 + 1) * most_count) (stands_at t y) (omega arith) (h y m);
-}
+joined_start t ws h = search (⊕_none, within_more)
 
 module _ (t u : Summarized) (ws : Waiting) (n : ℕ) (h : n < length ws) (j : HasJoined t u ws n) where
   -- what waits at one member more, or nothing

@@ -1,24 +1,17 @@
 -- What a record of a text of stored views says, check by check.
 --     no-view, row-twice, row-is  a row's record
 use Rattle.std.proofs.Common.{◌≡◌, ◌↔◌, ◌<◌, ◌≤◌, ◌==◌, ◌∙◌, ℕ, Bool, true, false, not, List, length, Option, Some, None, IsTrue, is_some, is_none, unwrap_or, if◌then◌else◌, nat_le, refl, sym, ap, subst, arith}
-use Rattle.std.specs.Prelude.{Contains}
-use Rattle.std.specs.Bool.{one_answer}
-use Rattle.std.specs.List.{list_any}
-use Rattle.std.specs.Option.{option_map}
-use Rattle.std.proofs.lemmas.Bool.Decides.{nat_tests}
-use Rattle.olap_base.specs.Graph.{Graph}
-use Rattle.olap_base.specs.Instance.{Instance, category_of}
-use Rattle.olap_base.specs.Limits.{most_views}
-use Rattle.olap_base.specs.Summaries.{Summary}
-use Rattle.olap_base.proofs.ListLemmas.{list_any_is}
+use Rattle.std.{proofs.lemmas.Bool.Decides.nat_tests, specs.Bool.one_answer, specs.List.list_any}
+use Rattle.std.specs.{Option.option_map, Prelude.Contains}
+use Rattle.olap_base.{proofs.ListLemmas.list_any_is, specs.Graph.Graph, specs.Instance.{Instance, category_of}}
+use Rattle.olap_base.specs.{Limits.most_views, Summaries.Summary}
 use Rattle.olap_view.specs.StoreReading.{IsRowFor, IsStoredAt, Record, Tells}
-use Rattle.olap_view.specs.StoredRows.{begun_in, stored_at}
 use Rattle.olap_view.specs.StoreText.{beginning_fault, begun, category_number, is_beginning, is_row_of, row_fault, summary_read}
-use Rattle.olap_instance.specs.Members.{member_named, member_number}
-use Rattle.olap_view.specs.declared.kinds.StoreKind.{StoreKind}
-use Rattle.olap_view.specs.declared.kinds.StoreKind.TheVariants as kind
-use Rattle.olap_records.specs.Faults.{field}
+use Rattle.olap_view.specs.{StoredRows.{begun_in, stored_at}, declared.kinds.StoreKind.StoreKind}
 use Rattle.olap_view.specs.declared.stored_rows.StoredRows.{StoredRows}
+use Rattle.olap_instance.specs.Members.{member_named, member_number}
+use Rattle.olap_records.specs.Faults.{field}
+use Rattle.olap_view.specs.declared.kinds.StoreKind.TheVariants as kind
 
 -- the test for c among categories tells whether they contain it
 among-is : (cs : List ℕ) (c : ℕ) → IsTrue (list_any (λ d. d == c) cs) ↔ Contains cs c

@@ -1,22 +1,13 @@
 -- Rows of views that are joined.
-use Rattle.std.proofs.Common.{◌≡◌, ℕ, ◌*◌, ◌≤◌, List, [], ◌∷◌, ◌++◌, length, map, Bool, true, false, cond, ap, sym, subst, ◌∙◌, arith, Option, Some, None, IfSome}
+use Rattle.std.proofs.Common.{◌≡◌, ℕ, ◌*◌, ◌≤◌, List, [], ◌∷◌, ◌++◌, length, sym, subst, arith, Option, Some, None, IfSome}
+use Rattle.std.proofs.lemmas.List.{append-nil, map-append, Elements.{All-filter, filter-append}}
 use Rattle.std.specs.Prelude.{All, filter}
-use Rattle.std.proofs.lemmas.List.{append-nil, map-append}
-use Rattle.std.proofs.lemmas.List.Elements.{All-filter, filter-append}
-use Rattle.olap_base.specs.Reaching.{reaches}
-use Rattle.olap_base.specs.Instance.{Instance}
-use Rattle.olap_base.specs.Limits.{most_count, most_members, most_sum, most_views}
-use Rattle.olap_base.specs.Summaries.{Summary, total, ◌⊕◌}
-use Rattle.olap_base.specs.Views.{Row}
-use Rattle.olap_base.proofs.TotalLemmas.{total_push, ⊕_none}
-use Rattle.olap_view.specs.Bounds.{IsJoinable, IsUpTo}
-use Rattle.olap_view.specs.Merging.{AreMerged, total_of_rows}
-use Rattle.olap_view.specs.Stores.{IsStored}
-use Rattle.olap_view.specs.SummaryTables.{Summarized, stands_at}
-use Rattle.olap_view.specs.Tables.{IsAmong, when}
-use Rattle.olap_view.proofs.SummaryLemmas.{joinable, stored_up_to, total_of_stored}
-use Rattle.olap_view.proofs.TallyLemmas.{among}
-use Rattle.olap_base.proofs.ListLemmas.{length-filter}
+use Rattle.olap_base.{proofs.ListLemmas.length-filter, proofs.TotalLemmas.{total_push, ⊕_none}, specs.Instance.Instance}
+use Rattle.olap_base.specs.{Limits.{most_count, most_members, most_sum, most_views}, Reaching.reaches}
+use Rattle.olap_base.specs.{Summaries.{Summary, ◌⊕◌}, Views.Row}
+use Rattle.olap_view.proofs.{SummaryLemmas.{joinable, stored_up_to, total_of_stored}, TallyLemmas.among}
+use Rattle.olap_view.specs.{Bounds.{IsJoinable, IsUpTo}, Merging.{AreMerged, total_of_rows}, Stores.IsStored}
+use Rattle.olap_view.specs.{SummaryTables.{Summarized, stands_at}, Tables.{IsAmong, when}}
 
 -- a stored row may be joined
 pub stored_small : (r : Row ℕ) → IsStored r → IsJoinable r.summary
@@ -30,17 +21,7 @@ merged_start t e = record { at = e }
 -- one row more adds its summary where its member reaches
 total_more : (i : Instance) (rows : List (Row ℕ)) (r : Row ℕ) (y : ℕ)
     → total_of_rows i (rows ++ r ∷ []) y ≡ total_of_rows i rows y ⊕ when (reaches i r.at y) r.summary
-total_more i rows r y = ap (λ l. total (map (λ (q : Row ℕ). q.summary) l))
-    (filter-append (λ (q : Row ℕ). reaches i q.at y) rows (r ∷ [])) ∙ go (reaches i r.at y)
-  where
-    go : (b : Bool) → total (map (λ (q : Row ℕ). q.summary)
-        (filter (λ (q : Row ℕ). reaches i q.at y) rows ++ cond b (r ∷ []) []))
-        ≡ total_of_rows i rows y ⊕ when b r.summary
-    go true = ap total (map-append (λ (q : Row ℕ). q.summary) (filter (λ (q : Row ℕ). reaches i q.at y) rows) (r ∷ []))
-        ∙ total_push (map (λ (q : Row ℕ). q.summary) (filter (λ (q : Row ℕ). reaches i q.at y) rows)) r.summary
-    go false = ap (λ l. total (map (λ (q : Row ℕ). q.summary) l))
-        (append-nil (filter (λ (q : Row ℕ). reaches i q.at y) rows))
-        ∙ sym (⊕_none (total_of_rows i rows y))
+total_more i rows r y = grind (arith, filter-append, map-append, total_push, append-nil, ⊕_none)
 
 -- one row more
 pub merged_more : (rows : List (Row ℕ)) (r : Row ℕ) (t u : Summarized) → u.instance ≡ t.instance
@@ -48,13 +29,7 @@ pub merged_more : (rows : List (Row ℕ)) (r : Row ℕ) (t u : Summarized) → u
     → ((y : ℕ) → IsAmong t.instance t.categories y
     → stands_at u y ≡ stands_at t y ⊕ when (reaches t.instance r.at y) r.summary)
     → AreMerged rows t → AreMerged (rows ++ r ∷ []) u
-merged_more rows r t u e g j a = record {
-  at = λ y m. let k = among t u e g y m in
-      j y k
-      ∙ ap (λ o. o ⊕ when (reaches t.instance r.at y) r.summary) (a.at y k)
-      ∙ sym (total_more t.instance rows r y)
-      ∙ ap (λ i. total_of_rows i (rows ++ r ∷ []) y) (sym e);
-}
+merged_more rows r t u e g j a = grind (arith, among, total_more)
 
 -- the rows at members that reach y
 abbrev reaching : Instance → List (Row ℕ) → ℕ → List (Row ℕ)

@@ -1,38 +1,27 @@
 -- A printed store is read whole: no record has a fault, and each row is found at its member.
 use Rattle.std.proofs.Common.{◌≡◌, ◌≢◌, ◌+◌, ◌<◌, ◌≤◌, ◌==◌, ◌&&◌, ◌||◌, ◌++◌, ◌∷◌, ◌∙◌, [], ℕ, zero, suc, Bool, true, false, not, cond, List, drop, length, get_or, map, filter, find, flat_map, decimal, Option, Some, None, Ok, is_none, nat_le, option_map, option_and_then, unwrap_or, if◌then◌else◌, refl, sym, ap, subst, arith, append_assoc}
-use Rattle.std.specs.Prelude.{All, AllPairs}
-use Rattle.std.specs.List.{list_any}
-use Rattle.std.specs.Option.{option_or}
-use Rattle.std.proofs.lemmas.Bool.{or_from}
-use Rattle.std.proofs.lemmas.Bool.Decides.{Decides-eqb, nat_tests}
-use Rattle.std.proofs.lemmas.Fmt.{decimal_is_IsNumeral_wide}
+use Rattle.std.proofs.lemmas.{Bool.or_from, Bool.Decides.{Decides-eqb, nat_tests}, Fmt.decimal_is_IsNumeral_wide}
 use Rattle.std.proofs.lemmas.List.{append-nil, get_or-map, length-append, length-map, map-append}
 use Rattle.std.proofs.lemmas.List.Elements.{All-map, filter-append}
-use Rattle.std.proofs.lemmas.List.Folds.{find-append, list_any-append, list_any_none, map_fixed}
-use Rattle.olap_base.specs.Graph.{Graph, IsCategory, IsHierarchy}
+use Rattle.std.{proofs.lemmas.List.Folds.{find-append, list_any-append, list_any_none, map_fixed}, specs.List.list_any}
+use Rattle.std.specs.{Option.option_or, Prelude.{All, AllPairs}}
+use Rattle.olap_base.{proofs.GeneralLemmas.{eqb_same, and_without_second}, specs.Graph.{Graph, IsCategory, IsHierarchy}}
 use Rattle.olap_base.specs.Instance.{Instance, IsInstance, IsMember, IsMemberOf, category_of, member_at}
 use Rattle.olap_base.specs.Limits.{most_views}
 use Rattle.olap_base.specs.Views.{Row, View, direct_view, direct_views, members, row_at, total_of_facts}
 use Rattle.olap_graph.specs.Lookups.{category_named, name_of_category}
-use Rattle.olap_instance.proofs.CategoryNames.{named-category}
-use Rattle.olap_records.specs.Faults.{field, first_fault, or_after}
-use Rattle.olap_view.specs.StoreLaws.{DirectViewsAreReadBack, PrintedStoresAreRead}
-use Rattle.olap_view.specs.StoreReading.{Record, said_of}
-use Rattle.olap_instance.specs.Members.{member_named, member_number}
-use Rattle.olap_view.specs.StoreText.{beginning, beginning_fault, begun, category_number, header, is_beginning, is_row_of, records_of_one, records_of_store, row_fault, row_read, store_fault, store_read, summary_read, view_read, views_read}
-use Rattle.olap_view.specs.Stores.{Fits, IsInFileOrder, IsStore, IsStored, row_in, summary_in}
-use Rattle.olap_view.specs.ViewText.{fields_in}
-use Rattle.olap_view.specs.declared.kinds.StoreKind.{StoreKind}
-use Rattle.olap_view.specs.declared.kinds.StoreKind.TheVariants as kind
+use Rattle.olap_instance.{proofs.CategoryNames.named-category, specs.Members.{member_named, member_number}}
+use Rattle.olap_records.specs.{Faults.{field, first_fault, or_after}, Tables.begins_with}
 use Rattle.olap_view.proofs.FileOrderLemmas.{ascend-on, each-in-order, later-rows, rows-back, store-of}
-use Rattle.olap_view.proofs.FittingLemmas.{direct_stored}
-use Rattle.olap_view.proofs.GuessLemmas.{member-found}
-use Rattle.olap_view.proofs.JudgingLemmas.{last-check}
+use Rattle.olap_view.proofs.{FittingLemmas.direct_stored, GuessLemmas.member-found, JudgingLemmas.last-check}
 use Rattle.olap_view.proofs.StoreLawLemmas.{printed-numbers}
 use Rattle.olap_view.proofs.StoreReadingLemmas.{any-more, begun-more, begun-same, find-none, or-nothing}
 use Rattle.olap_view.proofs.ViewingLemmas.{fails, rows_same}
-use Rattle.olap_records.specs.Tables.{begins_with}
-use Rattle.olap_base.proofs.GeneralLemmas.{eqb_same, and_without_second}
+use Rattle.olap_view.specs.{StoreLaws.{DirectViewsAreReadBack, PrintedStoresAreRead}, StoreReading.{Record, said_of}}
+use Rattle.olap_view.specs.StoreText.{beginning, beginning_fault, begun, category_number, header, is_beginning, is_row_of, records_of_one, records_of_store, row_fault, row_read, store_fault, store_read, summary_read, view_read, views_read}
+use Rattle.olap_view.specs.{Stores.{Fits, IsInFileOrder, IsStore, IsStored, row_in, summary_in}, ViewText.fields_in}
+use Rattle.olap_view.specs.declared.kinds.StoreKind.{StoreKind}
+use Rattle.olap_view.specs.declared.kinds.StoreKind.TheVariants as kind
 
 -- ---- over plain variables
 

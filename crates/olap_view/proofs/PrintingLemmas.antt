@@ -1,16 +1,12 @@
 -- Printing a view row by row, and reading its text back.
-use Rattle.std.proofs.Common.{◌≡◌, ◌+◌, ◌<◌, ◌++◌, ◌∷◌, ◌∙◌, ℕ, List, [], length, map, take, get_or, append_assoc, arith, sym, ap}
-use Rattle.std.proofs.lemmas.List.Elements.{All-map}
-use Rattle.std.proofs.lemmas.List.{map-append, take_more}
-use Rattle.olap_base.specs.Instance.{Instance}
-use Rattle.olap_base.specs.Views.{Row, View}
-use Rattle.olap_records.specs.Records.{records_of}
+use Rattle.std.proofs.Common.{◌≡◌, ◌+◌, ◌<◌, ◌++◌, ◌∷◌, ℕ, List, length, map, take, get_or, append_assoc, arith}
+use Rattle.std.proofs.lemmas.{Grind.common_steps, List.{map-append, take_more}, List.Elements.All-map}
+use Rattle.olap_base.specs.{Instance.Instance, Views.{Row, View}}
+use Rattle.olap_records.{proofs.ReadingBack.{text-back, texts-push}, specs.Records.records_of}
 use Rattle.olap_records.specs.Texts.{text_of_row, text_of_rows}
-use Rattle.olap_records.proofs.ReadingBack.{text-back, texts-push}
-use Rattle.olap_view.specs.Seen.{row_of, rows_of}
-use Rattle.olap_view.specs.ViewText.{fields_in, header, records_of_view, view_text}
-use Rattle.olap_view.specs.declared.views.Row as told
+use Rattle.olap_view.specs.{Seen.{row_of, rows_of}, ViewText.{fields_in, header, records_of_view, view_text}}
 use Rattle.olap_instance.proofs.Passing.{all-full}
+use Rattle.olap_view.specs.declared.views.Row as told
 
 -- one row more after what was there
 pub row_more : (first : List ℕ) (top : List (List ℕ)) (fields : Row ℕ → List (List ℕ)) (rows : List told.Row) (k : ℕ)
@@ -19,16 +15,7 @@ pub row_more : (first : List ℕ) (top : List (List ℕ)) (fields : Row ℕ → 
     → new ≡ out ++ text_of_row (fields (row_of (get_or rows k d)))
     → new ≡ first ++ text_of_rows (top ∷ map fields (rows_of (take (k + 1) rows)))
 row_more first top fields rows k d out new l eo en =
-    let row = get_or rows k d in
-    let before = map fields (rows_of (take k rows)) in
-    let more : map fields (rows_of (take (k + 1) rows)) ≡ before ++ fields (row_of row) ∷ [] =
-    ap (λ (rs : List told.Row). map fields (rows_of rs)) (take_more rows k d l)
-    ∙ ap (map fields) (map-append row_of (take k rows) (row ∷ []))
-    ∙ map-append fields (rows_of (take k rows)) (row_of row ∷ []) in
-    en ∙ ap (λ (t : List ℕ). t ++ text_of_row (fields (row_of row))) eo
-    ∙ append_assoc first (text_of_rows (top ∷ before)) (text_of_row (fields (row_of row)))
-    ∙ ap (λ (t : List ℕ). first ++ t) (sym (texts-push (top ∷ before) (fields (row_of row)))
-    ∙ ap (λ (t : List (List (List ℕ))). text_of_rows (top ∷ t)) (sym more))
+    grind (arith, common_steps, take_more, map-append, append_assoc, texts-push)
 
 -- the text of a view reads back
 pub view-reads : (i : Instance) (v : View ℕ ℕ) → records_of (view_text i v) ≡ records_of_view i v

@@ -1,51 +1,27 @@
 -- Stored views that are read are a sound store.
-use Rattle.std.proofs.Common.{◌≡◌, ◌≢◌, ℕ, ℤ, suc, pos, negsuc, ◌+◌, ◌<◌, ◌≤◌, List, [], ◌∷◌, ◌++◌, Bool, true, false, cond, length, get_or, Option, None, Some, IfSome, option_map, refl, ap, sym, subst, arith, append_assoc}
-use Rattle.std.specs.Prelude.{◌&&◌, ◌==◌, ◌≤ℤ◌, neg_ℤ, AllPairs, Ok, Err, drop, filter, find, nat_le, nat_lt, not, unwrap_or}
-use Rattle.std.specs.List.{list_any, position_from}
-use Rattle.std.specs.Option.{option_and_then}
-use Rattle.std.specs.Str.{bytes_eq}
-use Rattle.std.specs.Str.Parse.{digits_value, signed_digits_value, without_leading_sign}
-use Rattle.std.proofs.lemmas.Bool.Decides.{nat_tests}
-use Rattle.std.proofs.lemmas.Int.{ints}
-use Rattle.std.proofs.lemmas.List.{append-nil, length-append}
-use Rattle.std.proofs.lemmas.List.Elements.{All-map}
-use Rattle.std.proofs.lemmas.List.Quantifiers.{all_pairs_push}
-use Rattle.olap_base.specs.Graph.{Graph, IsCategory}
-use Rattle.olap_base.specs.Instance.{Instance}
-use Rattle.olap_base.specs.Limits.{most_count, most_sum, most_views}
-use Rattle.olap_base.specs.declared.refusals.Fault.{Fault}
-use Rattle.olap_base.specs.Summaries.{Summary}
-use Rattle.olap_base.specs.Views.{View, members_of, row_at}
-use Rattle.olap_base.proofs.ListLemmas.{first_true, second_true}
+use Rattle.std.proofs.Common.{rules, ◌≡◌, ◌≢◌, ℕ, ℤ, suc, pos, negsuc, ◌+◌, ◌<◌, ◌≤◌, List, [], ◌∷◌, ◌++◌, Bool, true, false, cond, length, get_or, Option, None, Some, IfSome, option_map, refl, ap, sym, subst, arith, append_assoc}
+use Rattle.std.proofs.lemmas.{Bool.{leb-true, ltb-true}, Bool.Decides.nat_tests, Int.ints}
+use Rattle.std.proofs.lemmas.List.{append-nil, length-append, Elements.All-map, Quantifiers.all_pairs_push}
+use Rattle.std.{proofs.lemmas.Option.cond_some, specs.List.{list_any, position_from}, specs.Option.option_and_then}
+use Rattle.std.specs.Prelude.{◌==◌, ◌≤ℤ◌, neg_ℤ, AllPairs, Ok, Err, drop, filter, find, nat_le, not}
+use Rattle.olap_base.proofs.{GeneralLemmas.none_past, ListLemmas.{first_true, second_true}}
+use Rattle.olap_base.specs.{Graph.{Graph, IsCategory}, Instance.Instance, Limits.{most_count, most_sum, most_views}}
+use Rattle.olap_base.specs.{Summaries.Summary, Views.{View, members_of, row_at}, declared.refusals.Fault.Fault}
 use Rattle.olap_facts.proofs.FittingLemmas.{value-fits}
-use Rattle.olap_graph.specs.Lookups.{category_named, names_of}
-use Rattle.olap_numerals.specs.Values.{is_numeral, value_of}
-use Rattle.olap_records.specs.Faults.{field, first_fault, or_after}
-use Rattle.olap_view.specs.StoreLaws.{ReadStoresAreSound}
+use Rattle.olap_numerals.specs.Values.{value_of}
+use Rattle.olap_records.specs.{Faults.{field, first_fault, or_after}, Tables.{begins_with, or_read}}
+use Rattle.olap_view.proofs.FileOrderLemmas.{all-rows, each-in-order, store-of}
+use Rattle.olap_view.{proofs.StoreReadingLemmas.{begun-more, begun-same, none-same}, specs.StoreLaws.ReadStoresAreSound}
 use Rattle.olap_view.specs.StoreReading.{IsStoredAt, Record, said_of}
 use Rattle.olap_view.specs.StoreText.{beginning_fault, begun, category_number, header, is_beginning, is_row_of, row_fault, store_fault, summary_read, views_read}
-use Rattle.olap_view.specs.StoredNumbers.{count_of, is_sum, sum_of}
-use Rattle.olap_view.specs.Stores.{Fits, IsSoundStore, IsStored}
-use Rattle.olap_view.specs.Tables.{view_by}
-use Rattle.olap_view.specs.declared.kinds.StoreKind.{StoreKind}
-use Rattle.olap_view.proofs.FileOrderLemmas.{all-rows, each-in-order, store-of}
-use Rattle.olap_view.proofs.StoreReadingLemmas.{begun-more, begun-same, none-same}
-use Rattle.olap_records.specs.Tables.{begins_with, or_read}
-use Rattle.std.proofs.lemmas.Bool.{leb-true, ltb-true}
-use Rattle.olap_base.proofs.GeneralLemmas.{none_past}
-use Rattle.std.proofs.lemmas.Option.{cond_some}
+use Rattle.olap_view.specs.{StoredNumbers.{count_of, is_sum, sum_of}, Stores.{Fits, IsSoundStore, IsStored}}
+use Rattle.olap_view.specs.{Tables.view_by, declared.kinds.StoreKind.StoreKind}
 
 -- ---- numbers
 
 -- a count that is spelled is within the bounds
 count-fits : (text : List ℕ) (n : ℕ) → count_of text ≡ Some n → (1 ≤ n) × (n ≤ most_count)
-count-fits text n e =
-    let m = digits_value 10 text in
-    let t = cond_some (is_numeral text && (nat_lt 0 m && nat_le m most_count)) m n e in
-    let u = second_true (is_numeral text) (nat_lt 0 m && nat_le m most_count) t.0 in
-    let a = ltb-true 0 m (first_true (nat_lt 0 m) (nat_le m most_count) u) in
-    let b = leb-true m most_count (second_true (nat_lt 0 m) (nat_le m most_count) u) in
-    subst (λ k. (1 ≤ k) × (k ≤ most_count)) t.1 (omega arith, b)
+count-fits text n e = grind (arith, cond_some, second_true, ltb-true, first_true, leb-true)
 
 -- so is what passes the test of a sum
 pub is-sum-fits : (z : ℤ) → is_sum z ≡ true → (neg_ℤ (pos most_sum) ≤ℤ z) × (z ≤ℤ pos most_sum)
@@ -54,11 +30,7 @@ is-sum-fits (negsuc n) t = let l = ltb-true n most_sum t in (omega (arith, ints)
 
 -- and a sum that is spelled
 sum-fits : (text : List ℕ) (n : ℤ) → sum_of text ≡ Some n → (neg_ℤ (pos most_sum) ≤ℤ n) × (n ≤ℤ pos most_sum)
-sum-fits text n e =
-    let z = signed_digits_value 10 text in
-    let t = cond_some (is_numeral (without_leading_sign text) && is_sum z) z n e in
-    subst (λ (k : ℤ). (neg_ℤ (pos most_sum) ≤ℤ k) × (k ≤ℤ pos most_sum)) t.1
-    (is-sum-fits z (second_true (is_numeral (without_leading_sign text)) (is_sum z) t.0))
+sum-fits text n e = grind (arith, cond_some, is-sum-fits, second_true)
 
 -- the four numbers of a summary, if there are four
 record AreFour (n : Option ℕ) (s l g : Option ℤ) (m : Summary) : Type 0 where
@@ -75,13 +47,7 @@ four None s l g m e = absurd (cc)
 four (Some n) None l g m e = absurd (cc)
 four (Some n) (Some s) None g m e = absurd (cc)
 four (Some n) (Some s) (Some l) None m e = absurd (cc)
-four (Some n) (Some s) (Some l) (Some g) m e =
-    let z : record { count = n; sum = s; least = l; greatest = g } ≡ m = cc in record {
-      count = ap (λ (x : Summary). Some x.count) z;
-      sum = ap (λ (x : Summary). Some x.sum) z;
-      least = ap (λ (x : Summary). Some x.least) z;
-      greatest = ap (λ (x : Summary). Some x.greatest) z;
-    }
+four (Some n) (Some s) (Some l) (Some g) m e = search rules
 
 -- the numbers that a record spells are within the bounds of stored rows
 summary-fits : (y : ℕ) (r : Record) (m : Summary) → summary_read r ≡ Some m → IsStoredAt y m
@@ -171,20 +137,11 @@ module _ (g : Graph) (i : Instance) where
 place-below : {A : Type 0} (p : A → Bool) (n : ℕ) (xs : List A) (c : ℕ) → position_from p n xs ≡ Some c
     → c < n + length xs
 place-below p n [] c e = absurd (cc)
-place-below p n (x ∷ xs) c e = go (p x) e (place-below p (n + 1) xs c)
-  where
-    go : (b : Bool) → cond b (Some n) (position_from p (n + 1) xs) ≡ Some c
-        → (position_from p (n + 1) xs ≡ Some c → c < n + 1 + length xs) → c < n + length (x ∷ xs)
-    go true q rest = let z : n ≡ c = cc in omega arith
-    go false q rest = let l = rest q in omega (arith, l)
+place-below p n (x ∷ xs) c e = grind (arith, place-below p (n + 1) xs c)
 
 -- a record's category is one of the graph
 number-is : (g : Graph) (r : Record) → IsCategory g (category_number g r)
-number-is g r = go (category_named g (field r 0)) refl
-  where
-    go : (o : Option ℕ) → category_named g (field r 0) ≡ o → IsCategory g (unwrap_or o 0)
-    go None e = omega arith
-    go (Some c) e = let l = place-below (bytes_eq (field r 0)) 0 (names_of g) c e in omega (arith, l)
+number-is g r = grind (arith, place-below)
 
 -- ---- the theorem
 

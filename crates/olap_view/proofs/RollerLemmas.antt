@@ -1,29 +1,19 @@
 -- A roller takes a piece more, and the text ends.
-use Rattle.std.proofs.Common.{◌≡◌, ◌++◌, ◌∙◌, [], ℕ, List, Option, None, Some, MatchResult, ap, map, refl, subst, sym}
-use Rattle.std.specs.Prelude.{Ok, Err, Result}
-use Rattle.std.proofs.lemmas.List.{append-nil}
-use Rattle.olap_base.specs.Graph.{Graph}
-use Rattle.olap_base.specs.Instance.{Instance}
-use Rattle.olap_base.specs.Limits.{most_facts}
-use Rattle.olap_base.specs.Refusing.{IsRefusedBy}
-use Rattle.olap_base.specs.Views.{Fact, View, direct_view, members}
-use Rattle.olap_base.specs.declared.refusals.Fault.{Fault}
+use Rattle.std.proofs.Common.{rules, ◌≡◌, ◌++◌, ◌∙◌, [], ℕ, List, Option, None, Some, MatchResult, ap, map, refl, subst, sym}
+use Rattle.std.{proofs.lemmas.List.append-nil, specs.Prelude.{Ok, Err, Result}}
+use Rattle.olap_base.specs.{Graph.Graph, Instance.Instance, Limits.most_facts, Refusing.IsRefusedBy}
+use Rattle.olap_base.specs.{Views.{Fact, View, direct_view, members}, declared.refusals.Fault.Fault}
 use Rattle.olap_base.specs.declared.refusals.Refusal.{Refusal}
 use Rattle.olap_records.specs.Standing.{records_fed, unmarked}
-use Rattle.olap_facts.specs.FactText.{facts_read_within}
-use Rattle.olap_facts.specs.Feeding.{Fed, Feeding, IsSameSetting, facts_if, fed_read}
+use Rattle.olap_facts.specs.{FactText.facts_read_within, Feeding.{Fed, Feeding, IsSameSetting, facts_if, fed_read}}
 use Rattle.olap_facts.specs.declared.kinds.FactKind.{FactKind}
+use Rattle.olap_view.specs.{RollingUp.{AreRolledUp, HasTaken, IsRoller, Rolling, rolling}, Tallies.{StandsFor, Tallied}}
 use Rattle.olap_facts.specs.declared.tables.Fact as told
-use Rattle.olap_view.specs.RollingUp.{AreRolledUp, HasTaken, IsRoller, Rolling, rolling}
-use Rattle.olap_view.specs.Tallies.{StandsFor, Tallied}
 
 -- what a feed's text stands for, by what the feed reads against
 pub read-by : (g : Graph) (i : Instance) (f : Feeding) → f.graph ≡ g → f.instance ≡ i → f.most ≡ most_facts
     → (text : List ℕ) → fed_read f text ≡ facts_read_within most_facts g i (records_fed text)
-read-by g i f eg ei em text =
-    ap (λ (h : Graph). facts_read_within f.most h f.instance (records_fed text)) eg
-    ∙ ap (λ (j : Instance). facts_read_within f.most g j (records_fed text)) ei
-    ∙ ap (λ (m : ℕ). facts_read_within m g i (records_fed text)) em
+read-by g i f eg ei em text = search rules
 
 -- a whole text is one piece
 pub whole-taken : (g : Graph) (i : Instance) (categories piece text : List ℕ) → piece ≡ unmarked text

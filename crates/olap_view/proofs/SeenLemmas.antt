@@ -1,8 +1,6 @@
 -- The rows and the views of the definitions, place by place.
-use Rattle.std.proofs.Common.{◌≡◌, ℕ, ◌+◌, ◌<◌, List, [], ◌∷◌, ◌++◌, length, get_or, take, ap, sym, subst, ◌∙◌}
-use Rattle.std.specs.Prelude.{All}
-use Rattle.std.proofs.lemmas.List.{get_or-map, length-map, map-append, take-map, take_more}
-use Rattle.std.proofs.Common.{◌≤◌, arith, length-take}
+use Rattle.std.proofs.Common.{◌≡◌, ℕ, ◌+◌, ◌<◌, List, [], ◌∷◌, ◌++◌, length, get_or, take, ap, sym, subst, ◌∙◌, ◌≤◌, arith, length-take}
+use Rattle.std.{proofs.lemmas.List.{get_or-map, length-map, map-append, take-map, take_more}, specs.Prelude.All}
 use Rattle.olap_base.specs.Views.{Row, View}
 use Rattle.olap_view.specs.Seen.{each_view_of, row_of, rows_of, view_of}
 use Rattle.olap_view.specs.declared.views.Row as told_row

@@ -1,20 +1,13 @@
 -- The views of a table that tells the records of a text: those that the records stand for, which a store may hold.
 use Rattle.std.proofs.Common.{◌≡◌, ◌≢◌, ◌∷◌, ◌∙◌, [], ℕ, List, length, get_or, map, Option, Some, None, IfSome, refl, sym, ap, subst, arith}
-use Rattle.std.specs.Prelude.{All, AllPairs}
-use Rattle.std.proofs.lemmas.List.Elements.{All-map}
-use Rattle.olap_base.specs.Graph.{Graph, IsCategory}
-use Rattle.olap_base.specs.Instance.{Instance}
-use Rattle.olap_base.specs.Summaries.{Summary}
-use Rattle.olap_base.specs.Views.{View, members_of, row_at}
+use Rattle.std.{proofs.lemmas.List.Elements.All-map, specs.Prelude.{All, AllPairs}}
+use Rattle.olap_base.{proofs.ViewLemmas.members_of_is, specs.Graph.{Graph, IsCategory}, specs.Instance.Instance}
+use Rattle.olap_base.specs.{Summaries.Summary, Views.{View, members_of, row_at}}
+use Rattle.olap_view.proofs.{FileOrderLemmas.{all-rows, each-in-order, store-of}, ViewingLemmas.rows_same}
 use Rattle.olap_view.specs.StoreReading.{IsStoredAt, Record, Tells}
-use Rattle.olap_view.specs.StoredRows.{begun_in, stored_at}
-use Rattle.olap_view.specs.StoreText.{begun, view_read, views_read, row_read}
-use Rattle.olap_view.specs.Stores.{Fits, IsInFileOrder, IsSoundStore, IsStored}
-use Rattle.olap_view.specs.Tables.{view_by}
+use Rattle.olap_view.specs.{StoreText.{begun, view_read, views_read, row_read}, StoredRows.{begun_in, stored_at}}
+use Rattle.olap_view.specs.{Stores.{Fits, IsInFileOrder, IsSoundStore, IsStored}, Tables.view_by}
 use Rattle.olap_view.specs.declared.stored_rows.StoredRows.{StoredRows}
-use Rattle.olap_view.proofs.FileOrderLemmas.{all-rows, each-in-order, store-of}
-use Rattle.olap_view.proofs.ViewingLemmas.{rows_same}
-use Rattle.olap_base.proofs.ViewLemmas.{members_of_is}
 
 module _ (g : Graph) (i : Instance) (rows : List Record) (t : StoredRows) (h : Tells g i rows t) where
   -- the view of c is the one that the records stand for

@@ -1,27 +1,20 @@
 -- What is read of a text of stored views is what it means.
 use Rattle.std.proofs.Common.{◌≡◌, ◌∙◌, ◌∷◌, ◌++◌, ap, sym, subst, ℕ, pos, Bool, true, false, cond, List, [], length, map, Option, Some, None, Result, Ok, refl}
-use Rattle.std.specs.Prelude.{◌==◌, ◌&&◌, ◌||◌, ⊤, Err, codes, filter, filter_map, find, is_none, nat_le, not, unwrap_or}
-use Rattle.std.specs.List.{cons_option, list_any}
+use Rattle.std.{proofs.lemmas.Bool.eqb-true, specs.List.{cons_option, list_any}}
 use Rattle.std.specs.Option.{option_and_then, option_map, option_map_or}
-use Rattle.std.proofs.lemmas.Bool.{eqb-true}
-use Rattle.olap_base.specs.Following.{given, goes_on}
-use Rattle.olap_base.specs.Graph.{Graph}
-use Rattle.olap_base.specs.Instance.{Instance, category_of}
-use Rattle.olap_base.specs.Limits.{most_views}
-use Rattle.olap_base.specs.Summaries.{Summary}
+use Rattle.std.specs.Prelude.{◌==◌, ◌&&◌, ◌||◌, ⊤, Err, codes, filter, filter_map, find, is_none, nat_le, not, unwrap_or}
+use Rattle.olap_base.{proofs.GeneralLemmas.none_past, specs.Following.{given, goes_on}, specs.Graph.Graph}
+use Rattle.olap_base.specs.{Instance.{Instance, category_of}, Limits.most_views, Summaries.Summary}
 use Rattle.olap_base.specs.Views.{Row, View, members_of, row_at}
-use Rattle.olap_base.proofs.GeneralLemmas.{none_past}
 use Rattle.olap_graph.specs.Lookups.{category_named}
-use Rattle.olap_records.specs.Faults.{field, first_fault, or_after}
-use Rattle.olap_records.specs.Tables.{all_read, at_record, named, or_read}
 use Rattle.olap_records.proofs.TableLemmas.{all_read-passed, check-named, given-named, or_value, table_meant-named}
+use Rattle.olap_records.specs.{Faults.{field, first_fault, or_after}, Tables.{all_read, at_record, named, or_read}}
 use Rattle.olap_instance.specs.Members.{member_named, member_number}
 use Rattle.olap_view.specs.Kinds.{name_of_kind}
 use Rattle.olap_view.specs.StoreMeaning.{is_row_at, record_meant, row_meant, store_meant, view_meant, views_begun}
 use Rattle.olap_view.specs.StoreReading.{Record}
 use Rattle.olap_view.specs.StoreText.{beginning_fault, begun, category_number, header, is_beginning, is_row_of, row_fault, row_read, store_fault, store_read, summary_read, view_read, views_read}
-use Rattle.olap_view.specs.Stores.{row_in}
-use Rattle.olap_view.specs.declared.kinds.StoreKind.{StoreKind}
+use Rattle.olap_view.specs.{Stores.row_in, declared.kinds.StoreKind.StoreKind}
 use Rattle.olap_view.specs.declared.kinds.StoreKind.TheVariants as kind
 
 -- ---- records that have passed

@@ -1,24 +1,16 @@
 -- Rows that tell what the records so far say, record by record.
 --     tells-row      one record more, which is a row
-use Rattle.std.proofs.Common.{◌≡◌, ◌≢◌, ◌<◌, ◌==◌, ◌&&◌, ◌||◌, ◌∷◌, ◌++◌, ◌∙◌, [], ℕ, zero, suc, Bool, true, false, not, cond, List, length, get_or, map, filter, find, Option, Some, None, IfSome, is_some, option_and_then, refl, sym, ap, subst, inl, inr, arith, length-append}
+use Rattle.std.proofs.Common.{◌≡◌, ◌≢◌, ◌<◌, ◌==◌, ◌&&◌, ◌||◌, ◌∷◌, ◌++◌, ◌∙◌, [], ℕ, zero, suc, Bool, true, false, not, cond, List, length, get_or, find, Option, Some, None, IfSome, is_some, option_and_then, refl, sym, ap, subst, inl, inr, arith, length-append}
+use Rattle.std.proofs.lemmas.{Bool.Decides.{eqb_tells, nat_tests}, List.{append-nil, map-append}}
+use Rattle.std.proofs.lemmas.List.{Elements.{All-push, filter-append}, Folds.{find-append, list_any-append}}
+use Rattle.std.{proofs.lemmas.List.Quantifiers.all_pairs_push, specs.List.list_any, specs.Option.option_or}
 use Rattle.std.specs.Prelude.{All, AllPairs}
-use Rattle.std.specs.List.{list_any}
-use Rattle.std.specs.Option.{option_or}
-use Rattle.std.proofs.lemmas.Bool.Decides.{eqb_tells, nat_tests}
-use Rattle.std.proofs.lemmas.List.{append-nil, map-append}
-use Rattle.std.proofs.lemmas.List.Elements.{All-push, filter-append}
-use Rattle.std.proofs.lemmas.List.Folds.{find-append, list_any-append}
-use Rattle.std.proofs.lemmas.List.Quantifiers.{all_pairs_push}
-use Rattle.olap_base.specs.Graph.{Graph, IsCategory}
-use Rattle.olap_base.specs.Instance.{Instance, IsMember}
-use Rattle.olap_base.specs.Summaries.{Summary}
-use Rattle.olap_view.specs.Seen.{ids}
-use Rattle.olap_view.specs.StoreReading.{IsBeginning, IsRowFor, IsStoredAt, Record, Tells, said_of}
-use Rattle.olap_view.specs.StoredRows.{HasPut, begun_in, stored_at}
+use Rattle.olap_base.specs.{Graph.{Graph, IsCategory}, Instance.{Instance, IsMember}, Summaries.Summary}
+use Rattle.olap_view.specs.{Seen.ids, StoreReading.{IsBeginning, IsRowFor, IsStoredAt, Record, Tells, said_of}}
 use Rattle.olap_view.specs.StoreText.{begun, category_number, is_beginning, is_row_of, summary_read}
+use Rattle.olap_view.specs.{StoredRows.{HasPut, begun_in, stored_at}, declared.stored_rows.StoredRows.StoredRows}
 use Rattle.olap_instance.specs.Members.{member_number}
 use Rattle.olap_records.specs.Faults.{field}
-use Rattle.olap_view.specs.declared.stored_rows.StoredRows.{StoredRows}
 
 -- ---- lists
 
@@ -35,12 +27,7 @@ or-false false = refl
 -- no element passes the test
 pub find-none : {A : Type 0} (p : A → Bool) (xs : List A) → list_any p xs ≡ false → find p xs ≡ None
 find-none p [] e = refl
-find-none {A} p (x ∷ xs) e = go (p x) e (find-none p xs)
-  where
-    go : (b : Bool) → b || list_any p xs ≡ false → (list_any p xs ≡ false → find p xs ≡ None)
-        → cond b (Some x) (find p xs) ≡ None
-    go true e h = absurd (cc)
-    go false e h = h e
+find-none {A} p (x ∷ xs) e = grind (arith, find-none p xs)
 
 -- what is found after one more, which passes or doesn't
 find-more : {A : Type 0} (p : A → Bool) (xs : List A) (x : A) (b : Bool) → p x ≡ b
@@ -57,26 +44,17 @@ any-more p xs x b e = list_any-append p xs (x ∷ []) ∙ ap (λ t. list_any p x
 -- one view more is begun
 pub begun-more : (g : Graph) (rows : List Record) (r : Record) → is_beginning r ≡ true
     → begun g (rows ++ r ∷ []) ≡ begun g rows ++ category_number g r ∷ []
-begun-more g rows r e =
-    ap (map (category_number g)) (filter-append is_beginning rows (r ∷ [])
-    ∙ ap (λ b. filter is_beginning rows ++ cond b (r ∷ []) []) e)
-    ∙ map-append (category_number g) (filter is_beginning rows) (r ∷ [])
+begun-more g rows r e = grind (arith, filter-append, map-append)
 
 -- a row begins none
 pub begun-same : (g : Graph) (rows : List Record) (r : Record) → is_beginning r ≡ false
     → begun g (rows ++ r ∷ []) ≡ begun g rows
-begun-same g rows r e =
-    ap (map (category_number g)) (filter-append is_beginning rows (r ∷ [])
-    ∙ ap (λ b. filter is_beginning rows ++ cond b (r ∷ []) []) e ∙ append-nil (filter is_beginning rows))
+begun-same g rows r e = grind (arith, filter-append, append-nil)
 
 -- a list in which no element is c
 pub none-same : (c : ℕ) (xs : List ℕ) (k d : ℕ) → list_any (λ x. x == c) xs ≡ false → k < length xs → get_or xs k d ≢ c
 none-same c [] k d e h q = omega arith
-none-same c (x ∷ xs) zero d e h q = go (x == c) refl e
-  where
-    go : (b : Bool) → (x == c) ≡ b → b || list_any (λ y. y == c) xs ≡ false → ⊥
-    go true t f = cc
-    go false t f = let z : (x == c) ≡ true = grind (arith, nat_tests) in cc
+none-same c (x ∷ xs) zero d e h q = grind (arith, nat_tests)
 none-same c (x ∷ xs) (suc k) d e h q = none-same c xs k d (go (x == c) e) (omega arith) q
   where
     go : (b : Bool) → b || list_any (λ y. y == c) xs ≡ false → list_any (λ y. y == c) xs ≡ false

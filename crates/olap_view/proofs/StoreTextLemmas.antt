@@ -1,25 +1,15 @@
 -- The text of stored views: its records, printed one after the other and read back.
 use Rattle.std.proofs.Common.{◌≡◌, ◌↔◌, ◌+◌, ◌<◌, ◌++◌, ◌∷◌, ◌∙◌, Bool, ℕ, zero, suc, List, [], length, map, take, flat_map, get_or, IsTrue, refl, sym, ap, arith, append_assoc}
-use Rattle.std.specs.Prelude.{All}
-use Rattle.std.specs.Bool.{one_answer}
-use Rattle.std.specs.Cmp.Lexicographic.{pointwise}
-use Rattle.std.specs.Str.{bytes_eq}
-use Rattle.std.proofs.lemmas.List.{flat_map_more, map-append, take_more}
-use Rattle.std.proofs.lemmas.List.Elements.{All-map}
-use Rattle.std.proofs.lemmas.Slice.Eq.{bytes_eq-Decides, slice_eq-Decides}
-use Rattle.olap_base.specs.Graph.{Graph}
-use Rattle.olap_base.specs.Instance.{Instance}
-use Rattle.olap_base.specs.Views.{View}
-use Rattle.olap_records.specs.Records.{records_of}
+use Rattle.std.proofs.lemmas.{Grind.common_steps, List.{flat_map_more, map-append, take_more}, List.Elements.All-map}
+use Rattle.std.{proofs.lemmas.Slice.Eq.{bytes_eq-Decides, slice_eq-Decides}, specs.Prelude.All}
+use Rattle.olap_base.specs.{Graph.Graph, Instance.Instance, Views.View}
+use Rattle.olap_records.{proofs.ReadingBack.text-back, specs.Records.records_of, specs.Tables.begins_with}
 use Rattle.olap_records.specs.Texts.{text_of_row, text_of_rows}
-use Rattle.olap_records.proofs.ReadingBack.{text-back}
-use Rattle.olap_view.specs.Seen.{each_view_of, rows_of, view_of}
+use Rattle.olap_view.{proofs.SeenLemmas.each_row, specs.Seen.{each_view_of, rows_of, view_of}}
 use Rattle.olap_view.specs.StoreText.{beginning, header, records_of_one, records_of_store, store_text}
 use Rattle.olap_view.specs.ViewText.{fields_in}
-use Rattle.olap_view.proofs.SeenLemmas.{each_row}
 use Rattle.olap_view.specs.declared.views.Row as told_row
 use Rattle.olap_view.specs.declared.views.View as told_view
-use Rattle.olap_records.specs.Tables.{begins_with}
 
 -- the text of records after others
 pub texts-append : (xs ys : List (List (List ℕ))) → text_of_rows (xs ++ ys) ≡ text_of_rows xs ++ text_of_rows ys
@@ -36,16 +26,7 @@ pub stored-view : (top : List (List ℕ)) (records : View ℕ ℕ → List (List
     → new ≡ out ++ text_of_rows shown → shown ≡ records (view_of view)
     → new ≡ text_of_rows (top ∷ flat_map records (each_view_of (take (k + 1) views)))
 stored-view top records views k view shown out new l e eo en es =
-    let so_far = flat_map records (each_view_of (take k views)) in
-    let more : flat_map records (each_view_of (take (k + 1) views)) ≡ so_far ++ records (view_of view) =
-    ap (λ (vs : List told_view.View). flat_map records (each_view_of vs)) (take_more views k view l)
-    ∙ ap (λ (v : told_view.View). flat_map records (each_view_of (take k views ++ v ∷ []))) (sym e)
-    ∙ ap (flat_map records) (map-append view_of (take k views) (view ∷ []))
-    ∙ sym (flat_map_more records [] (each_view_of (take k views)) (view_of view)) in
-    en ∙ ap (λ (t : List ℕ). t ++ text_of_rows shown) eo
-    ∙ ap (λ (rs : List (List (List ℕ))). text_of_rows (top ∷ so_far) ++ text_of_rows rs) es
-    ∙ sym (texts-append (top ∷ so_far) (records (view_of view)))
-    ∙ ap (λ (t : List (List (List ℕ))). text_of_rows (top ∷ t)) (sym more)
+    grind (arith, common_steps, flat_map, take_more, map-append, flat_map_more, texts-append)
 
 -- ---- members
 
@@ -95,7 +76,4 @@ store-reads g i views =
 -- whether the first record is the header
 pub header-is : (row : List (List ℕ)) (after : List (List (List ℕ))) (b : Bool) → IsTrue b ↔ (row ≡ header)
     → b ≡ begins_with header (row ∷ after)
-header-is row after b h =
-    let d : IsTrue (pointwise bytes_eq row header) ↔ (row ≡ header) =
-    slice_eq-Decides bytes_eq-Decides row header (pointwise bytes_eq row header) refl in
-    one_answer b (pointwise bytes_eq row header) h d
+header-is row after b h = grind (arith, slice_eq-Decides, bytes_eq-Decides)

@@ -1,15 +1,10 @@
 -- The numbers that std's parse gives, by the words of this crate.
-use Rattle.std.proofs.Common.{◌≡◌, ◌<◌, ◌==◌, ◌^◌, ◌&&◌, ℕ, ℤ, pos, negsuc, false, List, Result, None, refl, nat_lt, slice_index}
-use Rattle.std.specs.Bool.{Decides}
-use Rattle.std.specs.Result.{result_ok}
-use Rattle.std.specs.Int.RustNames.{FitsSigned}
-use Rattle.std.specs.Str.{IsUtf8}
+use Rattle.std.proofs.Common.{arith, ◌≡◌, ◌<◌, ◌==◌, ◌^◌, ◌&&◌, ℕ, ℤ, pos, negsuc, false, List, Result, None, refl, nat_lt, slice_index}
+use Rattle.std.proofs.lemmas.{Bool.Decides.{Decides-and, Decides-like, Decides-ltb}, Fmt.IsAscii-from_digits}
+use Rattle.std.{proofs.lemmas.Str.IsUtf8-from_ascii, specs.Bool.Decides, specs.Int.RustNames.FitsSigned}
+use Rattle.std.specs.{Result.result_ok, Str.IsUtf8}
 use Rattle.std.specs.Str.Parse.{IsNumeral, ParsesUnsigned, digits_value, without_leading_plus}
-use Rattle.std.proofs.lemmas.Bool.Decides.{Decides-and, Decides-like, Decides-ltb}
-use Rattle.std.proofs.lemmas.Fmt.{IsAscii-from_digits}
-use Rattle.std.proofs.lemmas.Str.{IsUtf8-from_ascii}
-use Rattle.olap_numerals.specs.Values.{is_numeral}
-use Rattle.olap_numerals.proofs.Spelling.{numeral-decides, ok-where, none-unless}
+use Rattle.olap_numerals.{proofs.Spelling.{numeral-decides, ok-where, none-unless}, specs.Values.is_numeral}
 use Rattle.olap_view.specs.NumbersInside.{digits_of, is_wide}
 use mir.Syntax.{w128}
 
@@ -29,15 +24,11 @@ without-plus bs e = rw e refl
 -- what std's parse gives of a text with no plus is the number that its digits spell
 pub digits-parses : {E : Type 0} (bs : List ℕ) (r : Result ℕ E) → (slice_index bs 0 == 43) ≡ false
     → ParsesUnsigned 64 10 bs r → result_ok r ≡ digits_of bs
-digits-parses bs r e h =
-    ok-where r (is_numeral bs && nat_lt (digits_value 10 bs) (2 ^ 64)) (digits_value 10 bs)
-    (rw (without-plus bs e) at h) (digits-decides bs)
+digits-parses bs r e h = grind (arith, ok-where, nat_lt, without-plus, digits-decides)
 
 -- what is no text spells no number
 pub digits-of-text : (bs : List ℕ) → ¬ (IsUtf8 bs) → None ≡ digits_of bs
-digits-of-text bs n =
-    none-unless (is_numeral bs && nat_lt (digits_value 10 bs) (2 ^ 64)) (digits_value 10 bs) (digits-decides bs)
-    (λ h. n (IsUtf8-from_ascii bs (IsAscii-from_digits bs h.0.1)))
+digits-of-text bs n = grind (arith, none-unless, nat_lt, digits-decides, IsUtf8-from_ascii, IsAscii-from_digits)
 
 -- ---- 128 bits
 

@@ -1,14 +1,11 @@
 -- The rows of stored views while they are read: numbers of summaries, and one row more.
 --     put-is    one row more
 use Rattle.std.proofs.Common.{◌≡◌, ◌≢◌, ◌+◌, ◌<◌, ◌≤◌, ◌∷◌, ◌++◌, ◌∙◌, [], ℕ, zero, suc, true, cond, List, length, get_or, set, count_by, nat_lt, Some, None, option_map, refl, sym, ap, subst, arith}
-use Rattle.std.specs.List.{slice_get}
-use Rattle.std.proofs.lemmas.Bool.Decides.{nat_tests}
-use Rattle.std.proofs.lemmas.List.{get_or-set_same, get_or-set_other, length-set, length_push}
-use Rattle.std.proofs.lemmas.List.Sums.{count_by-le-length, sum_by-set}
-use native.Mathlib.Decide.{ℕ_discrete}
-use Rattle.olap_view.specs.Seen.{summary_of}
-use Rattle.olap_view.specs.StoredRows.{HasPut, IsPlaced, numbered, stored_at}
+use Rattle.std.proofs.lemmas.{Bool.Decides.nat_tests, List.{get_or-set_same, get_or-set_other, length-set, length_push}}
+use Rattle.std.{proofs.lemmas.List.Sums.{count_by-le-length, sum_by-set}, specs.List.slice_get}
+use Rattle.olap_view.specs.{Seen.summary_of, StoredRows.{HasPut, IsPlaced, numbered, stored_at}}
 use Rattle.olap_view.specs.declared.stored_rows.StoredRows.{StoredRows}
+use native.Mathlib.Decide.{ℕ_discrete}
 use Rattle.olap_view.specs.declared.summaries.Summary as told
 
 -- ---- the summary of a number

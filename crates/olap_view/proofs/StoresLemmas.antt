@@ -1,32 +1,18 @@
 -- The views that a mask chooses, view by view, and how many rows a view has.
 use Rattle.std.proofs.Common.{◌≡◌, ◌≢◌, ℕ, ◌+◌, ◌<◌, ◌≤◌, ◌||◌, map, refl, suc, List, [], ◌∷◌, ◌++◌, length, get_or, take, Bool, true, false, cond, ap, sym, ◌∙◌, arith}
-use Rattle.std.specs.Prelude.{◌==◌, All, AllPairs, flat_map}
-use Rattle.std.specs.Int.{bit_at}
-use Rattle.std.specs.List.{list_any}
 use Rattle.std.proofs.lemmas.Bool.Decides.{Decides-eqb}
-use Rattle.std.proofs.lemmas.Map.Made.{IsDistinct-from_AllPairs}
-use Rattle.std.proofs.lemmas.Map.Steps.{length-le_from_distinct_below}
 use Rattle.std.proofs.lemmas.List.{append-nil, flat_map_more, length-map, length-take-le, map-append, take_more}
+use Rattle.std.proofs.lemmas.Map.{Made.IsDistinct-from_AllPairs, Steps.length-le_from_distinct_below}
+use Rattle.std.specs.{Int.bit_at, List.list_any, Prelude.{◌==◌, All, AllPairs, flat_map}}
 use Rattle.olap_base.specs.Views.{Row, View}
-use Rattle.olap_view.specs.Seen.{each_view_of, rows_of, view_of}
-use Rattle.olap_view.specs.Stores.{chosen, chosen_from}
+use Rattle.olap_view.specs.{Seen.{each_view_of, rows_of, view_of}, Stores.{chosen, chosen_from}}
 use Rattle.olap_view.specs.declared.views.View as told
 
 -- the chosen of the views with one more
 chosen_more : (k : ℕ) (views : List (View ℕ ℕ)) (v : View ℕ ℕ) (mask : ℕ) → chosen_from k (views ++ v ∷ []) mask
     ≡ chosen_from k views mask ++ cond (bit_at mask (k + length views) == 1) (v ∷ []) []
 chosen_more k [] v mask = let e : k ≡ k + 0 = omega arith in ap (λ n. cond (bit_at mask n == 1) (v ∷ []) []) e
-chosen_more k (x ∷ views) v mask =
-    let e : (k + 1) + length views ≡ k + length (x ∷ views) = omega arith in
-    go (bit_at mask k == 1) (chosen_from (k + 1) (views ++ v ∷ []) mask) (chosen_from (k + 1) views mask)
-    (cond (bit_at mask (k + length (x ∷ views)) == 1) (v ∷ []) [])
-    (chosen_more (k + 1) views v mask
-    ∙ ap (λ n. chosen_from (k + 1) views mask ++ cond (bit_at mask n == 1) (v ∷ []) []) e)
-  where
-    go : (b : Bool) (more before last : List (View ℕ ℕ)) → more ≡ before ++ last
-        → cond b (x ∷ more) more ≡ cond b (x ∷ before) before ++ last
-    go true more before last e = ap (λ l. x ∷ l) e
-    go false more before last e = e
+chosen_more k (x ∷ views) v mask = grind (arith, chosen_more (k + 1) views v mask)
 
 -- the rows of chosen views
 abbrev pub rows_chosen : List (View ℕ ℕ) → ℕ → List (Row ℕ)

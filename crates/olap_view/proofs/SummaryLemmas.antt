@@ -1,25 +1,16 @@
 -- How large totals may be.
 use Rattle.std.proofs.Common.{ℕ, suc, ◌+◌, ◌*◌, ◌^◌, ◌≤◌, List, [], ◌∷◌, length, map, arith, ℤ, Option, Some, None, IfSome, w64}
-use Rattle.std.specs.Prelude.{All, int_lt}
+use Rattle.std.{proofs.lemmas.Int.ints, proofs.lemmas.List.Elements.{All-head, All-tail}, specs.Prelude.All}
+use Rattle.olap_base.{proofs.GeneralLemmas.either_fits, specs.Limits.{most_count, most_sum}}
+use Rattle.olap_base.specs.{Summaries.{Summary, joined, of_value, total, ◌⊕◌}, Views.Row}
+use Rattle.olap_view.specs.{Bounds.{IsJoinable, IsOfValues, IsUpTo}, Stores.IsStored}
 use mir.Val.{SFits}
-use Rattle.std.proofs.lemmas.Int.{ints}
-use Rattle.std.proofs.lemmas.List.Elements.{All-head, All-tail}
-use Rattle.olap_base.specs.Limits.{most_count, most_sum}
-use Rattle.olap_base.specs.Summaries.{Summary, joined, of_value, total, ◌⊕◌}
-use Rattle.olap_base.specs.Views.{Row}
-use Rattle.olap_view.specs.Bounds.{IsJoinable, IsOfValues, IsUpTo}
-use Rattle.olap_view.specs.Stores.{IsStored}
-use Rattle.olap_base.proofs.GeneralLemmas.{either_fits}
 
 -- ---- counts and sums
 
 -- what is up to these is up to greater ones
 pub up_to_more : (n m k l : ℕ) (s : Summary) → n ≤ k → m ≤ l → IsUpTo n m s → IsUpTo k l s
-up_to_more n m k l s h g u = let a = u.count in let b = u.sum_from in let d = u.sum_to in record {
-  count = omega arith;
-  sum_from = omega (arith, ints);
-  sum_to = omega (arith, ints);
-}
+up_to_more n m k l s h g u = grind (arith, ints)
 
 -- a summary up to smaller numbers may be joined
 pub joinable : (n m : ℕ) (s : Summary) → n ≤ 2 ^ 62 → m ≤ 2 ^ 125 → IsUpTo n m s → IsJoinable s
@@ -27,10 +18,7 @@ joinable n m = up_to_more n m (2 ^ 62) (2 ^ 125)
 
 -- counts and sums are added
 pub joined_up_to : (n m k l : ℕ) (s t : Summary) → IsUpTo n m s → IsUpTo k l t → IsUpTo (n + k) (m + l) (joined s t)
-joined_up_to n m k l s t u v =
-    let a = u.count in let b = u.sum_from in let d = u.sum_to in
-    let e = v.count in let f = v.sum_from in let g = v.sum_to in
-    record { count = omega arith; sum_from = omega (arith, ints); sum_to = omega (arith, ints) }
+joined_up_to n m k l s t u v = grind (arith, ints)
 
 -- ---- rows that are stored
 
@@ -68,24 +56,12 @@ value_is v f = record { some = omega arith; up_to = value_up_to v f; least = f; 
 
 -- what is of some values is of more
 pub of_values_more : (n k : ℕ) (s : Summary) → n ≤ k → IsOfValues n s → IsOfValues k s
-of_values_more n k s h q = record {
-  some = q.some;
-  up_to = up_to_more n (n * 2 ^ 63) k (k * 2 ^ 63) s h (omega arith) q.up_to;
-  least = q.least;
-  greatest = q.greatest;
-}
+of_values_more n k s h q = grind (arith, up_to_more)
 
 -- one value more
 joined_of_values : (n : ℕ) (v : ℤ) (s : Summary) → SFits w64 v → IsOfValues n s
     → IsOfValues (suc n) (joined (of_value v) s)
-joined_of_values n v s f q = record {
-  some = omega arith;
-  up_to = up_to_more (1 + n) (2 ^ 63 + n * 2 ^ 63) (suc n) (suc n * 2 ^ 63) (joined (of_value v) s) (omega arith)
-      (omega arith)
-      (joined_up_to 1 (2 ^ 63) n (n * 2 ^ 63) (of_value v) s (value_up_to v f) q.up_to);
-  least = either_fits (int_lt s.least v) s.least v q.least f;
-  greatest = either_fits (int_lt s.greatest v) v s.greatest f q.greatest;
-}
+joined_of_values n v s f q = grind (arith, up_to_more, joined_up_to, value_up_to, either_fits)
 
 -- the total of values of 64 bits, by how many they are
 pub total_of_value_list : (vs : List ℤ) → All (SFits w64) vs → IfSome (total (map of_value vs)) (IsOfValues (length vs))

@@ -1,32 +1,22 @@
 -- What stands in summary tables.
 --     filled_start, filled_more  rows of stored views, one after another
-use Rattle.std.proofs.Common.{◌≡◌, ◌≢◌, ℕ, suc, ◌+◌, ◌<◌, ◌≤◌, List, [], ◌∷◌, ◌++◌, length, get_or, set, map, take, Bool, true, false, cond, refl, ap, sym, subst, ◌∙◌, inl, inr, arith, Option, Some, None, IfSome, get_or-set_same, get_or-set_other}
-use Rattle.std.specs.Prelude.{◌==◌, ◌⊎◌, All, AllPairs, Contains, filter_map, find}
-use Rattle.std.specs.List.{range_with_len}
-use Rattle.std.specs.Option.{option_map, option_or}
+use Rattle.std.proofs.Common.{◌≡◌, ◌≢◌, ℕ, suc, ◌+◌, ◌<◌, ◌≤◌, List, [], ◌∷◌, ◌++◌, length, get_or, set, map, take, cond, refl, ap, sym, subst, ◌∙◌, inl, inr, arith, Option, Some, None, IfSome, get_or-set_same, get_or-set_other}
+use Rattle.std.proofs.lemmas.{Bool.{eq-eqb, ne_eqb}, Grind.common_steps}
 use Rattle.std.proofs.lemmas.List.{get_or-map, get_or-take, get_or_default, length-map, length-take-le, map-append, take_more}
-use Rattle.std.proofs.lemmas.List.FromFn.{get_or-range_with_len, length-range_with_len}
-use Rattle.std.proofs.lemmas.List.Elements.{Contains-get_or}
-use Rattle.std.proofs.lemmas.List.Folds.{find-append}
-use native.Mathlib.Decide.{ℕ_discrete}
-use Rattle.olap_base.specs.Instance.{Instance, IsMemberOf, category_of}
-use Rattle.olap_base.specs.Reaching.{reaches}
-use Rattle.olap_base.specs.Summaries.{Summary, ◌⊕◌}
-use Rattle.olap_base.specs.Views.{Row, View, members_of, row_at}
-use Rattle.olap_base.proofs.ListLemmas.{Contains-map, map_same}
+use Rattle.std.proofs.lemmas.List.{Elements.Contains-get_or, Folds.find-append}
+use Rattle.std.{proofs.lemmas.List.FromFn.{get_or-range_with_len, length-range_with_len}, specs.List.range_with_len}
+use Rattle.std.specs.{Option.{option_map, option_or}, Prelude.{◌==◌, ◌⊎◌, All, AllPairs, Contains, filter_map, find}}
+use Rattle.olap_base.{proofs.ListLemmas.{Contains-map, map_same}, specs.Instance.{Instance, IsMemberOf, category_of}}
+use Rattle.olap_base.specs.{Reaching.reaches, Summaries.{Summary, ◌⊕◌}, Views.{Row, View, members_of, row_at}}
 use Rattle.olap_base.specs.declared.ids.CatId.{CatId}
-use Rattle.olap_view.specs.Bounds.{IsJoinable}
-use Rattle.olap_view.specs.Seen.{each_view_of, ids, summary_of, view_of}
-use Rattle.olap_view.specs.Stores.{IsInFileOrder, summary_in}
+use Rattle.olap_view.proofs.{FileOrderLemmas.rows-back, TableLemmas.places_kept, ViewingLemmas.rows_same}
+use Rattle.olap_view.specs.{Bounds.IsJoinable, Seen.{each_view_of, ids, summary_of}, Stores.{IsInFileOrder, summary_in}}
 use Rattle.olap_view.specs.SummaryTables.{IsSummaryTable, Summarized, categories_in, stands_at, summarized, view_at, views_at}
 use Rattle.olap_view.specs.Tables.{AreJoined, HasPlaces, HasRoom, IsAmong, categories_of, place_in, summary_at, view_in, when}
-use Rattle.olap_view.specs.declared.summaries.Summary as told
 use Rattle.olap_view.specs.declared.tables.Table.{Table}
+use native.Mathlib.Decide.{ℕ_discrete}
+use Rattle.olap_view.specs.declared.summaries.Summary as told
 use Rattle.olap_view.specs.declared.views.View as told_view
-use Rattle.olap_view.proofs.FileOrderLemmas.{rows-back}
-use Rattle.olap_view.proofs.TableLemmas.{places_kept}
-use Rattle.olap_view.proofs.ViewingLemmas.{rows_same}
-use Rattle.std.proofs.lemmas.Bool.{eq-eqb, ne_eqb}
 
 -- ---- what stands at a member
 
@@ -43,50 +33,19 @@ pub put_at : (i : Instance) (t u : Table) (y : ℕ) (s : told.Summary) → HasPl
     → u.places ≡ t.places → u.summaries.items ≡ set t.summaries.items (place_in t y) (Some s)
     → (z : ℕ) → IsAmong i (categories_of t) z
     → stands_at (summarized i u) z ≡ cond (z == y) (Some (summary_of s)) (stands_at (summarized i t) z)
-put_at i t u y s p a f g z m =
-    summarized_is i u z m.member ∙ seen ∙ at (ℕ_discrete z y)
-    ∙ ap (cond (z == y) (Some (summary_of s))) (sym (summarized_is i t z m.member))
-  where
-    inside : place_in t y < length t.summaries.items
-    inside = p.inside y a
-
-    seen : summary_at u z
-        ≡ option_map summary_of (get_or (set t.summaries.items (place_in t y) (Some s)) (place_in t z) None)
-    seen = ap (λ q. option_map summary_of (get_or u.summaries.items (get_or q.items z 0) None)) f
-        ∙ ap (λ l. option_map summary_of (get_or l (place_in t z) None)) g
-
-    here : get_or (set t.summaries.items (place_in t y) (Some s)) (place_in t y) None ≡ Some s
-    here = let q = inside in rw get_or-set_same refl
-
-    there : (w : ℕ) → w ≢ place_in t y
-        → get_or (set t.summaries.items (place_in t y) (Some s)) w None ≡ get_or t.summaries.items w None
-    there w n = rw get_or-set_other refl
-
-    at : Dec (z ≡ y)
-        → option_map summary_of (get_or (set t.summaries.items (place_in t y) (Some s)) (place_in t z) None)
-        ≡ cond (z == y) (Some (summary_of s)) (summary_at t z)
-    at (yes e) =
-        ap (λ w. option_map summary_of (get_or (set t.summaries.items (place_in t y) (Some s)) (place_in t w) None)) e
-        ∙ ap (option_map summary_of) here
-        ∙ sym (ap (λ b. cond b (Some (summary_of s)) (summary_at t z)) (eq-eqb z y e))
-    at (no n) = ap (option_map summary_of) (there (place_in t z) (λ q. n (p.apart z y m a q)))
-        ∙ sym (ap (λ b. cond b (Some (summary_of s)) (summary_at t z)) (ne_eqb z y n))
+put_at i t u y s p a f g z m = grind (arith, summarized_is, get_or-set_same, get_or-set_other, eq-eqb, ne_eqb)
 
 -- after a summary was joined to what stands at the members that x reaches
 pub joined_at : (i : Instance) (x : ℕ) (s : Summary) (t u : Table) → AreJoined i x s t u
     → (y : ℕ) → IsAmong i (categories_of t) y
     → stands_at (summarized i u) y ≡ stands_at (summarized i t) y ⊕ when (reaches i x y) s
-joined_at i x s t u j y m =
-    summarized_is i u y m.member ∙ j.at y m
-    ∙ ap (λ o. o ⊕ when (reaches i x y) s) (sym (summarized_is i t y m.member))
+joined_at i x s t u j y m = grind (arith, summarized_is)
 
 -- ---- views
 
 -- the view of a category
 pub view_at-is : (i : Instance) (t : Table) (c : ℕ) → view_in i t c ≡ view_at (summarized i t) c
-view_at-is i t c = ap (λ rows. record { target = c; rows = rows })
-    (rows_same i c (λ y. row_at y (summary_at t y)) (λ y. row_at y (stands_at (summarized i t) y))
-    (λ y m. ap (row_at y) (sym (summarized_is i t y m.0))))
+view_at-is i t c = grind (arith, rows_same, summarized_is)
 
 -- the views of the categories
 pub views_at-are : (i : Instance) (t : Table) → map (view_in i t) (categories_of t) ≡ views_at (summarized i t)
@@ -107,34 +66,7 @@ pub filled_more : (rows : List (Row ℕ)) (r : Row ℕ) (y : ℕ) (base before a
     → summary_in rows r.at ≡ None → before ≡ option_or (summary_in rows y) base
     → after ≡ cond (y == r.at) (Some r.summary) before
     → after ≡ option_or (summary_in (rows ++ r ∷ []) y) base
-filled_more rows r y base before after n e f = f ∙ go (ℕ_discrete y r.at)
-  where
-    behind : (b : Bool) → (r.at == y) ≡ b
-        → summary_in (rows ++ r ∷ []) y
-        ≡ option_map (λ (q : Row ℕ). q.summary) (option_or (find (λ q. q.at == y) rows) (cond b (Some r) None))
-    behind b t = ap (option_map (λ (q : Row ℕ). q.summary)) (find-append (λ (q : Row ℕ). q.at == y) rows (r ∷ [])
-        ∙ ap (λ t. option_or (find (λ q. q.at == y) rows) (cond t (Some r) None)) t)
-
-    nothing : (o : Option (Row ℕ)) → option_map (λ (q : Row ℕ). q.summary) o ≡ None → o ≡ None
-    nothing None q = refl
-    nothing (Some x) q = absurd (cc)
-
-    or_nothing : (o : Option (Row ℕ)) → option_or o None ≡ o
-    or_nothing None = refl
-    or_nothing (Some x) = refl
-
-    go : Dec (y ≡ r.at)
-        → cond (y == r.at) (Some r.summary) before ≡ option_or (summary_in (rows ++ r ∷ []) y) base
-    go (yes q) =
-        let none : find (λ q. q.at == y) rows ≡ None =
-        nothing (find (λ q. q.at == y) rows) (subst (λ z. summary_in rows z ≡ None) (sym q) n) in
-        ap (λ b. cond b (Some r.summary) before) (eq-eqb y r.at q)
-        ∙ sym (ap (λ o. option_or o base) (behind true (eq-eqb r.at y (sym q))
-        ∙ ap (λ o. option_map (λ (q : Row ℕ). q.summary) (option_or o (Some r))) none))
-    go (no m) =
-        ap (λ b. cond b (Some r.summary) before) (ne_eqb y r.at m) ∙ e
-        ∙ sym (ap (λ o. option_or o base) (behind false (ne_eqb r.at y (λ q. m (sym q)))
-        ∙ ap (option_map (λ (q : Row ℕ). q.summary)) (or_nothing (find (λ q. q.at == y) rows))))
+filled_more rows r y base before after n e f = grind (arith, find-append, eq-eqb, ne_eqb)
 
 -- the rows before the k-th stand at other members
 pub not_before : (rows : List (Row ℕ)) (k : ℕ) (d : Row ℕ) → AllPairs ◌<◌ (map (λ r. r.at) rows) → k < length rows
@@ -182,12 +114,7 @@ among_view i views t e f j d l y m = record {
 pub filled_first : (i : Instance) (views : List (View ℕ ℕ)) (t : Summarized) → t.instance ≡ i
     → t.categories ≡ categories_in views → ((y : ℕ) → IsAmong t.instance t.categories y → stands_at t y ≡ None)
     → IsFilled i views 0 t
-filled_first i views t e f none = record {
-  instance = e;
-  categories = f;
-  filled = λ j d h l y m. absurd (omega arith);
-  empty = λ j d h l y m. none y (among_view i views t e f j d l y m);
-}
+filled_first i views t e f none = grind (arith, among_view)
 
 -- or nothing
 or_none : (o : Option Summary) → option_or o None ≡ o
@@ -294,19 +221,10 @@ room_in i t a c k y m e =
 -- a table with the same categories and places is a summary table too
 pub table_kept : (i : Instance) (t u : Table) → u.categories ≡ t.categories → u.places ≡ t.places
     → length u.summaries.items ≡ length t.summaries.items → IsSummaryTable i t → IsSummaryTable i u
-table_kept i t u e f g p = record {
-  places = places_kept i t u e f g p.places;
-  differ = subst (AllPairs ◌≢◌) (sym (ap (λ v. map (λ d. d.0) v.items) e)) p.differ;
-}
+table_kept i t u e f g p = grind (arith, places_kept)
 
 -- the category of one view more
 pub categories_more : (views : List told_view.View) (k : ℕ) (v : told_view.View) (cs : List CatId) → k < length views
     → v ≡ get_or views k v → ids cs ≡ categories_in (each_view_of (take k views))
     → ids (cs ++ v.category ∷ []) ≡ categories_in (each_view_of (take (k + 1) views))
-categories_more views k v cs h is e =
-    let before = take k views in
-    map-append (λ (d : CatId). d.0) cs (v.category ∷ []) ∙ ap (λ (l : List ℕ). l ++ v.category.0 ∷ []) e
-    ∙ sym (ap (λ (l : List told_view.View). categories_in (each_view_of l)) (take_more views k v h)
-    ∙ ap (λ (w : told_view.View). categories_in (each_view_of (before ++ w ∷ []))) (sym is)
-    ∙ ap categories_in (map-append view_of before (v ∷ []))
-    ∙ map-append (λ (w : View ℕ ℕ). w.target) (each_view_of before) (view_of v ∷ []))
+categories_more views k v cs h is e = grind (arith, common_steps, map-append, take_more)

@@ -1,39 +1,27 @@
 -- Tables: their places, and what joining a summary leaves.
 --     places_start, _add, _skip, _done     places, member by member
 --     ids_more, ids_taken, id_in, id_fresh   categories one by one
-use Rattle.std.proofs.Common.{◌≡◌, ◌≢◌, ℕ, ◌+◌, ◌<◌, List, [], ◌∷◌, ◌++◌, length, get_or, set, take, map, Bool, true, false, ◌&&◌, ◌||◌, refl, ap, sym, subst, ◌∙◌, arith, Option, Some, None, get_or-set_same, get_or-set_other}
-use Rattle.std.specs.Prelude.{◌==◌, Contains, AllPairs}
-use Rattle.std.specs.List.{list_any}
-use Rattle.std.specs.Option.{option_map}
+use Rattle.std.proofs.Common.{rules, ◌≡◌, ◌≢◌, ℕ, ◌+◌, ◌<◌, List, [], ◌∷◌, ◌++◌, length, get_or, set, take, map, Bool, true, false, ◌&&◌, ◌||◌, refl, ap, sym, subst, ◌∙◌, arith, Option, Some, None, get_or-set_same, get_or-set_other}
+use Rattle.std.proofs.lemmas.{Bool.{eqb-true, eq-eqb}, Grind.common_steps}
 use Rattle.std.proofs.lemmas.List.{get_or-map, get_or-take, get_or_default, length-map, length-set, length-take-le, map-append, take-map, take_more}
-use Rattle.std.proofs.lemmas.List.Folds.{list_any-append}
-use native.Mathlib.Decide.{ℕ_discrete}
-use Rattle.olap_base.specs.Reaching.{reaches, reaches_is}
-use Rattle.olap_base.specs.Instance.{Instance, ReachesCategory, category_of}
-use Rattle.olap_base.specs.Summaries.{Summary, ◌⊕◌}
-use Rattle.olap_base.proofs.ListLemmas.{Contains-map, list_any_is}
-use Rattle.olap_base.specs.declared.ids.CatId.{CatId}
-use Rattle.olap_base.proofs.TotalLemmas.{⊕_none}
+use Rattle.std.{proofs.lemmas.List.Folds.list_any-append, specs.List.list_any, specs.Option.option_map}
+use Rattle.std.specs.Prelude.{◌==◌, Contains, AllPairs}
+use Rattle.olap_base.proofs.{GeneralLemmas.or_false, ListLemmas.{Contains-map, list_any_is}, TotalLemmas.⊕_none}
+use Rattle.olap_base.specs.{Instance.{Instance, ReachesCategory, category_of}, Reaching.{reaches, reaches_is}}
+use Rattle.olap_base.specs.{Summaries.{Summary, ◌⊕◌}, Views.View, declared.ids.CatId.CatId}
 use Rattle.olap_legal.specs.Ancestors.{IsAncestor}
-use Rattle.olap_base.specs.Views.{View}
 use Rattle.olap_view.specs.Seen.{each_view_of, ids, summary_of, view_of}
 use Rattle.olap_view.specs.Tables.{AreJoined, AreJoinedIn, HasPlaces, IsAmong, JoinedSoFar, PlacesSoFar, categories_of, place_in, summary_at, when}
-use Rattle.olap_view.specs.declared.summaries.Summary as told
 use Rattle.olap_view.specs.declared.tables.Table.{Table}
+use native.Mathlib.Decide.{ℕ_discrete}
+use Rattle.olap_view.specs.declared.summaries.Summary as told
 use Rattle.olap_view.specs.declared.views.View as told_view
-use Rattle.olap_base.proofs.GeneralLemmas.{or_false}
-use Rattle.std.proofs.lemmas.Bool.{eqb-true, eq-eqb}
 
 -- ---- places
 
 -- no member has a place yet
 pub places_start : (i : Instance) (cs places : List ℕ) → length places ≡ length i → PlacesSoFar i cs 0 0 places
-places_start i cs places e = record {
-  size = e;
-  few = omega arith;
-  inside = λ y h k. absurd (omega arith);
-  apart = λ y z h g k l e. absurd (omega arith);
-}
+places_start i cs places e = search rules
 
 module _ (i : Instance) (cs : List ℕ) (n k : ℕ) (places : List ℕ) (p : PlacesSoFar i cs n k places) where
   -- the next member gets the next place
@@ -172,20 +160,11 @@ any_from d cs e = let t = (list_any_is (λ e. d == e) cs).0 e in subst (Contains
 
 -- what isn't in the list isn't found
 pub none_before : (d : ℕ) (cs : List ℕ) → (Contains cs d → ⊥) → list_any (λ e. d == e) cs ≡ false
-none_before d cs n = go (list_any (λ e. d == e) cs) refl
-  where
-    go : (b : Bool) → list_any (λ e. d == e) cs ≡ b → b ≡ false
-    go true e = absurd (n (any_from d cs e))
-    go false e = refl
+none_before d cs n = grind (arith, any_from)
 
 -- joined in no category yet
 pub so_far_start : (i : Instance) (x : ℕ) (s : Summary) (before : Table) → JoinedSoFar i [] x s before before
-so_far_start i x s before = record {
-  same_categories = refl;
-  same_places = refl;
-  same_length = refl;
-  at = λ y m. sym (⊕_none (summary_at before y));
-}
+so_far_start i x s before = search ⊕_none
 
 module _ (i : Instance) (done : List ℕ) (c x : ℕ) (s : Summary) (before between : Table)
     (j : JoinedSoFar i done x s before between) (new : Contains done c → ⊥) where
@@ -236,13 +215,7 @@ module _ (i : Instance) (done : List ℕ) (c x : ℕ) (s : Summary) (before betw
 -- joined in all categories
 pub joined_all : (i : Instance) (x : ℕ) (s : Summary) (before after : Table)
     → JoinedSoFar i (categories_of before) x s before after → AreJoined i x s before after
-joined_all i x s before after j = record {
-  same_categories = j.same_categories;
-  same_places = j.same_places;
-  same_length = j.same_length;
-  at = λ y m. j.at y m ∙ ap (λ b. summary_at before y ⊕ when (b && reaches i x y) s)
-      (any_is (category_of i y) (categories_of before) m.category);
-}
+joined_all i x s before after j = grind (arith, common_steps, any_is)
 
 -- ---- what is as large has the same places
 
@@ -250,21 +223,7 @@ joined_all i x s before after j = record {
 pub places_kept : (i : Instance) (before after : Table) → after.categories ≡ before.categories
     → after.places ≡ before.places → length after.summaries.items ≡ length before.summaries.items
     → HasPlaces i before → HasPlaces i after
-places_kept i before after e f g p = record {
-  size = ap (λ l. length l.items) f ∙ p.size;
-  inside = λ y a. let q = place y in let b = p.inside y (among y a) in omega arith;
-  apart = λ y z a b q. p.apart y z (among y a) (among z b) (sym (place y) ∙ q ∙ place z);
-}
-  where
-    place : (y : ℕ) → place_in after y ≡ place_in before y
-    place y = ap (λ l. get_or l.items y 0) f
-
-    among : (y : ℕ) → IsAmong i (categories_of after) y → IsAmong i (categories_of before) y
-    among y a = record {
-      member = a.member;
-      category =
-          subst (λ l. Contains l (category_of i y)) (ap (λ l. map (λ d. d.0) l.items) e) a.category;
-    }
+places_kept i before after e f g p = search rules
 
 -- ---- categories one by one
 
@@ -302,7 +261,4 @@ pub views_more : (h : ℕ → View ℕ ℕ) (views : List told_view.View) (v : t
     (c : CatId)
     → k < length cs → c ≡ get_or cs k c → each_view_of views ≡ map h (ids (take k cs)) → view_of v ≡ h c.0
     → each_view_of (views ++ v ∷ []) ≡ map h (ids (take (k + 1) cs))
-views_more h views v cs k c l e o s =
-    map-append view_of views (v ∷ []) ∙ ap (λ (t : List (View ℕ ℕ)). t ++ view_of v ∷ []) o
-    ∙ ap (λ (w : View ℕ ℕ). map h (ids (take k cs)) ++ w ∷ []) s
-    ∙ sym (map-append h (ids (take k cs)) (c.0 ∷ [])) ∙ ap (map h) (sym (ids_more cs k c l e))
+views_more h views v cs k c l e o s = grind (arith, common_steps, map-append)

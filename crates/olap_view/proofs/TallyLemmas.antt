@@ -1,56 +1,34 @@
 -- For which fact tables a tally stands.
-use Rattle.std.proofs.Common.{◌≡◌, ℕ, ◌+◌, ◌<◌, ◌≤◌, List, [], ◌∷◌, ◌++◌, length, get_or, set, map, Bool, true, false, cond, refl, ap, sym, subst, ◌∙◌, arith, Option, Some, None, IfSome, w64, length-append, get_or-set_same, get_or-set_other}
-use Rattle.std.specs.Prelude.{All, Contains, filter, filter_map}
-use Rattle.std.specs.List.{range_with_len}
-use Rattle.std.specs.Option.{option_map}
-use mir.Val.{SFits}
-use native.Mathlib.Decide.{ℕ_discrete}
+use Rattle.std.proofs.Common.{◌≡◌, ℕ, ◌+◌, ◌<◌, ◌≤◌, List, [], ◌∷◌, ◌++◌, length, get_or, set, map, true, cond, refl, ap, sym, subst, ◌∙◌, arith, Option, Some, None, IfSome, w64, length-append, get_or-set_same, get_or-set_other}
 use Rattle.std.proofs.lemmas.List.{append-nil, get_or-map, get_or_default, length-set, map-append}
-use Rattle.std.proofs.lemmas.List.FromFn.{get_or-range_with_len, length-range_with_len}
 use Rattle.std.proofs.lemmas.List.Elements.{All-map, All-push, All-nil, Contains-get_or, filter-append}
-use Rattle.olap_base.specs.Reaching.{reaches}
-use Rattle.olap_base.specs.Instance.{Instance}
-use Rattle.olap_base.specs.Limits.{most_count, most_members}
-use Rattle.olap_base.specs.Summaries.{Summary, of_value, total, ◌⊕◌}
+use Rattle.std.{proofs.lemmas.List.FromFn.{get_or-range_with_len, length-range_with_len}, specs.List.range_with_len}
+use Rattle.std.specs.{Option.option_map, Prelude.{All, Contains, filter_map}}
+use Rattle.olap_base.proofs.{ListLemmas.map_same, TotalLemmas.{total_push, ⊕_assoc, ⊕_comm, ⊕_none}}
+use Rattle.olap_base.specs.{Instance.Instance, Limits.{most_count, most_members}, Reaching.reaches}
+use Rattle.olap_base.specs.Summaries.{Summary, of_value, ◌⊕◌}
 use Rattle.olap_base.specs.Views.{Fact, View, direct_view, members, members_of, row_at, total_of_facts, values_at}
-use Rattle.olap_base.proofs.TotalLemmas.{total_push, ⊕_assoc, ⊕_comm, ⊕_none}
-use Rattle.olap_view.specs.Seen.{summary_of}
-use Rattle.olap_view.specs.Stores.{Fits}
-use Rattle.olap_view.specs.SummaryTables.{Summarized, stands_at, view_at, views_at}
+use Rattle.olap_view.proofs.{FittingLemmas.direct_stored, ViewingLemmas.rows_same}
+use Rattle.olap_view.proofs.WaitingLemmas.{waiting_none, waiting_set, within_joined, within_more, within_value}
+use Rattle.olap_view.specs.{Seen.summary_of, Stores.Fits, SummaryTables.{Summarized, stands_at, view_at, views_at}}
 use Rattle.olap_view.specs.Tables.{IsAmong, when}
 use Rattle.olap_view.specs.Tallies.{IsTableOf, IsTableWithin, IsTally, IsWaitingWithin, IsWithin, StandsFor, Tallied, Waiting, tallied, tallied_at, waiting_at}
+use mir.Val.{SFits}
+use native.Mathlib.Decide.{ℕ_discrete}
 use Rattle.olap_view.specs.declared.summaries.Summary as told
-use Rattle.olap_view.proofs.FittingLemmas.{direct_stored}
-use Rattle.olap_view.proofs.ViewingLemmas.{rows_same}
-use Rattle.olap_view.proofs.WaitingLemmas.{waiting_none, waiting_set, within_joined, within_more, within_value}
-use Rattle.olap_base.proofs.ListLemmas.{map_same}
 
 -- ---- one fact more
 
 -- the values that reach a member, with one more fact
 values_push : (i : Instance) (fs : List (Fact ℕ)) (f : Fact ℕ) (y : ℕ)
     → values_at (members i) (fs ++ f ∷ []) y ≡ values_at (members i) fs y ++ cond (reaches i f.at y) (f.value ∷ []) []
-values_push i fs f y = ap (map (λ (g : Fact ℕ). g.value)) (filter-append (λ g. reaches i g.at y) fs (f ∷ []))
-    ∙ map-append (λ (g : Fact ℕ). g.value) (filter (λ g. reaches i g.at y) fs)
-    (filter (λ g. reaches i g.at y) (f ∷ []))
-    ∙ ap (λ t. map (λ (g : Fact ℕ). g.value) (filter (λ g. reaches i g.at y) fs) ++ t) (last (reaches i f.at y))
-  where
-    last : (b : Bool) → map (λ (g : Fact ℕ). g.value) (cond b (f ∷ []) []) ≡ cond b (f.value ∷ []) []
-    last true = refl
-    last false = refl
+values_push i fs f y = grind (arith, filter-append, map-append)
 
 -- what they come to, with one more fact
 total_more : (i : Instance) (fs : List (Fact ℕ)) (f : Fact ℕ) (y : ℕ)
     → total_of_facts (members i) (fs ++ f ∷ []) y
     ≡ total_of_facts (members i) fs y ⊕ when (reaches i f.at y) (of_value f.value)
-total_more i fs f y = ap (λ vs. total (map of_value vs)) (values_push i fs f y) ∙ go (reaches i f.at y)
-  where
-    go : (b : Bool) → total (map of_value (values_at (members i) fs y ++ cond b (f.value ∷ []) []))
-        ≡ total_of_facts (members i) fs y ⊕ when b (of_value f.value)
-    go true = ap total (map-append of_value (values_at (members i) fs y) (f.value ∷ []))
-        ∙ total_push (map of_value (values_at (members i) fs y)) (of_value f.value)
-    go false = ap (λ vs. total (map of_value vs)) (append-nil (values_at (members i) fs y))
-        ∙ sym (⊕_none (total_of_facts (members i) fs y))
+total_more i fs f y = grind (arith, values_push, map-append, total_push, append-nil, ⊕_none)
 
 -- a member of the categories of a table that has those of another is one of the other's
 pub among : (t u : Summarized) → u.instance ≡ t.instance → u.categories ≡ t.categories → (y : ℕ)
@@ -187,14 +165,7 @@ pub beside_waiting : (f : Fact ℕ) (there : Option told.Summary) (alone s : tol
     → f.at < length ws → there ≡ get_or ws f.at there → summary_of alone ≡ of_value f.value
     → Some (summary_of s) ≡ option_map summary_of there ⊕ Some (summary_of alone)
     → IsInWaiting f (Some s) ws (set ws f.at (Some s))
-beside_waiting f there alone s ws h e v j = record {
-  inside = h;
-  waiting = refl;
-  joined = j
-      ∙ ap (λ (o : Option told.Summary). option_map summary_of o ⊕ Some (summary_of alone))
-      (e ∙ get_or_default ws f.at there None h)
-      ∙ ap (λ (t : Summary). option_map summary_of (get_or ws f.at None) ⊕ Some t) v;
-}
+beside_waiting f there alone s ws h e v j = grind (arith, get_or_default)
 
 module _ (t : Summarized) (ws vs : Waiting) (n : ℕ) (f : Fact ℕ) (o : Option told.Summary)
     (j : IsInWaiting f o ws vs) where

@@ -1,14 +1,9 @@
 -- The rows of a category, member by member.
 use Rattle.std.proofs.Common.{◌≡◌, ◌≢◌, ℕ, suc, ◌+◌, List, [], ◌∷◌, ◌++◌, Bool, true, false, cond, refl, ap, sym, ◌∙◌, arith, Option, Some, None}
-use Rattle.std.specs.Prelude.{◌==◌, filter, filter_map}
-use Rattle.std.specs.List.{range_with_len}
-use Rattle.std.proofs.lemmas.Bool.Decides.{nat_tests}
-use Rattle.std.proofs.lemmas.List.{append-nil}
-use Rattle.std.proofs.lemmas.List.Elements.{filter-append, filter_map-append}
-use Rattle.olap_base.specs.Instance.{Instance, IsMemberOf}
-use Rattle.olap_base.specs.Views.{Row, members_of}
-use Rattle.olap_base.proofs.ListLemmas.{range_more, filter_map_same}
-use Rattle.olap_base.proofs.ViewLemmas.{members_of_is}
+use Rattle.std.proofs.lemmas.{Bool.Decides.nat_tests, List.append-nil, List.Elements.{filter-append, filter_map-append}}
+use Rattle.std.specs.{List.range_with_len, Prelude.{◌==◌, filter, filter_map}}
+use Rattle.olap_base.proofs.{ListLemmas.{range_more, filter_map_same}, ViewLemmas.members_of_is}
+use Rattle.olap_base.specs.{Instance.{Instance, IsMemberOf}, Views.{Row, members_of}}
 
 -- the list after y, which passes or doesn't, and gives an item or doesn't
 abbrev pub list_after : {A : Type 0} → List A → Bool → Option A → List A

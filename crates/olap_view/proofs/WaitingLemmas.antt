@@ -1,18 +1,13 @@
 -- Summaries that wait at members.
 --     within_more, within_joined, within_joinable, within_value   how great they are
 use Rattle.std.proofs.Common.{◌≡◌, ℕ, zero, suc, ◌+◌, ◌*◌, ◌^◌, ◌<◌, ◌≤◌, [], ◌∷◌, ◌++◌, length, get_or, set, take, Bool, true, false, cond, refl, sym, ap, ◌∙◌, ℤ, Option, Some, None, IfSome, w64, arith}
-use mir.Val.{SFits}
-use Rattle.std.specs.Option.{option_map}
-use Rattle.std.proofs.lemmas.List.{length-take-le, take_more}
-use Rattle.olap_base.specs.Instance.{Instance}
-use Rattle.olap_base.specs.Reaching.{reaches}
+use Rattle.std.{proofs.lemmas.List.{length-take-le, take_more}, specs.Option.option_map}
+use Rattle.olap_base.{proofs.TotalLemmas.{⊕_assoc, ⊕_comm, ⊕_none}, specs.Instance.Instance, specs.Reaching.reaches}
 use Rattle.olap_base.specs.Summaries.{Summary, joined, of_value, ◌⊕◌}
-use Rattle.olap_base.proofs.TotalLemmas.{⊕_assoc, ⊕_comm, ⊕_none}
-use Rattle.olap_view.specs.Seen.{summary_of}
-use Rattle.olap_view.specs.Tables.{when}
-use Rattle.olap_view.specs.Tallies.{IsWithin, Waiting, waiting_from}
+use Rattle.olap_view.{proofs.SummaryLemmas.{joined_up_to, up_to_more, value_up_to}, specs.Seen.summary_of}
+use Rattle.olap_view.specs.{Tables.when, Tallies.{IsWithin, Waiting, waiting_from}}
+use mir.Val.{SFits}
 use Rattle.olap_view.specs.declared.summaries.Summary as told
-use Rattle.olap_view.proofs.SummaryLemmas.{joined_up_to, up_to_more, value_up_to}
 
 -- ---- what waits at the members that reach one
 

@@ -1,7 +1,6 @@
 -- The texts of the parts so far stand after the earlier ones. The measure is the size of what is gone through.
 use Rattle.std.proofs.Common.{◌≡◌, ◌≤◌, ◌+◌, ◌*◌, ◌++◌}
-use Rattle.olap_ast.specs.Atoms.{equalities_of_terms, texts_on}
-use Rattle.olap_ast.specs.Trees.{formula_of, terms_of}
+use Rattle.olap_ast.specs.{Atoms.{equalities_of_terms, texts_on}, Trees.{formula_of, terms_of}}
 use Rattle.olap_ast.specs.Valid.{node_count, node_count_of_terms}
 use Rattle.olap_ast.proofs.collecting.+gather.Given as goal
 

@@ -1,7 +1,6 @@
 -- The numbers of the parts so far stand after the earlier ones. The measure is the size of what is gone through.
 use Rattle.std.proofs.Common.{◌≡◌, ◌≤◌, ◌+◌, ◌*◌, ◌++◌}
-use Rattle.olap_ast.specs.Atoms.{comparisons_of_terms, numbers_on}
-use Rattle.olap_ast.specs.Trees.{formula_of, terms_of}
+use Rattle.olap_ast.specs.{Atoms.{comparisons_of_terms, numbers_on}, Trees.{formula_of, terms_of}}
 use Rattle.olap_ast.specs.Valid.{node_count, node_count_of_terms}
 use Rattle.olap_ast.proofs.collecting.+gather_numbers.Given as goal
 

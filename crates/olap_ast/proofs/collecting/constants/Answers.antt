@@ -7,10 +7,9 @@ use Rattle.olap_ast.proofs.collecting.constants.Goals as goal
 
 pub returns : goal.returns
 returns c =
-    let is = dedup_is _ _ _ c.dedup.ensures.filtered in
     let moved = c.sort_unstable.ensures.permutation in
     let gathered = rw c.new-texts.ensures.items at c.in_ok-gather.ensures in
-    rw (c.from_vec.ensures, is) (record {
+    rw (c.from_vec.ensures, dedup_is _ _ _ c.dedup.ensures.filtered) (record {
       ordered =
           in_order _ (IsStrictlySortedBy-dedup nat_list_cmp_total texts_ties _ c.sort_unstable.ensures.sorted);
       sound = λ text h. rw (← gathered) (Contains-permutation _ _ text (IsPermutation-sym _ _ moved)

@@ -1,7 +1,5 @@
-use Rattle.std.proofs.Common.{arith}
-use Rattle.std.proofs.lemmas.Grind.{common_steps}
-use Rattle.olap_ast.specs.Trees.{terms_of}
-use Rattle.olap_ast.proofs.ListingLemmas.{parts_before-push}
+use Rattle.std.proofs.{Common.arith, lemmas.Grind.common_steps}
+use Rattle.olap_ast.{proofs.ListingLemmas.parts_before-push, specs.Trees.terms_of}
 use Rattle.olap_ast.proofs.copying.+copy.Goals as goal
 
 pub copy_terms-parts-preserved : goal.copy_terms-parts-preserved

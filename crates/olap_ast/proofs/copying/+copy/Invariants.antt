@@ -1,8 +1,6 @@
 -- The copies so far, before the parts that are left, are the list. The measure is the size of what is copied.
 use Rattle.std.proofs.Common.{◌≡◌, ◌≤◌, ◌+◌, ◌*◌, map}
-use Rattle.olap_ast.specs.Listing.{parts_before}
-use Rattle.olap_ast.specs.Trees.{formula_of, terms_of}
-use Rattle.olap_ast.specs.Valid.{node_count, node_count_of_terms}
+use Rattle.olap_ast.specs.{Listing.parts_before, Trees.{formula_of, terms_of}, Valid.{node_count, node_count_of_terms}}
 use Rattle.olap_ast.proofs.copying.+copy.Given as goal
 
 abbrev pub decreases-copy : goal.decreases-copy

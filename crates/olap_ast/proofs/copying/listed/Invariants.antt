@@ -1,9 +1,7 @@
 -- The parts that are left, before those taken so far, are the list.
-use Rattle.std.proofs.Common.{◌≡◌, map}
-use Rattle.std.specs.Prelude.{vec_len}
+use Rattle.std.{proofs.Common.{◌≡◌, map}, specs.Prelude.vec_len}
+use Rattle.olap_ast.specs.{Listing.parts_before, Trees.{formula_of, terms_of}}
 use Rattle.olap_ast.specs.Formula as Meaning
-use Rattle.olap_ast.specs.Listing.{parts_before}
-use Rattle.olap_ast.specs.Trees.{formula_of, terms_of}
 use Rattle.olap_ast.proofs.copying.listed.Given as goal
 
 abbrev pub invariant-parts : goal.invariant-parts

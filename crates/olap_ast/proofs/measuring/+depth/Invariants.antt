@@ -1,8 +1,6 @@
 -- The depth of the parts so far is known. A formula is deeper than a part, and a list as deep as its deepest part.
-use Rattle.std.proofs.Common.{◌≡◌, ◌+◌, ◌*◌}
-use Rattle.std.specs.Prelude.{max}
-use Rattle.olap_ast.specs.Trees.{formula_of, terms_of}
-use Rattle.olap_ast.specs.Valid.{depth_of, depth_of_terms}
+use Rattle.std.{proofs.Common.{◌≡◌, ◌+◌, ◌*◌}, specs.Prelude.max}
+use Rattle.olap_ast.specs.{Trees.{formula_of, terms_of}, Valid.{depth_of, depth_of_terms}}
 use Rattle.olap_ast.proofs.measuring.+depth.Given as goal
 
 abbrev pub decreases-depth : goal.decreases-depth

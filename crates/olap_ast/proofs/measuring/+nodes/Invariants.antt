@@ -1,7 +1,6 @@
 -- The parts so far are counted. A formula has more nodes than a part, and a list as many as its parts.
 use Rattle.std.proofs.Common.{◌≡◌, ◌+◌, ◌*◌}
-use Rattle.olap_ast.specs.Trees.{formula_of, terms_of}
-use Rattle.olap_ast.specs.Valid.{node_count, node_count_of_terms}
+use Rattle.olap_ast.specs.{Trees.{formula_of, terms_of}, Valid.{node_count, node_count_of_terms}}
 use Rattle.olap_ast.proofs.measuring.+nodes.Given as goal
 
 abbrev pub decreases-nodes : goal.decreases-nodes

@@ -1,6 +1,5 @@
 -- None of those before stands twice.
-use Rattle.std.proofs.Common.{◌≡◌, ℕ, ◌<◌}
-use Rattle.std.specs.Prelude.{slice_index}
+use Rattle.std.{proofs.Common.{◌≡◌, ℕ, ◌<◌}, specs.Prelude.slice_index}
 use Rattle.olap_ast.specs.Trees.{numbers_of}
 use Rattle.olap_ast.proofs.questioning.are_distinct.Given as goal
 

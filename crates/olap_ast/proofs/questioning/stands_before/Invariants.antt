@@ -1,6 +1,5 @@
 -- None before is the same.
-use Rattle.std.proofs.Common.{◌≡◌, ℕ, ◌<◌}
-use Rattle.std.specs.Prelude.{slice_index}
+use Rattle.std.{proofs.Common.{◌≡◌, ℕ, ◌<◌}, specs.Prelude.slice_index}
 use Rattle.olap_ast.specs.Trees.{numbers_of}
 use Rattle.olap_ast.proofs.questioning.stands_before.Given as goal
 

@@ -1,5 +1,4 @@
-use Rattle.std.proofs.Common.{◌-◌, arith}
-use Rattle.std.proofs.lemmas.Grind.{common_steps}
+use Rattle.std.proofs.{Common.{◌-◌, arith}, lemmas.Grind.common_steps}
 use Rattle.olap_ast.proofs.SourceLemmas.{vias_more}
 use Rattle.olap_ast.proofs.questioning.vias.Goals as goal
 

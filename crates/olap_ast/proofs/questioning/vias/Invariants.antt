@@ -1,7 +1,6 @@
 -- The terms are those of the sources from this one on.
 use Rattle.std.proofs.Common.{◌≡◌, ◌≤◌, length, drop}
-use Rattle.olap_ast.specs.Summarizable.{vias}
-use Rattle.olap_ast.specs.Trees.{numbers_of, terms_of}
+use Rattle.olap_ast.specs.{Summarizable.vias, Trees.{numbers_of, terms_of}}
 use Rattle.olap_ast.proofs.questioning.vias.Given as goal
 
 abbrev pub invariant-sources : goal.invariant-sources

@@ -1,10 +1,9 @@
 -- A present category is counted, and an absent one isn't.
-use Rattle.std.proofs.Common.{◌-◌, ◌≤◌, sym, ap, ◌∙◌, arith}
-use Rattle.olap_ast.specs.Frozen.{chosen, is_present}
-use Rattle.olap_cex.specs.FoundFor.{found_edges}
+use Rattle.std.proofs.Common.{◌-◌, sym, ◌∙◌, arith}
 use Rattle.olap_cex.proofs.PresentLemmas.{count_few, count_more, count_same}
-use Rattle.olap_cex.proofs.counterexamples.place_of.Goals as goal
 use Rattle.olap_cex.proofs.counterexamples.place_of.Goals.{then-has_member, else-has_member}
+use Rattle.olap_cex.specs.FoundFor.{found_edges}
+use Rattle.olap_cex.proofs.counterexamples.place_of.Goals as goal
 
 pub overflow_add-place : goal.overflow_add-place
 overflow_add-place c =
@@ -15,16 +14,11 @@ overflow_add-place c =
 
 pub categories-preserved : goal.categories-preserved
 categories-preserved c =
-    let es = found_edges g f in
-    let some : 1 ≤ x = omega arith in
-    let tells = c.has_member.ensures ∙ ap (λ bits. is_present r (chosen g.edges bits) x) c.items.ensures in
     elim c.if-has_member.branch [
-      | then-has_member w ↦
-          count_more r es x c.categories.place c.if-has_member.place some (sym tells ∙ w.if-has_member.true)
-          c.categories.invariant w.place-is
-      | else-has_member w ↦
-          count_same r es x c.categories.place c.if-has_member.place some (sym tells ∙ w.if-has_member.false)
-          c.categories.invariant w.place-is
+      | then-has_member w ↦ count_more r (found_edges g f) x (omega arith)
+          (rw c.items.ensures at (sym c.has_member.ensures ∙ w.if-has_member.true)) c.categories.invariant w.place-is
+      | else-has_member w ↦ count_same r (found_edges g f) x (omega arith)
+          (rw c.items.ensures at (sym c.has_member.ensures ∙ w.if-has_member.false)) c.categories.invariant w.place-is
     ]
   where
     open c use {args.graph.now as g, args.found.now as f, args.found.now.frozen.root.0 as r, categories.d as x}

@@ -1,7 +1,6 @@
 -- The present categories so far are counted.
 use Rattle.std.proofs.Common.{◌≡◌, ◌-◌, length}
-use Rattle.olap_cex.specs.FoundFor.{found_edges}
-use Rattle.olap_cex.specs.Present.{first_present}
+use Rattle.olap_cex.specs.{FoundFor.found_edges, Present.first_present}
 use Rattle.olap_cex.proofs.counterexamples.place_of.Given as goal
 
 abbrev pub invariant-categories : goal.invariant-categories

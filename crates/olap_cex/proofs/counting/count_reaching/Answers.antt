@@ -1,12 +1,10 @@
 -- A way in the rows is one in the instance.
 use Rattle.std.proofs.Common.{map, subst}
 use Rattle.olap_ast.specs.Frozen.{chosen}
-use Rattle.olap_base.specs.Graph.{IsCategory}
-use Rattle.olap_base.specs.Instance.{ReachesVia}
+use Rattle.olap_base.specs.{Graph.IsCategory, Instance.ReachesVia}
 use Rattle.olap_frozen.specs.Rows.{AreRows}
-use Rattle.olap_cex.specs.CexFor.{IsWay}
+use Rattle.olap_cex.{proofs.CountLemmas.{among, holds_swap, way_is}, specs.CexFor.IsWay}
 use Rattle.olap_cex.specs.FoundFor.{found_instance, found_place}
-use Rattle.olap_cex.proofs.CountLemmas.{among, holds_swap, way_is}
 use Rattle.olap_cex.proofs.counting.count_reaching.Goals as goal
 
 pub returns-clause-count : goal.returns-clause-count

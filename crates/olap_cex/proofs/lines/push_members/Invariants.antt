@@ -1,9 +1,7 @@
 -- The texts of the present categories so far are appended.
-use Rattle.std.proofs.Common.{◌≡◌, ◌++◌, ◌-◌}
-use Rattle.std.specs.Prelude.{flat_map}
+use Rattle.std.{proofs.Common.{◌≡◌, ◌++◌, ◌-◌}, specs.Prelude.flat_map}
 use Rattle.olap_ast.specs.Frozen.{chosen}
-use Rattle.olap_cex.specs.FrozenText.{member_text}
-use Rattle.olap_cex.specs.Present.{first_present}
+use Rattle.olap_cex.specs.{FrozenText.member_text, Present.first_present}
 use Rattle.olap_frozen.specs.LeastFound.{frozen_of}
 use Rattle.olap_names.specs.Names.{candidates_of}
 use Rattle.olap_cex.proofs.lines.push_members.Given as goal

@@ -1,10 +1,9 @@
 -- A chosen edge has two ends.
-use Rattle.std.proofs.Common.{◌≡◌, ◌+◌, ap, sym, subst, ◌∙◌, arith, get_or, false}
-use Rattle.std.specs.FinSet.{insert}
+use Rattle.std.{proofs.Common.{◌+◌, ap, sym, subst, ◌∙◌, arith, get_or, false}, specs.FinSet.insert}
 use Rattle.olap_bits.specs.Sets.{members}
 use Rattle.olap_cex.proofs.EndLemmas.{AreEnds, ends_all, ends_less, ends_more, ends_none}
-use Rattle.olap_cex.proofs.members.ends_of.Goals as goal
 use Rattle.olap_cex.proofs.members.ends_of.Goals.{then-edges-from, else-edges-from}
+use Rattle.olap_cex.proofs.members.ends_of.Goals as goal
 
 pub edges-init : goal.edges-init
 edges-init c = ends_none c.args.graph.now.edges c.args.edges.now (members c.empty-found.result) c.empty-found.ensures

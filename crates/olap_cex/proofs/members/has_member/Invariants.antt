@@ -1,7 +1,6 @@
 -- No edge before this one has the category as an end.
 use Rattle.std.proofs.Common.{◌≡◌, ℕ, ◌<◌, true, false, get_or}
-use Rattle.olap_cex.specs.Present.{has_end}
-use Rattle.olap_cex.proofs.PresentLemmas.{nowhere}
+use Rattle.olap_cex.{proofs.PresentLemmas.nowhere, specs.Present.has_end}
 use Rattle.olap_cex.proofs.members.has_member.Given as goal
 
 abbrev pub invariant-edges : goal.invariant-edges

@@ -1,7 +1,6 @@
 -- The present categories so far have members, and each has its place.
 use Rattle.std.proofs.Common.{◌≡◌, ℕ, ◌-◌, ◌<◌, [], None, length, get_or}
-use Rattle.olap_cex.specs.FoundFor.{found_draft, found_edges}
-use Rattle.olap_cex.specs.Present.{place_or_all}
+use Rattle.olap_cex.specs.{FoundFor.{found_draft, found_edges}, Present.place_or_all}
 use Rattle.olap_instance.specs.DraftInside.{number_of}
 use Rattle.olap_cex.proofs.thawing.add_members.Given as goal
 

@@ -1,6 +1,5 @@
 -- The draft, finished, is the instance.
-use Rattle.std.proofs.Common.{◌≡◌, ◌∙◌, ap, subst}
-use Rattle.std.specs.Prelude.{IfOk}
+use Rattle.std.{proofs.Common.{◌≡◌, ◌∙◌, ap, subst}, specs.Prelude.IfOk}
 use Rattle.olap_instance.specs.Drafts.{instance_built}
 use Rattle.olap_cex.proofs.DraftLemmas.{built}
 use Rattle.olap_cex.proofs.thawing.thaw.Goals as goal

@@ -1,8 +1,7 @@
 -- The first constraint that isn't met, of a lawful instance.
 use Rattle.std.proofs.Common.{ap, add-one, refl}
-use Rattle.olap_check.specs.Reports.{member, parts_of}
+use Rattle.olap_check.{proofs.FirstLemmas.first6, specs.Reports.{member, parts_of}}
 use Rattle.olap_check.specs.declared.violations.Violation.TheVariants.{Constraint}
-use Rattle.olap_check.proofs.FirstLemmas.{first6}
 use Rattle.olap_check.proofs.checking.judged.Goals as goal
 
 pub returns-in-Some-clause-err : goal.returns-in-Some-clause-err

@@ -1,7 +1,6 @@
 -- The parts that are left are no more than all. The measure is the size of what is gone through.
 use Rattle.std.proofs.Common.{◌≤◌, ◌+◌, ◌*◌}
-use Rattle.olap_ast.specs.Trees.{formula_of, terms_of}
-use Rattle.olap_ast.specs.Valid.{node_count, node_count_of_terms}
+use Rattle.olap_ast.specs.{Trees.{formula_of, terms_of}, Valid.{node_count, node_count_of_terms}}
 use Rattle.olap_check.proofs.gathering.+gather.Given as goal
 
 abbrev pub decreases-gather : goal.decreases-gather

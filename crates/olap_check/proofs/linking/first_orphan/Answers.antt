@@ -1,8 +1,8 @@
 -- A member is `all`, has a parent, or is the first that lacks one.
 use Rattle.std.proofs.Common.{◌∙◌, sym}
 use Rattle.olap_check.proofs.LinkingLemmas.{orphan_more, not_empty}
-use Rattle.olap_check.proofs.linking.first_orphan.Goals as goal
 use Rattle.olap_check.proofs.linking.first_orphan.Goals.{else-category-ne0-via-then-category-ne0+else-is_empty, else-category-ne0-via-else-category-ne0}
+use Rattle.olap_check.proofs.linking.first_orphan.Goals as goal
 
 pub members-preserved : goal.members-preserved
 members-preserved c = elim c.else-category-ne0.branch [

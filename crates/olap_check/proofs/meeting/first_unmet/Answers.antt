@@ -1,9 +1,7 @@
 -- Before the first false member of a block the formula is true, in the blocks before it too.
-use Rattle.std.proofs.Common.{◌*◌, ◌-◌, take, drop, length, refl, arith}
-use Rattle.std.proofs.lemmas.Grind.{div_ceil_times}
+use Rattle.std.proofs.{Common.{◌*◌, ◌-◌, take, drop, length, refl, arith}, lemmas.Grind.div_ceil_times}
 use Rattle.olap_ast.specs.Trees.{formula_of}
-use Rattle.olap_check.specs.Blocks.{width}
-use Rattle.olap_check.proofs.MeetingLemmas.{first_of_all, part_of, true_at_all}
+use Rattle.olap_check.{proofs.MeetingLemmas.{first_of_all, part_of, true_at_all}, specs.Blocks.width}
 use Rattle.olap_check.proofs.meeting.first_unmet.Goals as goal
 
 pub invariant_of-block : goal.invariant_of-block

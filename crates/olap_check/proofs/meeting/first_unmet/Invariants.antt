@@ -1,11 +1,8 @@
 -- What is remembered is right, and the formula is true at the members of the root in the blocks so far.
 use Rattle.std.proofs.Common.{ℕ, ◌*◌, ◌<◌}
-use Rattle.olap_ast.specs.Formula.{Holds}
+use Rattle.olap_ast.specs.{Formula.Holds, Trees.formula_of}
 use Rattle.olap_base.specs.Instance.{IsMemberOf}
-use Rattle.olap_ast.specs.Trees.{formula_of}
-use Rattle.olap_check.specs.Blocks.{width}
-use Rattle.olap_check.specs.Groups.{count_before}
-use Rattle.olap_check.specs.Seen.{IsSeen}
+use Rattle.olap_check.specs.{Blocks.width, Groups.count_before, Seen.IsSeen}
 use Rattle.olap_check.proofs.meeting.first_unmet.Given as goal
 
 abbrev pub invariant-steps : goal.invariant-steps

@@ -1,9 +1,7 @@
 -- What is remembered is right, and the constraints so far are met.
 use Rattle.std.proofs.Common.{ℕ, ◌<◌, map}
-use Rattle.olap_ast.specs.Schema.{Meets}
-use Rattle.olap_ast.specs.Trees.{constraint_of}
-use Rattle.olap_check.specs.Meeting.{constraint_at}
-use Rattle.olap_check.specs.Seen.{IsSeen}
+use Rattle.olap_ast.specs.{Schema.Meets, Trees.constraint_of}
+use Rattle.olap_check.specs.{Meeting.constraint_at, Seen.IsSeen}
 use Rattle.olap_check.proofs.meeting.first_violated.Given as goal
 
 abbrev pub invariant-constraints : goal.invariant-constraints

@@ -1,8 +1,7 @@
 -- The search for a category that no member has marks all that is above x.
 use Rattle.std.proofs.Common.{◌≡◌, length, arith}
 use Rattle.olap_graph.proofs.MarkLemmas.{no_items, none_case}
-use Rattle.olap_legal.proofs.ParentLemmas.{taken}
-use Rattle.olap_legal.proofs.MarkingLemmas.{marking_smaller, whole_marking}
+use Rattle.olap_legal.proofs.{MarkingLemmas.{marking_smaller, whole_marking}, ParentLemmas.taken}
 use Rattle.olap_check.proofs.SearchLemmas.{closed_start, unmarked_start}
 use Rattle.olap_check.proofs.SplitLemmas.{climbing_start, climbing_next, climbing_done}
 use Rattle.olap_check.proofs.parting.above.Goals as goal

@@ -1,9 +1,8 @@
 -- Two of one category are marked exactly if they are above x.
 use Rattle.std.proofs.Common.{subst, sym}
-use Rattle.olap_check.specs.Splitting.{MarksAbove}
-use Rattle.olap_check.proofs.SplitLemmas.{split_more, some_category, two_above, above_two}
-use Rattle.olap_check.proofs.parting.split_category.Goals as goal
+use Rattle.olap_check.{proofs.SplitLemmas.{split_more, some_category, two_above, above_two}, specs.Splitting.MarksAbove}
 use Rattle.olap_base.proofs.GeneralLemmas.{refuted}
+use Rattle.olap_check.proofs.parting.split_category.Goals as goal
 
 pub categories-preserved : goal.categories-preserved
 categories-preserved c =

@@ -2,8 +2,8 @@
 use Rattle.std.proofs.Common.{refl}
 use Rattle.olap_legal.proofs.ParentLemmas.{all_read, parent_at, parent_member}
 use Rattle.olap_check.proofs.PassingLemmas.{none_below_more, none_passed, passed_by}
-use Rattle.olap_check.proofs.passing.is_passed.Goals as goal
 use Rattle.olap_base.proofs.GeneralLemmas.{refuted}
+use Rattle.olap_check.proofs.passing.is_passed.Goals as goal
 
 pub is_far_below-requires-clause-z : goal.is_far_below-requires-clause-z
 is_far_below-requires-clause-z c =

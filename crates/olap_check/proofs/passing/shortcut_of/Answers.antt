@@ -1,8 +1,8 @@
 -- A parent is the first that is passed, or none is.
 use Rattle.olap_legal.proofs.ParentLemmas.{all_read, parent_at, parent_member}
 use Rattle.olap_check.proofs.PassingLemmas.{first_passed, passed_more, none_at}
-use Rattle.olap_check.proofs.passing.shortcut_of.Goals as goal
 use Rattle.olap_base.proofs.GeneralLemmas.{refuted}
+use Rattle.olap_check.proofs.passing.shortcut_of.Goals as goal
 
 pub is_passed-requires-clause-y : goal.is_passed-requires-clause-y
 is_passed-requires-clause-y c =

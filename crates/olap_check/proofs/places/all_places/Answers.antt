@@ -1,8 +1,7 @@
 -- One place after the other.
 use Rattle.std.proofs.Common.{◌+◌, subst, sym}
 use Rattle.olap_bits.specs.Sets.{members}
-use Rattle.olap_check.specs.Blocks.{Collects}
-use Rattle.olap_check.proofs.BlockLemmas.{collect_start, collect_more}
+use Rattle.olap_check.{proofs.BlockLemmas.{collect_start, collect_more}, specs.Blocks.Collects}
 use Rattle.olap_check.proofs.places.all_places.Goals as goal
 
 pub places-init : goal.places-init

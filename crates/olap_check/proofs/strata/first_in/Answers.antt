@@ -1,9 +1,8 @@
 -- A member of the category repeats, or its search closes its marks.
-use Rattle.std.proofs.Common.{ap, sym, subst, ◌∙◌, arith}
-use Rattle.olap_check.specs.Strata.{IsClosed}
+use Rattle.std.proofs.Common.{sym, ◌∙◌, arith}
 use Rattle.olap_check.proofs.SearchLemmas.{closed_start, before_more, first_at_limit, first_found}
-use Rattle.olap_check.proofs.strata.first_in.Goals as goal
 use Rattle.olap_check.proofs.strata.first_in.Goals.{else-category-via-then-category+in_ok-repeats+else-branch, else-category-via-else-category}
+use Rattle.olap_check.proofs.strata.first_in.Goals as goal
 
 pub members-init : goal.members-init
 members-init c = record {
@@ -17,16 +16,13 @@ members-preserved c =
     elim c.else-category.branch [
       | else-category-via-then-category+in_ok-repeats+else-branch w ↦
           let m = w.in_ok-repeats.ensures.closed w.if-branch.false in
-          record {
-            closed = subst (λ l. IsClosed i c.args.category l) (sym (ap (λ x. x.items) w.seen-is)) m.0;
-            before = before_more i c.args.category c.members.x v.before (λ e. m.1);
-          }
+          rw w.seen-is (record { closed = m.0; before = before_more i c.args.category c.members.x v.before (λ e. m.1) })
       | else-category-via-else-category w ↦
-          record {
-            closed = subst (λ l. IsClosed i c.args.category l) (sym (ap (λ x. x.items) w.seen-is)) v.closed;
+          rw w.seen-is (record {
+            closed = v.closed;
             before = before_more i c.args.category c.members.x v.before
                 (λ e. absurd (w.if-category.false (c.category.ensures ∙ e)));
-          }
+          })
     ]
   where
     open c use {args.instance.now as i, members.invariant as v}

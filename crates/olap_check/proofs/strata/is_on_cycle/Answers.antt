@@ -1,7 +1,7 @@
 -- One parent more, and then all of them.
 use Rattle.std.proofs.Common.{◌≢◌, refl, sym, subst, ◌∙◌, true≢false, arith}
-use native.Mathlib.Decide.{ℕ_discrete}
 use Rattle.olap_check.specs.Strata.{LeadsBack}
+use native.Mathlib.Decide.{ℕ_discrete}
 use Rattle.olap_check.proofs.strata.is_on_cycle.Goals as goal
 
 pub parents-init : goal.parents-init

@@ -1,8 +1,7 @@
 -- The search from one member, over marks that are closed.
 use Rattle.std.proofs.Common.{◌≡◌, length, arith}
 use Rattle.olap_graph.proofs.MarkLemmas.{no_items, none_case}
-use Rattle.olap_legal.proofs.ParentLemmas.{taken}
-use Rattle.olap_legal.proofs.MarkingLemmas.{marking_smaller}
+use Rattle.olap_legal.proofs.{MarkingLemmas.marking_smaller, ParentLemmas.taken}
 use Rattle.olap_check.proofs.SearchLemmas.{search_start, search_next, search_hits, start_hits, search_done, found_far, found_none}
 use Rattle.olap_check.proofs.strata.repeats.Goals as goal
 

@@ -1,7 +1,6 @@
 -- One literal more, and all of them.
 use Rattle.std.proofs.Common.{refl}
-use Rattle.olap_clauses.specs.Trails.{values_of}
-use Rattle.olap_clauses.proofs.MarkLemmas.{tested_more, none_true}
+use Rattle.olap_clauses.{proofs.MarkLemmas.{tested_more, none_true}, specs.Trails.values_of}
 use Rattle.olap_clauses.proofs.analysing.mark_false.Goals as goal
 
 pub lits-preserved : goal.lits-preserved

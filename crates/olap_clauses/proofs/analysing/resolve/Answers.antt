@@ -1,9 +1,7 @@
 -- One resolution.
 use Rattle.std.proofs.Common.{◌≡◌, refl, rules}
+use Rattle.olap_clauses.{proofs.MarkLemmas.resolved, specs.Standing.value_of, specs.Trails.values_of}
 use Rattle.olap_clauses.specs.declared.values.Value.TheVariants.{Yes}
-use Rattle.olap_clauses.specs.Standing.{value_of}
-use Rattle.olap_clauses.specs.Trails.{values_of}
-use Rattle.olap_clauses.proofs.MarkLemmas.{resolved}
 use Rattle.olap_clauses.proofs.analysing.resolve.Goals as goal
 
 pub returns : goal.returns

@@ -1,9 +1,7 @@
 -- Who agrees with what is marked now agrees with what was marked.
 use Rattle.std.proofs.Common.{ℕ, ◌≤◌, Bool, length}
-use Rattle.olap_clauses.specs.Standing.{Forced}
-use Rattle.olap_clauses.specs.Trails.{steps_of, values_of}
+use Rattle.olap_clauses.specs.{Marks.AgreesMarked, Standing.Forced, Trails.{steps_of, values_of}}
 use Rattle.olap_pool.specs.Pools.{AreTrue}
-use Rattle.olap_clauses.specs.Marks.{AgreesMarked}
 use Rattle.olap_clauses.proofs.analysing.shrink.Given as goal
 
 abbrev pub invariant-steps : goal.invariant-steps

@@ -1,7 +1,6 @@
 -- The negation stands at that place.
 use Rattle.std.proofs.Common.{◌∙◌, arith, rules}
-use Rattle.olap_clauses.specs.Trails.{steps_of}
-use Rattle.olap_clauses.proofs.RetreatLemmas.{false_at}
+use Rattle.olap_clauses.{proofs.RetreatLemmas.false_at, specs.Trails.steps_of}
 use Rattle.olap_clauses.proofs.retreating.false_from.Goals as goal
 
 pub returns-then-eq-clause-right : goal.returns-then-eq-clause-right

@@ -1,7 +1,6 @@
 -- One literal more, and all of them.
 use Rattle.std.proofs.Common.{arith}
-use Rattle.olap_clauses.specs.Trails.{steps_of}
-use Rattle.olap_clauses.proofs.RetreatLemmas.{false_more, forces_by}
+use Rattle.olap_clauses.{proofs.RetreatLemmas.{false_more, forces_by}, specs.Trails.steps_of}
 use Rattle.olap_clauses.proofs.retreating.forces_from.Goals as goal
 
 pub lits-preserved : goal.lits-preserved

@@ -1,8 +1,6 @@
 -- What is left is enough to force the literal.
 use Rattle.std.proofs.Common.{◌≤◌, subst, arith}
-use Rattle.olap_clauses.specs.Standing.{Agrees}
-use Rattle.olap_clauses.specs.Trails.{steps_of}
-use Rattle.olap_clauses.proofs.RetreatLemmas.{agrees_take}
+use Rattle.olap_clauses.{proofs.RetreatLemmas.agrees_take, specs.Standing.Agrees, specs.Trails.steps_of}
 use Rattle.olap_clauses.proofs.retreating.jump.Goals as goal
 
 pub returns-clause-forces : goal.returns-clause-forces

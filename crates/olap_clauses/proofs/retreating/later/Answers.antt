@@ -1,7 +1,6 @@
 -- It is false by as many literals or more.
 use Rattle.std.proofs.Common.{◌≤◌, inr, arith}
-use Rattle.olap_clauses.specs.Trails.{steps_of}
-use Rattle.olap_clauses.proofs.RetreatLemmas.{agrees_take}
+use Rattle.olap_clauses.{proofs.RetreatLemmas.agrees_take, specs.Trails.steps_of}
 use Rattle.olap_clauses.proofs.retreating.later.Goals as goal
 
 pub returns-clause-right : goal.returns-clause-right

@@ -1,7 +1,6 @@
 -- How far the retreat has come.
 use Rattle.std.proofs.Common.{length}
-use Rattle.olap_clauses.specs.Trails.{steps_of}
-use Rattle.olap_clauses.proofs.RetreatLemmas.{IsRetreat}
+use Rattle.olap_clauses.{proofs.RetreatLemmas.IsRetreat, specs.Trails.steps_of}
 use Rattle.olap_clauses.proofs.retreating.retreat.Given as goal
 
 abbrev pub invariant-branches : goal.invariant-branches

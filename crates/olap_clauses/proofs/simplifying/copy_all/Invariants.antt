@@ -1,8 +1,6 @@
 -- Who agrees with the trail, and makes all clauses true, makes the copies true.
-use Rattle.std.proofs.Common.{◌≤◌, ℕ, Bool}
-use Rattle.std.specs.Prelude.{vec_capacity}
-use Rattle.olap_clauses.specs.Standing.{Agrees}
-use Rattle.olap_clauses.specs.Trails.{steps_of}
+use Rattle.std.{proofs.Common.{◌≤◌, ℕ, Bool}, specs.Prelude.vec_capacity}
+use Rattle.olap_clauses.specs.{Standing.Agrees, Trails.steps_of}
 use Rattle.olap_pool.specs.Pools.{AreTrue}
 use Rattle.olap_clauses.proofs.simplifying.copy_all.Given as goal
 

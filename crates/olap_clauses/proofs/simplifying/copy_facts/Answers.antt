@@ -1,9 +1,8 @@
 -- One clause more.
 use Rattle.std.proofs.Common.{◌<◌, length, arith}
-use Rattle.olap_clauses.specs.Trails.{steps_of}
-use Rattle.olap_clauses.proofs.FactLemmas.{agrees_at}
-use Rattle.olap_clauses.proofs.simplifying.copy_facts.Goals as goal
+use Rattle.olap_clauses.{proofs.FactLemmas.agrees_at, specs.Trails.steps_of}
 use Rattle.olap_parities.proofs.ParityLemmas.{one_literal}
+use Rattle.olap_clauses.proofs.simplifying.copy_facts.Goals as goal
 
 pub steps-preserved : goal.steps-preserved
 steps-preserved c = λ v a t.

@@ -1,7 +1,6 @@
 -- Who agrees with the trail makes the clauses so far true.
 use Rattle.std.proofs.Common.{ℕ, Bool}
-use Rattle.olap_clauses.specs.Standing.{Agrees}
-use Rattle.olap_clauses.specs.Trails.{steps_of}
+use Rattle.olap_clauses.specs.{Standing.Agrees, Trails.steps_of}
 use Rattle.olap_pool.specs.Pools.{AreTrue}
 use Rattle.olap_clauses.proofs.simplifying.copy_facts.Given as goal
 

@@ -1,22 +1,15 @@
 -- One literal more, and all of them.
-use Rattle.std.proofs.Common.{◌≡◌, Bool, true, false, refl, arith, rules}
-use Rattle.std.specs.Prelude.{Contains}
-use Rattle.olap_clauses.specs.Trails.{steps_of}
-use Rattle.olap_clauses.proofs.StandsLemmas.{lit_at}
-use Rattle.olap_clauses.proofs.FactLemmas.{kept_more, kept_all}
+use Rattle.std.proofs.Common.{arith, rules}
+use Rattle.olap_clauses.{proofs.AdmitsLemmas.by_kind, proofs.FactLemmas.{kept_more, kept_all}, specs.Trails.steps_of}
 use Rattle.olap_clauses.proofs.simplifying.shorten.Goals as goal
 
 pub lits-preserved : goal.lits-preserved
 lits-preserved c =
     record {
-      kept =
-          kept_more (steps_of c.args.trail.now) clause k c.lits.work.items new c.write_unless.ensures.kept
-          c.lits.invariant.kept
-          (λ v a h. let P : Bool → Type 0 = λ t. c.eq-out.result ≡ t → Contains new (lit_at clause k) in
-          (elim c.eq-out.result as P [
-            | true ↦ λ e. absurd (c.value.ensures.no (search (rules, e, c.eq-out.ensures)) v a h)
-            | false ↦ λ e. c.write_unless.ensures.written e
-          ]) refl);
+      kept = kept_more (steps_of c.args.trail.now) clause k c.lits.work.items new c.write_unless.ensures.kept
+          c.lits.invariant.kept (λ v a h. by_kind c.eq-out.result
+          (λ e. absurd (c.value.ensures.no (search (rules, e, c.eq-out.ensures)) v a h))
+          (λ e. c.write_unless.ensures.written e));
       count = let h = c.write_unless.ensures.count in let i = c.lits.invariant.count in omega arith;
       room = let h = c.write_unless.ensures.room in let i = c.lits.invariant.room in omega arith;
     }

@@ -1,8 +1,6 @@
 -- Of the literals so far those that can be true are written.
-use Rattle.std.proofs.Common.{◌≤◌, length}
-use Rattle.std.specs.Prelude.{vec_capacity}
-use Rattle.olap_clauses.specs.Trails.{steps_of}
-use Rattle.olap_clauses.proofs.FactLemmas.{AreKept}
+use Rattle.std.{proofs.Common.{◌≤◌, length}, specs.Prelude.vec_capacity}
+use Rattle.olap_clauses.{proofs.FactLemmas.AreKept, specs.Trails.steps_of}
 use Rattle.olap_clauses.proofs.simplifying.shorten.Given as goal
 
 abbrev pub invariant-lits : goal.invariant-lits

@@ -1,12 +1,8 @@
-use Rattle.std.proofs.Common.{◌≡◌, refl, subst}
-use Rattle.std.specs.Prelude.{None, Option, Some, IfSome, IsNone}
-use Rattle.olap_ast.specs.Trees.{formula_of}
+use Rattle.std.{proofs.Common.{◌≡◌, refl}, specs.Prelude.{None, Option, Some, IsNone}}
+use Rattle.olap_ast.{proofs.SourceLemmas.no_more_constants, specs.Trees.formula_of}
 use Rattle.olap_frozen.specs.declared.founding.Found.{Found}
-use Rattle.olap_frozen.specs.LeastFound.{IsLeastFound}
-use Rattle.olap_cube_summ.specs.Ways.{IsInside}
-use Rattle.olap_ast.proofs.SourceLemmas.{no_more_constants}
+use Rattle.olap_cube_summ.{proofs.SearchLemmas.{about_same, is_least, some_found}, specs.Ways.IsInside}
 use Rattle.olap_schema.specs.Schemas.{schema_of}
-use Rattle.olap_cube_summ.proofs.SearchLemmas.{about_same, is_least, some_found}
 use Rattle.olap_cube_summ.proofs.asking.least_found.Goals as goal
 
 -- what is no `Some` is none
@@ -35,5 +31,4 @@ returns c =
     is_least (schema_of c.args.schema.now) q c.args.patterns.now f (about_same q.target.0
     (λ column. IsInside q.target.0 column c.args.patterns.now) f c.items.result.now
     q.sources c.items.ensures c.in_ok-formula.ensures) c.args.root.0 c.in-Some.found c.requires.root
-    (subst (λ (o : Option Found). IfSome o (IsLeastFound (schema_of c.args.schema.now) f c.args.root.0)) c.in-Some.is
-    c.in_ok-least.ensures.some)
+    (rw c.in-Some.is at c.in_ok-least.ensures.some)

@@ -1,10 +1,7 @@
-use Rattle.std.proofs.lemmas.Option.{IfSome_then}
-use Rattle.std.proofs.lemmas.Result.{IfOk-weaker}
-use Rattle.olap_ast.specs.Trees.{formula_of}
-use Rattle.olap_cube_summ.specs.Ways.{IsOutside}
-use Rattle.olap_ast.proofs.SourceLemmas.{no_more_constants}
+use Rattle.std.proofs.lemmas.{Option.IfSome_then, Result.IfOk-weaker}
+use Rattle.olap_ast.{proofs.SourceLemmas.no_more_constants, specs.Trees.formula_of}
+use Rattle.olap_cube_summ.{proofs.SearchLemmas.{about_same, all_known, is_other}, specs.Ways.IsOutside}
 use Rattle.olap_schema.specs.Schemas.{schema_of}
-use Rattle.olap_cube_summ.proofs.SearchLemmas.{about_same, all_known, is_other}
 use Rattle.olap_cube_summ.proofs.asking.other_found.Goals as goal
 
 pub find-requires-clause-few : goal.find-requires-clause-few

@@ -2,8 +2,7 @@
 use Rattle.std.proofs.Common.{◌≡◌, length}
 use Rattle.olap_base.specs.Graph.{category_count}
 use Rattle.olap_schema.specs.Schemas.{schema_of}
-use Rattle.olap_cube_summ.specs.Patterns.{AreFound}
-use Rattle.olap_cube_summ.proofs.BottomLemmas.{left_out}
+use Rattle.olap_cube_summ.{proofs.BottomLemmas.left_out, specs.Patterns.AreFound}
 use Rattle.olap_cube_summ.proofs.bottoms.patterns_of.Given as goal
 
 abbrev pub invariant-patterns : goal.invariant-patterns

@@ -1,5 +1,4 @@
-use Rattle.std.proofs.Common.{ap, map, sym, ◌∙◌}
-use Rattle.std.proofs.lemmas.Slice.Eq.{slice_eq-Decides}
+use Rattle.std.proofs.{Common.{ap, map, sym, ◌∙◌}, lemmas.Slice.Eq.slice_eq-Decides}
 use Rattle.olap_base.specs.declared.ids.CatId.{CatId}
 use Rattle.olap_cube_summ.proofs.TupleLemmas.{same_by_numbers, same_category}
 use Rattle.olap_cube_summ.proofs.distinct.is_same.Goals as goal

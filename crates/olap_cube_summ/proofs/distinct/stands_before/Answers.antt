@@ -1,7 +1,5 @@
-use Rattle.std.proofs.Common.{◌≡◌, ◌∙◌, [], false, true, sym, subst, inl, inr, arith}
-use Rattle.std.specs.Prelude.{slice_index_or}
-use Rattle.olap_cube.specs.Told.{tuples_in}
-use Rattle.olap_cube_summ.proofs.BelowLemmas.{below_suc}
+use Rattle.std.proofs.Common.{◌≡◌, ◌∙◌, false, true, sym, inl, inr, arith}
+use Rattle.olap_base.proofs.GeneralLemmas.{below_or_same}
 use Rattle.olap_cube_summ.proofs.TupleLemmas.{tuple_at}
 use Rattle.olap_cube_summ.proofs.distinct.stands_before.Goals as goal
 
@@ -12,9 +10,8 @@ earlier-preserved c = λ i l e.
     (let m = c.earlier-test.true in let k = c.requires in omega arith)
     c.index-sources-j.is in
     let here = tuple_at ts c.args.k c.index-sources-k.result c.requires c.index-sources-k.is in
-    elim (below_suc i c.earlier.j (omega arith)) [
+    elim (below_or_same i c.earlier.j (omega arith)) [
       | inl m ↦ c.earlier.invariant i m e
       | inr q ↦ absurd (let z : false ≡ true = sym c.if-is_same.false
-          ∙ c.is_same.ensures.1 (sym there ∙ subst (λ w. slice_index_or (tuples_in ts) w []
-          ≡ slice_index_or (tuples_in ts) c.args.k []) q e ∙ here) in cc)
+          ∙ c.is_same.ensures.1 (sym there ∙ rw q at e ∙ here) in cc)
     ]

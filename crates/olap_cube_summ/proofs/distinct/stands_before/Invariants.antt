@@ -1,6 +1,5 @@
 -- None before is the same.
-use Rattle.std.proofs.Common.{◌≡◌, ℕ, ◌<◌, []}
-use Rattle.std.specs.Prelude.{slice_index_or}
+use Rattle.std.{proofs.Common.{◌≡◌, ℕ, ◌<◌, []}, specs.Prelude.slice_index_or}
 use Rattle.olap_cube.specs.Told.{tuples_in}
 use Rattle.olap_cube_summ.proofs.distinct.stands_before.Given as goal
 

@@ -1,9 +1,7 @@
 -- What is chosen greedily in the dimensions that are left is so with what was chosen; and the sets can still be bad.
-use Rattle.std.proofs.Common.{◌≡◌, ◌++◌, List, [], drop, length}
-use Rattle.olap_cube_summ.specs.Families.{AreUnions, patterns_of}
-use Rattle.olap_cube_summ.specs.Masks.{CanBeBad, all_of}
+use Rattle.std.proofs.Common.{◌++◌, List, [], drop}
+use Rattle.olap_cube_summ.{proofs.FamilyLemmas.GreedyOf, specs.Families.AreUnions, specs.Masks.{CanBeBad, all_of}}
 use Rattle.olap_cube_summ.specs.declared.families.Family.{Family}
-use Rattle.olap_cube_summ.proofs.FamilyLemmas.{GreedyOf}
 use Rattle.olap_cube_summ.proofs.families.first_families.Given as goal
 
 abbrev pub invariant-dimensions : goal.invariant-dimensions

@@ -1,6 +1,5 @@
 use Rattle.std.proofs.Common.{◌++◌, ◌∷◌}
-use Rattle.olap_cube_summ.specs.Masks.{CanBeBad, all_of}
-use Rattle.olap_cube_summ.proofs.FamilyLemmas.{first_by_order}
+use Rattle.olap_cube_summ.{proofs.FamilyLemmas.first_by_order, specs.Masks.{CanBeBad, all_of}}
 use Rattle.olap_cube_summ.proofs.families.first_family.Goals as goal
 
 pub returns-then-all_can_be_bad-clause-first : goal.returns-then-all_can_be_bad-clause-first

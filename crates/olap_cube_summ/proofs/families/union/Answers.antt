@@ -1,9 +1,8 @@
-use Rattle.std.proofs.Common.{◌<◌, ◌≤◌, ◌∙◌, ap, sym, length, arith}
-use Rattle.std.specs.FinSet as set
+use Rattle.std.proofs.Common.{◌∙◌, ap, sym, arith}
 use Rattle.olap_bits.specs.Sets.{members}
+use Rattle.olap_cube_summ.proofs.{FamilyLemmas.union_next, MaskLemmas.{in_empty, in_union}}
 use Rattle.olap_cube_summ.specs.declared.families.Family.{Family}
-use Rattle.olap_cube_summ.proofs.FamilyLemmas.{union_next}
-use Rattle.olap_cube_summ.proofs.MaskLemmas.{in_empty, in_union}
+use Rattle.std.specs.FinSet as set
 use Rattle.olap_cube_summ.proofs.families.union.Goals as goal
 
 pub families-init : goal.families-init

@@ -1,7 +1,6 @@
 -- The set has the patterns of the first families.
 use Rattle.std.proofs.Common.{◌≡◌, ◌<◌, ◌↔◌, ℕ, get_or}
-use Rattle.olap_cube_summ.specs.Masks.{IsIn}
-use Rattle.olap_cube_summ.specs.declared.families.Family.{Family}
+use Rattle.olap_cube_summ.specs.{Masks.IsIn, declared.families.Family.Family}
 use Rattle.olap_cube_summ.proofs.families.union.Given as goal
 
 abbrev pub invariant-families : goal.invariant-families

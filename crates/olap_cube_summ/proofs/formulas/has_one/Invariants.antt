@@ -1,7 +1,6 @@
 -- What the formula says of the patterns below this one.
 use Rattle.olap_ast.specs.Trees.{formula_of, numbers_of}
-use Rattle.olap_cube_summ.specs.Ways.{IsAboutWays}
-use Rattle.olap_cube_summ.proofs.FormulaLemmas.{Below}
+use Rattle.olap_cube_summ.{proofs.FormulaLemmas.Below, specs.Ways.IsAboutWays}
 use Rattle.olap_cube_summ.proofs.formulas.has_one.Given as goal
 
 abbrev pub invariant-patterns : goal.invariant-patterns

@@ -1,8 +1,5 @@
 -- By the search of this root.
-use Rattle.std.proofs.Common.{subst}
-use Rattle.std.specs.Prelude.{IfOk}
 use Rattle.olap_schema.specs.Schemas.{schema_of}
-use Rattle.olap_cube_summ.specs.Patterns.{AreFound}
 use Rattle.olap_cube_summ.proofs.LookingLemmas.{by_its_root, root_bottom}
 use Rattle.olap_cube_summ.proofs.looking.soon_found.Goals as goal
 
@@ -17,6 +14,4 @@ patterns-requires-clause-lookout c =
     c.in_ok-lookout.ensures
 
 pub returns : goal.returns
-returns c =
-    subst (λ b. IfOk c.patterns.result (AreFound (schema_of c.args.schema.now) c.args.question.now b))
-    c.in_ok-lookout.ensures.root c.patterns.ensures
+returns c = rw c.in_ok-lookout.ensures.root at c.patterns.ensures

@@ -1,4 +1,3 @@
-use Rattle.std.proofs.Common.{◌≡◌, ◌∙◌, sym, true, false}
 use Rattle.olap_cube_summ.proofs.MaskLemmas.{judged}
 use Rattle.olap_cube_summ.proofs.masks.is_bad.Goals as goal
 

@@ -1,6 +1,5 @@
 -- This many of the sources from this one on have their bits in the mask.
-use Rattle.std.proofs.Common.{◌≡◌, ◌≤◌, ◌+◌, ◌-◌, ℕ}
-use Rattle.std.specs.List.{range_with_len}
+use Rattle.std.{proofs.Common.{◌≤◌, ◌+◌, ◌-◌}, specs.List.range_with_len}
 use Rattle.olap_base.specs.OneFact.{HoldsTimes}
 use Rattle.olap_cube_summ.specs.Masks.{Has}
 use Rattle.olap_cube_summ.proofs.masks.is_bad.Given as goal

@@ -1,6 +1,5 @@
 use Rattle.std.proofs.Common.{◌++◌}
-use Rattle.olap_cube_summ.specs.Masks.{OneCanBeBad}
-use Rattle.olap_cube_summ.proofs.MaskLemmas.{set_taken, sets_taken}
+use Rattle.olap_cube_summ.{proofs.MaskLemmas.{set_taken, sets_taken}, specs.Masks.OneCanBeBad}
 use Rattle.olap_cube_summ.proofs.masks.meet_all.Goals as goal
 
 pub sets-preserved : goal.sets-preserved

@@ -1,6 +1,5 @@
 -- The patterns below this one are met.
-use Rattle.std.proofs.Common.{◌≡◌, ◌<◌, ◌⊎◌, ◌↔◌, ℕ}
-use Rattle.std.specs.Int.Bits.{bit_and}
+use Rattle.std.{proofs.Common.{◌≡◌, ◌<◌, ◌⊎◌, ◌↔◌, ℕ}, specs.Int.Bits.bit_and}
 use Rattle.olap_cube_summ.specs.Masks.{IsIn}
 use Rattle.olap_cube_summ.proofs.masks.meet_each.Given as goal
 

@@ -1,7 +1,7 @@
-use Rattle.std.proofs.Common.{◌≡◌, ◌∙◌, ◌+◌, subst, sym, true, false}
-use Rattle.olap_cube_summ.proofs.MaskLemmas.{AreAllMet, all_met_with, all_met_without, none_met}
-use Rattle.olap_cube_summ.proofs.masks.meets.Goals as goal
+use Rattle.std.proofs.Common.{◌≡◌, ◌∙◌, sym, true, false}
+use Rattle.olap_cube_summ.proofs.MaskLemmas.{all_met_with, all_met_without, none_met}
 use Rattle.olap_cube_summ.proofs.masks.meets.Goals.{then-has, else-has}
+use Rattle.olap_cube_summ.proofs.masks.meets.Goals as goal
 
 pub masks-init : goal.masks-init
 masks-init c = record { met = none_met c.args.masks.now c.args.patterns.now c.empty-met.result c.empty-met.ensures }
@@ -9,13 +9,11 @@ masks-init c = record { met = none_met c.args.masks.now c.args.patterns.now c.em
 pub masks-preserved : goal.masks-preserved
 masks-preserved c = elim c.if-has.branch [
   | then-has w ↦ record {
-    met = subst (AreAllMet c.args.masks.now c.args.patterns.now (c.masks.m + 1)) (sym w.met-is)
-        (all_met_with c.args.masks.now c.args.patterns.now c.masks.m c.masks.met w.meet_each-met.result
+    met = rw w.met-is (all_met_with c.args.masks.now c.args.patterns.now c.masks.m c.masks.met w.meet_each-met.result
         (c.masks-test.true, sym c.has.ensures ∙ w.if-has.true) w.meet_each-met.ensures c.masks.invariant.met);
   }
   | else-has w ↦ record {
-    met = subst (AreAllMet c.args.masks.now c.args.patterns.now (c.masks.m + 1)) (sym w.met-is)
-        (all_met_without c.args.masks.now c.args.patterns.now c.masks.m c.masks.met
-        (λ h. absurd (let q : false ≡ true = sym w.if-has.false ∙ c.has.ensures ∙ h.1 in cc)) c.masks.invariant.met);
+    met = rw w.met-is (all_met_without c.args.masks.now c.args.patterns.now c.masks.m c.masks.met
+        (λ h. let q : false ≡ true = sym w.if-has.false ∙ c.has.ensures ∙ h.1 in cc) c.masks.invariant.met);
   }
 ]

@@ -1,6 +1,5 @@
 -- The masks below this one are met.
-use Rattle.std.proofs.Common.{◌≡◌, ◌<◌, ◌↔◌, ℕ}
-use Rattle.std.specs.Int.Bits.{bit_and}
+use Rattle.std.{proofs.Common.{◌≡◌, ◌<◌, ◌↔◌, ℕ}, specs.Int.Bits.bit_and}
 use Rattle.olap_cube_summ.specs.Masks.{IsIn}
 use Rattle.olap_cube_summ.proofs.masks.meets.Given as goal
 

@@ -1,9 +1,7 @@
 -- The names so far are joined.
-use Rattle.std.proofs.Common.{◌≡◌, map, take}
-use Rattle.std.specs.List.{join_with_byte}
+use Rattle.std.{proofs.Common.{◌≡◌, map, take}, specs.List.join_with_byte}
 use Rattle.olap_cube.specs.CubeSummarizable.{graphs_of}
-use Rattle.olap_cube_summ.specs.Telling.{names_of}
-use Rattle.olap_cube_summ.specs.Dimensions.{schemas_of}
+use Rattle.olap_cube_summ.specs.{Dimensions.schemas_of, Telling.names_of}
 use Rattle.olap_cube_summ.proofs.printing.names.Given as goal
 
 abbrev pub invariant-dimensions : goal.invariant-dimensions

@@ -1,6 +1,5 @@
 -- One source more, and all of them.
-use Rattle.std.proofs.Common.{◌<◌, ◌≤◌, ap, arith, get_or, length, map, ◌∙◌}
-use Rattle.std.proofs.lemmas.List.{length-map, take_all}
+use Rattle.std.proofs.{Common.{◌<◌, ◌≤◌, ap, arith, get_or, length, map, ◌∙◌}, lemmas.List.{length-map, take_all}}
 use Rattle.olap_ast.specs.Trees.{numbers_of}
 use Rattle.olap_cube.specs.Told.{tuple_of, tuples_in}
 use Rattle.olap_cube_summ.proofs.TupleLemmas.{column_is, column_more, kept_at}

@@ -1,6 +1,5 @@
 -- The questions of the dimensions so far.
-use Rattle.std.proofs.Common.{◌≡◌, ℕ, ◌<◌, length}
-use Rattle.std.specs.Prelude.{slice_index, slice_index_or}
+use Rattle.std.{proofs.Common.{◌≡◌, ℕ, ◌<◌, length}, specs.Prelude.{slice_index, slice_index_or}}
 use Rattle.olap_cube.specs.Told.{tuple_of, tuples_in}
 use Rattle.olap_cube_summ.specs.Questions.{IsColumn, no_question, sources_in, target_in}
 use Rattle.olap_cube_summ.proofs.questions.questions.Given as goal

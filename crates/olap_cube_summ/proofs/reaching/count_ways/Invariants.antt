@@ -2,8 +2,7 @@
 use Rattle.std.proofs.Common.{◌≤◌, take}
 use Rattle.olap_base.specs.OneFact.{HoldsTimes}
 use Rattle.olap_cube.specs.Told.{tuple_of, tuples_in}
-use Rattle.olap_cube_summ.specs.Reaching.{ReachBy}
-use Rattle.olap_cube_summ.specs.Dimensions.{schemas_of}
+use Rattle.olap_cube_summ.specs.{Dimensions.schemas_of, Reaching.ReachBy}
 use Rattle.olap_cube_summ.proofs.reaching.count_ways.Given as goal
 
 abbrev pub invariant-sources : goal.invariant-sources

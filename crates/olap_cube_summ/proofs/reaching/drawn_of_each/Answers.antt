@@ -1,12 +1,8 @@
 -- One dimension more.
-use Rattle.std.proofs.Common.{◌+◌, ◌<◌, List, length, get_or, take, sym, subst, arith}
-use Rattle.olap_ast.specs.Schema.{Schema}
-use Rattle.olap_cube_summ.specs.Dimensions.{no_schema, schemas_of}
-use Rattle.olap_frozen.specs.declared.founding.Found.{Found}
-use Rattle.olap_frozen.specs.declared.frozen.Room.{Room}
-use Rattle.olap_schema.specs.Schemas.{schema_of}
-use Rattle.olap_cube_summ.specs.Drawn.{AreDrawn, IsDrawn}
+use Rattle.std.proofs.Common.{◌<◌, length, arith}
 use Rattle.olap_cube_summ.proofs.PlaceLemmas.{drawn_all, drawn_more, found_count, found_here}
+use Rattle.olap_cube_summ.specs.Dimensions.{schemas_of}
+use Rattle.olap_schema.specs.Schemas.{schema_of}
 use Rattle.olap_cube_summ.proofs.reaching.drawn_of_each.Goals as goal
 
 pub bounds-founds-i : goal.bounds-founds-i
@@ -23,13 +19,10 @@ dimensions-preserved c =
     let ss = schemas_of c.args.cube.now in
     let l : i < length ss = omega (arith, c.len-i-end.ensures.count) in
     let m : i < length fs = omega (arith, c.len-i-end.ensures.count, found_count ss fs c.requires) in
-    let one : IsDrawn (get_or ss i no_schema) (get_or fs i f) room =
-    subst (λ (s : Schema). IsDrawn s (get_or fs i f) room) c.schema.ensures
-    (subst (λ (h : Found). IsDrawn (schema_of c.schema.result.now) h room) c.index-founds-i.is c.in_ok-room.ensures) in
-    subst (λ (rooms : List Room). AreDrawn (take (i + 1) ss) (take (i + 1) fs) rooms) (sym c.in_ok-push.ensures.items)
-    (drawn_more ss fs c.dimensions.rooms.items i f room l m c.dimensions.invariant one)
+    rw c.in_ok-push.ensures.items (drawn_more ss fs c.dimensions.rooms.items i f c.in_ok-room.room l m
+    c.dimensions.invariant (rw (c.schema.ensures, c.index-founds-i.is) at c.in_ok-room.ensures))
   where
-    open c use {args.founds.now as fs, dimensions.i, index-founds-i.result as f, in_ok-room.room}
+    open c use {args.founds.now as fs, dimensions.i, index-founds-i.result as f}
 
 pub returns : goal.returns
 returns c =

@@ -1,10 +1,7 @@
 -- The families of the dimensions so far, whose schemas are valid.
-use Rattle.std.proofs.Common.{◌≡◌, ℕ, ◌<◌, [], length}
-use Rattle.std.specs.Prelude.{slice_index_or}
+use Rattle.std.{proofs.Common.{◌≡◌, ℕ, ◌<◌, [], length}, specs.Prelude.slice_index_or}
 use Rattle.olap_ast.specs.Valid.{IsValidSchema}
-use Rattle.olap_cube_summ.specs.Dimensions.{no_schema, schemas_of}
-use Rattle.olap_cube_summ.specs.Patterns.{AreFamilies}
-use Rattle.olap_cube_summ.specs.Questions.{no_question}
+use Rattle.olap_cube_summ.specs.{Dimensions.{no_schema, schemas_of}, Patterns.AreFamilies, Questions.no_question}
 use Rattle.olap_cube_summ.proofs.summarizing.all_families.Given as goal
 
 abbrev pub invariant-dimensions : goal.invariant-dimensions

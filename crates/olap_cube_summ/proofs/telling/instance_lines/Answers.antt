@@ -1,7 +1,7 @@
 -- The schema's constants are text, so the instance may be printed.
-use Rattle.std.proofs.Common.{sym, subst, ap, ◌∙◌}
+use Rattle.std.proofs.Common.{ap, ◌∙◌}
 use Rattle.olap_base.specs.Graph.{Graph}
-use Rattle.olap_cex.specs.FoundFor.{IsFoundFor, found_instance}
+use Rattle.olap_cex.specs.FoundFor.{found_instance}
 use Rattle.olap_instance.specs.Printing.{text_of_instance}
 use Rattle.olap_schema.specs.Schemas.{schema_of}
 use Rattle.olap_cube_summ.proofs.PlaceLemmas.{found_for}
@@ -9,7 +9,7 @@ use Rattle.olap_cube_summ.proofs.telling.instance_lines.Goals as goal
 
 pub thaw-requires : goal.thaw-requires
 thaw-requires c = record {
-  found = subst (λ (g : Graph). IsFoundFor g c.args.found.now) (sym c.graph-graph.ensures)
+  found = rw c.graph-graph.ensures
       (found_for (schema_of c.args.schema.now) c.args.found.now c.requires c.constraints-constraints.ensures.texts);
 }
 

@@ -1,13 +1,10 @@
 -- One dimension more.
 use Rattle.std.proofs.Common.{◌≡◌, ◌+◌, ◌<◌, ◌++◌, length, get_or, ap, ◌∙◌, arith}
 use Rattle.olap_ast.specs.Schema.{Schema}
-use Rattle.olap_cube_summ.specs.Dimensions.{no_schema, schemas_of}
-use Rattle.olap_cube_summ.specs.Found.{chosen_of}
+use Rattle.olap_cube_summ.proofs.{PlaceLemmas.{found_count, found_here}, TextLemmas.{dimensions_all, dimensions_more}}
+use Rattle.olap_cube_summ.specs.{CubeCexText.dimension_text, Dimensions.{no_schema, schemas_of}, Found.chosen_of}
 use Rattle.olap_frozen.specs.declared.founding.Found.{Found}
 use Rattle.olap_schema.specs.Schemas.{schema_of}
-use Rattle.olap_cube_summ.specs.CubeCexText.{dimension_text}
-use Rattle.olap_cube_summ.proofs.PlaceLemmas.{found_count, found_here}
-use Rattle.olap_cube_summ.proofs.TextLemmas.{dimensions_all, dimensions_more}
 use Rattle.olap_cube_summ.proofs.telling.push_dimensions.Goals as goal
 
 pub bounds-founds-i : goal.bounds-founds-i

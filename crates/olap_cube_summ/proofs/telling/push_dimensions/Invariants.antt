@@ -1,8 +1,6 @@
 -- The texts of the dimensions so far are appended.
 use Rattle.std.proofs.Common.{◌≡◌, ◌++◌, map, take}
-use Rattle.olap_cube_summ.specs.CubeCexText.{dimensions_text}
-use Rattle.olap_cube_summ.specs.Found.{chosen_of}
-use Rattle.olap_cube_summ.specs.Dimensions.{schemas_of}
+use Rattle.olap_cube_summ.specs.{CubeCexText.dimensions_text, Dimensions.schemas_of, Found.chosen_of}
 use Rattle.olap_cube_summ.proofs.telling.push_dimensions.Given as goal
 
 abbrev pub invariant-dimensions : goal.invariant-dimensions

@@ -1,12 +1,9 @@
 -- The ways among the sources so far.
 use Rattle.std.proofs.Common.{◌≡◌, ℕ, ◌<◌, ◌^◌, length}
-use Rattle.olap_base.specs.Graph.{category_count}
-use Rattle.olap_base.specs.Instance.{IsMemberOf}
-use Rattle.olap_cube_summ.specs.Found.{chosen_of}
+use Rattle.olap_base.specs.{Graph.category_count, Instance.IsMemberOf}
+use Rattle.olap_cube_summ.specs.{Found.chosen_of, Patterns.{named_by, shape_of}, Questions.{sources_in, target_in}}
 use Rattle.olap_cube_summ.specs.Ways.{HasWaysTo}
 use Rattle.olap_schema.specs.Schemas.{schema_of}
-use Rattle.olap_cube_summ.specs.Patterns.{named_by, shape_of}
-use Rattle.olap_cube_summ.specs.Questions.{sources_in, target_in}
 use Rattle.olap_cube_summ.proofs.ways.pattern.Given as goal
 
 abbrev pub invariant-sources : goal.invariant-sources

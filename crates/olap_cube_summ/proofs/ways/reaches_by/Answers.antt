@@ -1,35 +1,22 @@
-use Rattle.std.proofs.Common.{◌↔◌, map, sym, subst}
-use Rattle.std.specs.Prelude.{IsTrue}
-use Rattle.olap_ast.specs.Formula.{Formula.Via}
-use Rattle.olap_ast.specs.Frozen.{AreCandidates, IsFrozen}
-use Rattle.olap_ast.specs.Schema.{Schema}
+use Rattle.std.proofs.Common.{map}
 use Rattle.olap_ast.specs.Trees.{constraint_of}
-use Rattle.olap_frozen.specs.LeastFound.{frozen_of}
-use Rattle.olap_names.specs.Names.{candidates_of}
 use Rattle.olap_schema.specs.Schemas.{schema_of}
-use Rattle.olap_cube_summ.specs.Patterns.{named_by}
-use Rattle.olap_cube_summ.proofs.WayLemmas.{candidates_for, way_is}
-use Rattle.olap_cube_summ.proofs.ways.reaches_by.Goals as goal
+use Rattle.olap_cube_summ.{proofs.WayLemmas.{candidates_for, way_is}, specs.Patterns.named_by}
 use Rattle.olap_names.proofs.WholeLemmas.{whole_is}
+use Rattle.olap_cube_summ.proofs.ways.reaches_by.Goals as goal
 
 pub is_frozen-is_way-requires-clause-candidates : goal.is_frozen-is_way-requires-clause-candidates
 is_frozen-is_way-requires-clause-candidates c =
     let s = schema_of c.args.schema.now in
-    let whole = whole_is s c.graph.result.now (map constraint_of c.constraints.result.now) c.graph.ensures
-    c.constraints.ensures.list in
-    subst (λ (w : Schema). AreCandidates w (Via c.args.source.0 c.args.target.0)
-    (candidates_of c.args.candidates.now)) (sym whole)
-    (candidates_for s c.args.target.0 (named_by c.args.candidates.now c.args.frozen.now) c.requires.found
-    c.args.source.0)
+    rw (whole_is s c.graph.result.now (map constraint_of c.constraints.result.now) c.graph.ensures
+    c.constraints.ensures.list) (candidates_for s c.args.target.0
+    (named_by c.args.candidates.now c.args.frozen.now) c.requires.found c.args.source.0)
 
 pub returns-clause-way : goal.returns-clause-way
 returns-clause-way c = λ x m.
     let s = schema_of c.args.schema.now in
-    let found = named_by c.args.candidates.now c.args.frozen.now in
-    let whole = whole_is s c.graph.result.now (map constraint_of c.constraints.result.now) c.graph.ensures
-    c.constraints.ensures.list in
-    let way = way_is s c.args.target.0 found c.requires.found c.args.source.0 x m in
-    let via = Via c.args.source.0 c.args.target.0 in
-    let frozen = subst (λ (w : Schema). IsTrue c.is_frozen-is_way.result ↔ IsFrozen w via found.frozen.root.0
-    (candidates_of found.candidates) (frozen_of found.frozen)) whole c.is_frozen-is_way.ensures.frozen in
+    let way = way_is s c.args.target.0 (named_by c.args.candidates.now c.args.frozen.now) c.requires.found
+    c.args.source.0 x m in
+    let frozen = rw (whole_is s c.graph.result.now (map constraint_of c.constraints.result.now) c.graph.ensures
+    c.constraints.ensures.list) at c.is_frozen-is_way.ensures.frozen in
     (λ e. way.0 (frozen.0 e), λ w. frozen.1 (way.1 w))

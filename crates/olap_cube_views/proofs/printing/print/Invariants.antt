@@ -1,9 +1,7 @@
 -- The text of the rows so far.
 use Rattle.std.proofs.Common.{◌≡◌, ◌∷◌, ◌+◌, length, map, take}
 use Rattle.olap_records.specs.Texts.{text_of_rows}
-use Rattle.olap_cube_views.specs.CubeViewText.{fields_in, header}
-use Rattle.olap_cube_views.specs.Dimensions.{instances_of}
-use Rattle.olap_cube_views.specs.Seen.{cube_rows_of}
+use Rattle.olap_cube_views.specs.{CubeViewText.{fields_in, header}, Dimensions.instances_of, Seen.cube_rows_of}
 use Rattle.olap_cube_views.proofs.printing.print.Given as goal
 
 abbrev pub invariant-rows : goal.invariant-rows

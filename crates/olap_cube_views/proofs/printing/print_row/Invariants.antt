@@ -1,7 +1,6 @@
 -- The ids of the first members.
 use Rattle.std.proofs.Common.{length, map, take}
-use Rattle.olap_cube_views.specs.Dimensions.{instances_of}
-use Rattle.olap_cube_views.proofs.CubePrintingLemmas.{IdsSoFar}
+use Rattle.olap_cube_views.{proofs.CubePrintingLemmas.IdsSoFar, specs.Dimensions.instances_of}
 use Rattle.olap_cube_views.proofs.printing.print_row.Given as goal
 
 abbrev pub invariant-ids : goal.invariant-ids

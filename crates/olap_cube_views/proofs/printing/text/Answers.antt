@@ -1,9 +1,8 @@
 -- The printed text reads back.
 use Rattle.std.proofs.Common.{◌∙◌, ap}
 use Rattle.olap_records.specs.Records.{records_of}
-use Rattle.olap_cube_views.specs.Dimensions.{instances_of}
+use Rattle.olap_cube_views.{proofs.CubePrintingLemmas.cube_view_reads, specs.Dimensions.instances_of}
 use Rattle.olap_cube_views.specs.Seen.{cube_view_of}
-use Rattle.olap_cube_views.proofs.CubePrintingLemmas.{cube_view_reads}
 use Rattle.olap_cube_views.proofs.printing.text.Goals as goal
 
 pub returns-clause-reads : goal.returns-clause-reads

@@ -1,6 +1,5 @@
 -- Whether the first record is the header.
-use Rattle.olap_cube_views.specs.CubeFactText.{header}
-use Rattle.olap_cube_views.proofs.CubeReadingLemmas.{header_is}
+use Rattle.olap_cube_views.{proofs.CubeReadingLemmas.header_is, specs.CubeFactText.header}
 use Rattle.olap_cube_views.proofs.reading.begins.Goals as goal
 
 pub returns-then-found-clause-header : goal.returns-then-found-clause-header

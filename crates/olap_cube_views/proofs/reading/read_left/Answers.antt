@@ -1,19 +1,12 @@
 -- The facts of the vector are those of the table.
-use Rattle.std.proofs.Common.{◌≡◌, ◌∙◌, List, [], drop, length, sym, subst, true, rules}
-use Rattle.std.specs.Borrow.{Bor}
-use Rattle.std.proofs.lemmas.List.{length-map}
-use Rattle.std.proofs.lemmas.Result.{err_from_is_err_and}
+use Rattle.std.proofs.{Common.{◌≡◌, ◌∙◌, List, [], drop, length, sym, subst, true, rules}, lemmas.List.length-map}
+use Rattle.std.{proofs.lemmas.Result.err_from_is_err_and, specs.Borrow.Bor, specs.Prelude.All}
 use Rattle.olap_base.specs.Instance.{Instance}
-use Rattle.std.specs.Prelude.{All}
-use Rattle.olap_records.specs.Faults.{first_fault}
-use Rattle.olap_records.specs.Tables.{begins_with}
-use Rattle.olap_cube_views.specs.CubeFactText.{cube_fact_fault, header}
-use Rattle.olap_cube_views.specs.CubeRefusals.{IsFaultCause}
-use Rattle.olap_cube_views.specs.CubeTallies.{AreMembers}
-use Rattle.olap_cube_views.specs.Dimensions.{graphs_of, instances_of}
-use Rattle.olap_cube_views.specs.Seen.{members_of}
-use Rattle.olap_cube_views.specs.declared.tables.CubeFact as told
+use Rattle.olap_records.specs.{Faults.first_fault, Tables.begins_with}
 use Rattle.olap_cube_views.proofs.CubeReadingLemmas.{cube_table_members, fault_behind}
+use Rattle.olap_cube_views.specs.{CubeFactText.{cube_fact_fault, header}, CubeRefusals.IsFaultCause}
+use Rattle.olap_cube_views.specs.{CubeTallies.AreMembers, Dimensions.{graphs_of, instances_of}, Seen.members_of}
+use Rattle.olap_cube_views.specs.declared.tables.CubeFact as told
 use Rattle.olap_cube_views.proofs.reading.read_left.Goals as goal
 
 pub returns-clause-members : goal.returns-clause-members

@@ -1,14 +1,10 @@
 -- One record more, which passes or has the first fault.
-use Rattle.std.proofs.Common.{◌≡◌, ℕ, ◌∷◌, ◌++◌, ◌∙◌, [], List, length, length-append, map, ap, sym, subst, arith, rules}
-use Rattle.std.proofs.lemmas.List.{map-append}
+use Rattle.std.proofs.{Common.{◌≡◌, ◌∷◌, ◌++◌, [], length, length-append, map, arith, rules}, lemmas.List.map-append}
 use Rattle.std.proofs.lemmas.Result.{err_from_is_err_and}
-use Rattle.olap_base.specs.Views.{Fact}
-use Rattle.olap_cube.specs.CubeViews.{IsCubeFactTable}
 use Rattle.olap_records.proofs.Seeing.{see-more}
-use Rattle.olap_cube_views.specs.CubeFactText.{cube_fact_fault, cube_fact_read}
-use Rattle.olap_cube_views.specs.Dimensions.{graphs_of, instances_of}
-use Rattle.olap_cube_views.specs.Seen.{cube_fact_of}
 use Rattle.olap_cube_views.proofs.CubeReadingLemmas.{cube_facts_more, cube_table_more, same_length, told_cause}
+use Rattle.olap_cube_views.specs.{CubeFactText.{cube_fact_fault, cube_fact_read}, Dimensions.{graphs_of, instances_of}}
+use Rattle.olap_cube_views.specs.Seen.{cube_fact_of}
 use Rattle.olap_cube_views.proofs.reading.read_rows.Goals as goal
 
 pub rows-preserved : goal.rows-preserved
@@ -19,17 +15,15 @@ rows-preserved c =
     let same = same_length cube_fact_of (cube_fact_read is) old seen inv.facts in
     let size : length c.rows.invariant.seen ≡ c.len.result = search rules in
     let says = c.in_ok-fact.ensures.fact seen size in
-    let items = c.in_ok-push.ensures.items in
-    record {
+    rw c.in_ok-push.ensures.items (record {
       seen = seen ++ row ∷ [];
       has_seen = see-more (cube_fact_fault gs is) c.args.rows.now.left seen c.rows.rows.left c.advance.new.self.left row
           inv.has_seen left says.0;
-      facts = ap (map cube_fact_of) items ∙ cube_facts_more is seen row old f inv.facts says.1;
-      table = subst (λ (fs : List (Fact (List ℕ))). IsCubeFactTable gs is fs)
-          (sym (ap (map cube_fact_of) items ∙ map-append cube_fact_of old (f ∷ [])))
+      facts = cube_facts_more is seen row old f inv.facts says.1;
+      table = rw map-append
           (cube_table_more gs is (map cube_fact_of old) (cube_fact_of f) inv.table c.in_ok-fact.ensures.bottom);
-      few = omega (arith, ap length items, length-append old (f ∷ []), same, size, c.in_ok-fact.ensures.few);
-    }
+      few = omega (arith, length-append old (f ∷ []), same, size, c.in_ok-fact.ensures.few);
+    })
   where
     open c use {
       rows.invariant as inv,

@@ -3,8 +3,7 @@ use Rattle.std.proofs.Common.{◌≡◌, ◌≤◌, ℕ, List, length, map}
 use Rattle.olap_base.specs.Limits.{most_listed_facts}
 use Rattle.olap_cube.specs.CubeViews.{IsCubeFactTable}
 use Rattle.olap_records.proofs.Seeing.{HasSeen}
-use Rattle.olap_cube_views.specs.CubeFactText.{cube_fact_fault, cube_fact_read}
-use Rattle.olap_cube_views.specs.Dimensions.{graphs_of, instances_of}
+use Rattle.olap_cube_views.specs.{CubeFactText.{cube_fact_fault, cube_fact_read}, Dimensions.{graphs_of, instances_of}}
 use Rattle.olap_cube_views.specs.Seen.{cube_fact_of}
 use Rattle.olap_cube_views.proofs.reading.read_rows.Given as goal
 

@@ -1,18 +1,14 @@
 -- The header, a fact or a fault.
 use Rattle.std.proofs.Common.{◌≡◌, ℕ, ◌↔◌, ◌∷◌, ◌++◌, [], IsTrue, List, length, take, sym, ap, subst, ◌∙◌, rules, w64}
-use mir.Val.{SFits}
-use Rattle.std.proofs.lemmas.Int.{to_z-of_z}
-use Rattle.std.proofs.lemmas.List.{length-map}
-use Rattle.olap_base.specs.Instance.{Instance}
-use Rattle.olap_base.specs.Views.{Fact}
+use Rattle.std.proofs.lemmas.{Int.to_z-of_z, List.length-map}
+use Rattle.olap_base.specs.{Instance.Instance, Views.Fact}
 use Rattle.olap_cube.specs.Tuples.{IsBottomTuple}
 use Rattle.olap_view.specs.Columns.{Ascent}
-use Rattle.olap_cube_views.specs.CubeFactText.{cube_fact_read, header}
-use Rattle.olap_cube_views.specs.CubeTallies.{AreMembers, CubeStandsFor}
-use Rattle.olap_cube_views.specs.Dimensions.{graphs_of, instances_in}
-use Rattle.olap_cube_views.specs.Seen.{fact_at, members_of}
 use Rattle.olap_cube_views.proofs.CubeCountingLemmas.{counted-fact, counted-header, fact-fault, header-fault}
-use Rattle.olap_cube_views.proofs.CubeReadingLemmas.{bottom_members}
+use Rattle.olap_cube_views.{proofs.CubeReadingLemmas.bottom_members, specs.CubeFactText.{cube_fact_read, header}}
+use Rattle.olap_cube_views.specs.{CubeTallies.{AreMembers, CubeStandsFor}, Dimensions.{graphs_of, instances_in}}
+use Rattle.olap_cube_views.specs.Seen.{fact_at, members_of}
+use mir.Val.{SFits}
 use Rattle.olap_cube_views.proofs.rolling.add_record.Goals as goal
 
 pub returns-then-not-is_header-clause-counts : goal.returns-then-not-is_header-clause-counts

@@ -1,8 +1,7 @@
 -- The members of the first fields.
 use Rattle.std.proofs.Common.{◌≡◌, ◌≤◌, length, take}
-use Rattle.olap_cube_views.specs.Dimensions.{graphs_of, instances_in}
+use Rattle.olap_cube_views.{proofs.CubeReadingLemmas.MembersSoFar, specs.Dimensions.{graphs_of, instances_in}}
 use Rattle.olap_cube_views.specs.Seen.{members_of}
-use Rattle.olap_cube_views.proofs.CubeReadingLemmas.{MembersSoFar}
 use Rattle.olap_cube_views.proofs.rolling.members.Given as goal
 
 abbrev pub invariant-dimensions : goal.invariant-dimensions

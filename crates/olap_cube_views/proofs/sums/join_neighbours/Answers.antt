@@ -1,16 +1,12 @@
 -- One row more, which is joined or comes after.
-use Rattle.std.proofs.Common.{◌+◌, ◌<◌, ◌≤◌, length, sym, ap, subst, ◌∙◌, arith}
-use Rattle.std.specs.List.Sorted.{IsStrictlySortedBy}
-use Rattle.std.specs.Map.{keys_of}
-use Rattle.std.proofs.lemmas.List.{length-map, take-map}
-use Rattle.std.proofs.lemmas.Slice.Eq.{slice_eq-Decides}
-use Rattle.std.proofs.lemmas.Bool.Decides.{Decides-eqb}
+use Rattle.std.proofs.{Common.{◌+◌, ◌<◌, ◌≤◌, length, sym, ap, subst, ◌∙◌, arith}, lemmas.Bool.Decides.Decides-eqb}
+use Rattle.std.proofs.lemmas.{List.{length-map, take-map}, Slice.Eq.slice_eq-Decides}
+use Rattle.std.specs.{List.Sorted.IsStrictlySortedBy, Map.keys_of}
 use Rattle.olap_base.specs.Limits.{most_count}
-use Rattle.olap_cube_views.specs.CubeTallies.{IsWithin, entries_of, key_cmp, summary_at}
-use Rattle.olap_cube_views.specs.Seen.{entry_of}
 use Rattle.olap_cube_views.proofs.SumLemmas.{end_order, end_same, end_within, row_room, step_joined, step_moved}
-use Rattle.olap_cube_views.proofs.sums.join_neighbours.Goals as goal
 use Rattle.olap_cube_views.proofs.sums.join_neighbours.Goals.{then-eq, else-eq}
+use Rattle.olap_cube_views.specs.{CubeTallies.{IsWithin, entries_of, key_cmp, summary_at}, Seen.entry_of}
+use Rattle.olap_cube_views.proofs.sums.join_neighbours.Goals as goal
 
 pub joined-requires-clause-this : goal.joined-requires-clause-this
 joined-requires-clause-this c =

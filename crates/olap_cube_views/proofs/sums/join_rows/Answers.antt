@@ -1,16 +1,12 @@
 -- The sorted rows are the same rows, and so are the joined ones.
 use Rattle.std.proofs.Common.{◌≡◌, List, [], length, take, sym, ap, subst, ◌∙◌, arith, rules}
-use Rattle.std.specs.List.Sorted.{IsSortedByKey, IsStrictlySortedBy}
-use Rattle.std.specs.Map.{keys_of}
-use Rattle.std.proofs.lemmas.Cmp.{nat_list_cmp_total}
-use Rattle.std.proofs.lemmas.List.{nil_from_length, with_items_is}
-use Rattle.std.proofs.lemmas.List.Sorted.{IsPermutation-map, answers_always}
-use Rattle.std.proofs.lemmas.Map.Keys.{sorted_from_all_adjacent}
+use Rattle.std.proofs.lemmas.{Cmp.nat_list_cmp_total, List.{nil_from_length, with_items_is}}
+use Rattle.std.proofs.lemmas.{List.Sorted.{IsPermutation-map, answers_always}, Map.Keys.sorted_from_all_adjacent}
+use Rattle.std.specs.{List.Sorted.{IsSortedByKey, IsStrictlySortedBy}, Map.keys_of}
 use Rattle.olap_base.specs.Limits.{most_count}
-use Rattle.olap_cube_views.specs.CubeTallies.{IsWithin, entries_of, key_cmp, summary_at}
-use Rattle.olap_cube_views.specs.Seen.{entry_of}
-use Rattle.olap_cube_views.specs.declared.views.CubeRow as told
 use Rattle.olap_cube_views.proofs.SumLemmas.{summary_permuted, within_permuted}
+use Rattle.olap_cube_views.specs.{CubeTallies.{IsWithin, entries_of, key_cmp, summary_at}, Seen.entry_of}
+use Rattle.olap_cube_views.specs.declared.views.CubeRow as told
 use Rattle.olap_cube_views.proofs.sums.join_rows.Goals as goal
 
 pub join_neighbours-count-requires-clause-within : goal.join_neighbours-count-requires-clause-within

@@ -1,13 +1,10 @@
 -- A fact that reaches a tuple, and one that reaches none.
-use Rattle.std.proofs.Common.{◌≡◌, ◌∷◌, ◌++◌, [], ℕ, List, ap, refl, rules, w64}
+use Rattle.std.proofs.{Common.{◌≡◌, ◌∷◌, ◌++◌, [], ℕ, List, ap, refl, rules, w64}, lemmas.Int.to_z-of_z}
 use Rattle.std.specs.Prelude.{OnOk, Result, Ok, Err}
-use mir.Val.{SFits}
-use Rattle.std.proofs.lemmas.Int.{to_z-of_z}
 use Rattle.olap_base.specs.Summaries.{of_value}
-use Rattle.olap_cube_views.specs.CubeTallies.{entries_of, summary_at}
-use Rattle.olap_cube_views.specs.Seen.{fact_at}
-use Rattle.olap_cube_views.proofs.CubeTallyLemmas.{fact_apart, fact_joined}
-use Rattle.olap_cube_views.proofs.SumLemmas.{within_more}
+use Rattle.olap_cube_views.proofs.{CubeTallyLemmas.{fact_apart, fact_joined}, SumLemmas.within_more}
+use Rattle.olap_cube_views.specs.{CubeTallies.{entries_of, summary_at}, Seen.fact_at}
+use mir.Val.{SFits}
 use Rattle.olap_cube_views.proofs.tallies.add_fact.Goals as goal
 
 on_ok : {T E : Type 0} (o : Result T E) (P Q : Type 0) → (P → Q) → OnOk o P → OnOk o Q

@@ -1,6 +1,5 @@
 -- One dimension more, in which a member is reached or none.
-use Rattle.std.proofs.Common.{◌+◌, ◌<◌, ◌≤◌, ◌∷◌, length, drop, refl, sym, ap, ◌∙◌, arith}
-use Rattle.std.proofs.lemmas.List.{drop_more}
+use Rattle.std.proofs.{Common.{◌+◌, ◌<◌, ◌≤◌, ◌∷◌, length, drop, refl, sym, ap, ◌∙◌, arith}, lemmas.List.drop_more}
 use Rattle.olap_view.specs.Columns.{Ascent}
 use Rattle.olap_cube.specs.Limits.{most_dimensions}
 use Rattle.olap_cube_views.proofs.AncestorLemmas.{as_many, key_end, key_more, none_reached}
@@ -14,15 +13,9 @@ dimensions-preserved c =
     let few : k < most_dimensions = let f = c.requires.few in omega arith in
     key_more columns members k c.dimensions.key c.dimensions.invariant a _
     (drop_more columns k a here ∙ ap (λ (u : Ascent). u ∷ drop (k + 1) columns) (sym c.index-columns-k.is))
-    (drop_more members k (record { 0 = 0 }) there) m.0 _ few c.in-Some.ensures.some refl
+    (drop_more members k (record { 0 = 0 }) there) c.in-Some.y.0 _ few c.in-Some.ensures.some refl
   where
-    open c use {
-      args.columns.now as columns,
-      args.members.now as members,
-      dimensions.k,
-      index-columns-k.result as a,
-      in-Some.y as m,
-    }
+    open c use {args.columns.now as columns, args.members.now as members, dimensions.k, index-columns-k.result as a}
 
 pub returns-in-None-clause-none : goal.returns-in-None-clause-none
 returns-in-None-clause-none c = λ e.

@@ -1,7 +1,6 @@
 -- The tally stands for the facts so far.
 use Rattle.std.proofs.Common.{◌≡◌, map, take}
-use Rattle.olap_cube_views.specs.CubeTallies.{CubeStandsFor}
-use Rattle.olap_cube_views.specs.Seen.{cube_fact_of}
+use Rattle.olap_cube_views.specs.{CubeTallies.CubeStandsFor, Seen.cube_fact_of}
 use Rattle.olap_cube_views.proofs.viewing.add_facts.Given as goal
 
 abbrev pub invariant-facts : goal.invariant-facts

@@ -1,147 +1,83 @@
 -- One dimension more, or the end that its file has.
-use Rattle.std.proofs.Common.{◌≡◌, ◌+◌, ◌<◌, ◌≤◌, ℕ, List, [], ◌∷◌, ◌++◌, Err, Ok, ap, arith, codes, drop, get_or, length, refl, subst, sym, take, ◌∙◌}
-use Rattle.std.proofs.lemmas.List.{get_or_default, length-map, length_push, map-append, take_all}
-use Rattle.std.specs.String.{string_bytes}
+use Rattle.std.proofs.Common.{◌≡◌, ◌+◌, ◌<◌, ℕ, List, [], ◌∷◌, ◌++◌, Result, Err, ap, arith, codes, get_or, length, refl, subst, ◌∙◌}
+use Rattle.std.proofs.lemmas.List.{length_push, map-append}
 use Rattle.olap_ast.specs.Schema.{Schema}
-use Rattle.olap_base.specs.Instance.{Instance}
 use Rattle.olap_base.specs.declared.ids.CatId.{CatId}
-use Rattle.olap_cube.specs.CubeSummarizable.{graphs_of}
-use Rattle.olap_cube_summ.specs.Dimensions.{no_schema, schemas_of}
+use Rattle.olap_cube_summ.specs.Dimensions.{schemas_of}
 use Rattle.olap_instance.specs.Made.{IsMadeFor}
-use Rattle.olap_order.specs.Order.{Order}
-use Rattle.olap_order.specs.Taken.{FileStep}
-use Rattle.olap_order.specs.Words.{texts}
+use Rattle.olap_order.{proofs.SourceLemmas.word_is, specs.Taken.FileStep, specs.Words.texts}
+use Rattle.olap_order.specs.declared.replies.Stop.{Stop}
+use Rattle.olap_outside.specs.declared.outside.Library.{Ghosts as Library}
 use Rattle.olap_reading.specs.Steps.{legal_file}
 use Rattle.olap_view.specs.Columns.{Ascent}
-use Rattle.olap_view.specs.Seen.{ids}
-use Rattle.olap_cube_views.specs.Dimensions.{AreMadeFor, categories_in, instances_in}
-use Rattle.olap_cubes.specs.Cut.{legal_files_from}
+use Rattle.olap_cube_views.specs.Dimensions.{instances_in}
+use Rattle.olap_cubes.proofs.DimensionLemmas.{columns_more, legals_end, legals_from, made_all, made_more}
+use Rattle.olap_cubes.proofs.FilesLemmas.{as_read, read_all, read_ends, read_more, read_none, read_wants}
 use Rattle.olap_cubes.specs.Steps.{numbered}
-use Rattle.olap_cubes.proofs.DimensionLemmas.{ids_more, legals_end, legals_from, made_all, made_more}
-use Rattle.olap_cubes.proofs.FilesLemmas.{AreReadTo, as_ended, as_read, ended_so, read_all, read_ends, read_more, read_none, read_wants}
 use Rattle.olap_cubes.proofs.dimensions.add_columns.Goals as goal
-use Rattle.olap_order.proofs.SourceLemmas.{word_is}
-
--- the instances in the files that are left
-abbrev behind : List Schema → List (List ℕ) → ℕ → List Instance → Order (List Instance)
-behind schemas files k read = legal_files_from (k + 1) read (drop k schemas) (drop k files)
 
 -- what a slice of categories has past its end
 nobody : CatId
 nobody = record { 0 = 0 }
 
+-- a step on a file of a schema, told in other words
+step_as : {D : Type 0} {L : Library D} {old new : D} {s t : Schema} {v w : List ℕ} {result : Result Ascent Stop} (k : ℕ)
+    → s ≡ t → v ≡ w
+    → FileStep L old new (legal_file s (numbered (codes "instance") (k + 1)) v) (λ (a : Ascent). a.instance) result
+    → FileStep L old new (legal_file t (numbered (codes "instance") (k + 1)) w) (λ (a : Ascent). a.instance) result
+step_as k p q h = rw (← p, ← q) h
+
 pub files-init : goal.files-init
 files-init g c =
-    let schemas = schemas_of c.args.cube.now in
-    let files = texts c.args.files.now in
-    record {
-      read = subst (λ (cs : List Ascent). AreReadTo g.L.Library lib (legal_files_from 1 [] schemas files)
-          (behind schemas files) 0 lib (instances_in cs)) (sym none)
-          (read_none g.L.Library lib (legal_files_from 1 [] schemas files) (behind schemas files) refl);
-      each = ap length none;
-      made = subst (λ (cs : List Ascent). AreMadeFor (take 0 (graphs_of schemas)) (instances_in cs)) (sym none) tt;
-      categories = ap categories_in none;
-    }
-  where
-    open c use {args.lib.now as lib, requires.none}
-
-pub bounds-target-k : goal.bounds-target-k
-bounds-target-k g c = omega (arith, c.requires.target, c.len-k-end.ensures.count, c.files-test.true)
+    rw c.requires.none (record { read = read_none _ _ _ _ refl; each = refl; made = tt; categories = refl })
 
 pub returns-in_err-column-clause-step : goal.returns-in_err-column-clause-step
 returns-in_err-column-clause-step g c =
-    let schemas = schemas_of c.args.cube.now in
-    let files = texts c.args.files.now in
-    let there : k < length c.args.files.now = omega (arith, c.requires.each, c.len-k-end.ensures.count) in
-    let file : c.as_str-file.result.now ≡ get_or files k [] = c.as_str-file.ensures.value
-    ∙ word_is c.args.files.now k c.index-files-k.result there c.index-files-k.is in
-    let here : k < length files = omega (arith, length-map c.args.files.now string_bytes) in
-    let this : k < length schemas = omega (arith, c.len-k-end.ensures.count) in
-    as_ended c.from_residual.result stop c.from_residual.ensures.1 (ended_so
-    (read_ends g.L.Library c.args.lib.now (legal_files_from 1 [] schemas files) (behind schemas files) k c.files.lib
-    c.dimension_column.new.lib (instances_in c.files.columns)
-    (legal_file (get_or schemas k no_schema) (numbered (codes "instance") (k + 1)) (get_or files k []))
-    (λ (a : Ascent). a.instance) stop
-    c.files.invariant.read (legals_from schemas files k (instances_in c.files.columns) this here)
-    (subst (λ w. FileStep g.L.Library c.files.lib c.dimension_column.new.lib
-    (legal_file (get_or schemas k no_schema) (numbered (codes "instance") (k + 1)) w) (λ (a : Ascent). a.instance)
-    (Err stop)) file
-    (subst (λ (s : Schema). FileStep g.L.Library c.files.lib c.dimension_column.new.lib
-    (legal_file s (numbered (codes "instance") (k + 1)) c.as_str-file.result.now) (λ (a : Ascent). a.instance)
-    (Err stop)) c.schema-schema.ensures c.in_err-column.ensures.step))))
+    let there : k < length files = omega (arith, c.requires.each, c.len-k-end.ensures.count) in
+    let this : k < length (schemas_of c.args.cube.now) = omega (arith, c.len-k-end.ensures.count) in
+    let file : c.as_str-file.result.now ≡ get_or (texts files) k [] = c.as_str-file.ensures.value
+    ∙ word_is files k c.index-files-k.result there c.index-files-k.is in
+    read_ends c.files.invariant.read c.from_residual.result c.in_err-column.field-0.0 c.from_residual.ensures.1
+    (legals_from (schemas_of c.args.cube.now) files k (instances_in c.files.columns) this there)
+    (step_as k c.schema-schema.ensures file c.in_err-column.ensures.step)
   where
-    open c use {files.k, in_err-column.field-0.0 as stop}
-
-pub push-requires : goal.push-requires
-push-requires g c = omega (arith, c.files.invariant.each, c.len-k-end.ensures.count, c.len-k-end.ensures.few)
+    open c use {files.k, args.files.now as files}
 
 pub files-preserved : goal.files-preserved
 unfolding nobody
 files-preserved g c =
     let schemas = schemas_of c.args.cube.now in
-    let files = texts c.args.files.now in
-    let category = get_or target k nobody in
-    let there : k < length c.args.files.now = omega (arith, c.requires.each, c.len-k-end.ensures.count) in
-    let inside : k < length target = omega (arith, c.requires.target, c.len-k-end.ensures.count) in
-    let file : c.as_str-file.result.now ≡ get_or files k [] = c.as_str-file.ensures.value
-    ∙ word_is c.args.files.now k c.index-files-k.result there c.index-files-k.is in
-    let here : k < length files = omega (arith, length-map c.args.files.now string_bytes) in
+    let there : k < length files = omega (arith, c.requires.each, c.len-k-end.ensures.count) in
     let this : k < length schemas = omega (arith, c.len-k-end.ensures.count) in
+    let inside : k < length target = omega (arith, c.requires.target, c.len-k-end.ensures.count) in
+    let file : c.as_str-file.result.now ≡ get_or (texts files) k [] = c.as_str-file.ensures.value
+    ∙ word_is files k c.index-files-k.result there c.index-files-k.is in
     let pushed : c.push.new.self ≡ old ++ column ∷ [] = c.in-Ok.ensures.ok in
-    let more : instances_in c.push.new.self ≡ instances_in old ++ column.instance ∷ [] =
-    ap instances_in pushed ∙ map-append (λ (a : Ascent). a.instance) old (column ∷ []) in
+    let more = ap instances_in pushed ∙ map-append (λ (a : Ascent). a.instance) old (column ∷ []) in
     record {
-      read = read_more g.L.Library c.args.lib.now (legal_files_from 1 [] schemas files) (behind schemas files) k
-          c.files.lib
-          c.dimension_column.new.lib (instances_in old) (instances_in c.push.new.self)
-          (legal_file (get_or schemas k no_schema) (numbered (codes "instance") (k + 1)) (get_or files k []))
-          (λ (a : Ascent). a.instance) column
-          c.files.invariant.read (legals_from schemas files k (instances_in old) this here)
-          (subst (λ w. FileStep g.L.Library c.files.lib c.dimension_column.new.lib
-          (legal_file (get_or schemas k no_schema) (numbered (codes "instance") (k + 1)) w) (λ (a : Ascent). a.instance)
-          (Ok column)) file
-          (subst (λ (s : Schema). FileStep g.L.Library c.files.lib c.dimension_column.new.lib
-          (legal_file s (numbered (codes "instance") (k + 1)) c.as_str-file.result.now) (λ (a : Ascent). a.instance)
-          (Ok column)) c.schema-schema.ensures c.in_ok-column.ensures.step)) more;
-      each = ap length pushed ∙ length_push old column ∙ ap (λ n. n + 1) c.files.invariant.each;
-      made = made_more schemas k (instances_in old) (instances_in c.push.new.self) column.instance this
-          c.files.invariant.made
+      read = read_more inv.read (legals_from schemas files k (instances_in old) this there)
+          (step_as k c.schema-schema.ensures file c.in_ok-column.ensures.step) more;
+      each = ap length pushed ∙ length_push old column ∙ ap (λ n. n + 1) inv.each;
+      made = made_more schemas k (instances_in old) (instances_in c.push.new.self) column.instance this inv.made
           (subst (λ (s : Schema). IsMadeFor s.graph column.instance) c.schema-schema.ensures
           c.in_ok-column.ensures.made) more;
-      categories = ap categories_in pushed ∙ map-append (λ (a : Ascent). a.category) old (column ∷ [])
-          ∙ ap (λ (xs : List ℕ). xs ++ column.category ∷ []) c.files.invariant.categories
-          ∙ ap (λ n. ids (take k target) ++ n ∷ []) c.in_ok-column.ensures.category
-          ∙ sym (ids_more target k category inside (get_or_default target k nobody category inside));
+      categories = columns_more target k nobody old c.push.new.self column inside pushed inv.categories
+          c.in_ok-column.ensures.category;
     }
   where
-    open c use {args.target.now as target, files.k, files.columns as old, in_ok-column.column}
+    open c use {args.target.now as target, args.files.now as files, files.k, files.columns as old}
+    open c use {in_ok-column.column, files.invariant as inv}
 
 pub returns-in-Err-clause-step : goal.returns-in-Err-clause-step
 returns-in-Err-clause-step g c =
-    let schemas = schemas_of c.args.cube.now in
-    let files = texts c.args.files.now in
-    read_wants g.L.Library c.args.lib.now (legal_files_from 1 [] schemas files) (behind schemas files) c.files.k
-    c.files.lib c.dimension_column.new.lib (instances_in c.files.columns) _ (λ (a : Ascent). a.instance)
-    c.in_ok-column.column (Err c.from.result) c.files.invariant.read c.in_ok-column.ensures.step c.from.ensures
+    read_wants c.files.invariant.read (Err c.from.result) c.in_ok-column.ensures.step c.from.ensures
 
 pub returns-clause-step : goal.returns-clause-step
 returns-clause-step g c =
-    let schemas = schemas_of c.args.cube.now in
-    let files = texts c.args.files.now in
-    let k = c.files.k in
-    let all : length schemas ≤ k = omega (arith, c.len-k-end.ensures.count) in
-    as_read tt (read_all g.L.Library c.args.lib.now (legal_files_from 1 [] schemas files)
-    (behind schemas files) k c.files.lib (instances_in c.files.columns) c.files.invariant.read
-    (legals_end schemas files k (instances_in c.files.columns) all))
+    as_read tt (read_all c.files.invariant.read (legals_end (schemas_of c.args.cube.now) (texts c.args.files.now)
+    c.files.k (instances_in c.files.columns) (omega (arith, c.len-k-end.ensures.count))))
 
 pub returns-clause-made : goal.returns-clause-made
 returns-clause-made g c =
-    let schemas = schemas_of c.args.cube.now in
-    let all : length schemas ≤ c.files.k = omega (arith, c.len-k-end.ensures.count) in
-    made_all schemas c.files.k (instances_in c.files.columns) all c.files.invariant.made
-
-pub returns-clause-categories : goal.returns-clause-categories
-returns-clause-categories g c =
-    let target = c.args.target.now in
-    let all : length target ≤ c.files.k = omega (arith, c.requires.target, c.len-k-end.ensures.count) in
-    c.files.invariant.categories ∙ ap ids (take_all c.files.k target all)
+    made_all (schemas_of c.args.cube.now) c.files.k (instances_in c.files.columns)
+    (omega (arith, c.len-k-end.ensures.count)) c.files.invariant.made

@@ -5,8 +5,7 @@ use Rattle.olap_cube_views.specs.Dimensions.{AreMadeFor, categories_in, instance
 use Rattle.olap_cube_summ.specs.Dimensions.{schemas_of}
 use Rattle.olap_order.specs.Words.{texts}
 use Rattle.olap_view.specs.Seen.{ids}
-use Rattle.olap_cubes.specs.Cut.{legal_files_from}
-use Rattle.olap_cubes.proofs.FilesLemmas.{AreReadTo}
+use Rattle.olap_cubes.{proofs.FilesLemmas.AreReadTo, specs.Cut.legal_files_from}
 use Rattle.olap_cubes.proofs.dimensions.add_columns.Given as goal
 
 abbrev pub invariant-files : goal.invariant-files

@@ -2,8 +2,7 @@
 use Rattle.std.proofs.Common.{◌≡◌, ◌+◌, [], drop, length}
 use Rattle.olap_cube_summ.specs.Dimensions.{schemas_of}
 use Rattle.olap_order.specs.Words.{texts}
-use Rattle.olap_cubes.specs.Cut.{schema_files_from}
-use Rattle.olap_cubes.proofs.FilesLemmas.{AreReadTo}
+use Rattle.olap_cubes.{proofs.FilesLemmas.AreReadTo, specs.Cut.schema_files_from}
 use Rattle.olap_cubes.proofs.dimensions.schemas_in.Given as goal
 
 abbrev pub invariant-files : goal.invariant-files

@@ -1,9 +1,6 @@
 use Rattle.std.proofs.Common.{◌∙◌}
-use Rattle.olap_order.specs.Words.{texts}
-use Rattle.olap_order.proofs.Joining.{of_none, of_some}
-use Rattle.olap_cubes.proofs.CutLemmas.{cut_is}
-use Rattle.olap_cubes.specs.Seen.{seen}
-use Rattle.olap_cubes.proofs.WordLemmas.{seen_is_no_usage}
+use Rattle.olap_order.{proofs.Joining.{of_none, of_some}, specs.Words.texts}
+use Rattle.olap_cubes.{proofs.CutLemmas.cut_is, proofs.WordLemmas.seen_is_no_usage, specs.Seen.seen}
 use Rattle.olap_cubes.proofs.judging.judge.Goals as goal
 
 pub returns-in-None : goal.returns-in-None

@@ -1,7 +1,5 @@
 -- None of this many tuples has these categories.
-use Rattle.std.proofs.Common.{◌≡◌, drop, nat_eq}
-use Rattle.std.specs.Cmp.Lexicographic.{pointwise}
-use Rattle.std.specs.List.{list_any}
+use Rattle.std.{proofs.Common.{◌≡◌, drop, nat_eq}, specs.Cmp.Lexicographic.pointwise, specs.List.list_any}
 use Rattle.olap_cube.specs.Told.{tuples_in}
 use Rattle.olap_ast.specs.Trees.{numbers_of}
 use Rattle.olap_cubes.proofs.naming.is_among.Given as goal

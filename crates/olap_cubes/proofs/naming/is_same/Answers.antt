@@ -1,5 +1,4 @@
-use Rattle.std.proofs.Common.{List, ap, nat_eq, ◌∙◌}
-use Rattle.std.specs.Cmp.Lexicographic.{pointwise}
+use Rattle.std.{proofs.Common.{List, ap, nat_eq, ◌∙◌}, specs.Cmp.Lexicographic.pointwise}
 use Rattle.olap_base.specs.declared.ids.CatId.{CatId}
 use Rattle.olap_cubes.proofs.TupleLemmas.{numbers_compared}
 use Rattle.olap_cubes.proofs.naming.is_same.Goals as goal

@@ -4,10 +4,8 @@ use Rattle.olap_ast.specs.Trees.{numbers_of}
 use Rattle.olap_cube_summ.specs.Dimensions.{schemas_of}
 use Rattle.olap_grammar.specs.Words.{pieces_of}
 use Rattle.olap_order.specs.Steps.{fault_text}
-use Rattle.olap_cubes.specs.Cut.{categories_named}
-use Rattle.olap_cubes.specs.Steps.{tuple_word}
-use Rattle.olap_cubes.proofs.NameLemmas.{tuple_is}
-use Rattle.olap_cubes.proofs.TupleLemmas.{plain_no_memory, plain_refused}
+use Rattle.olap_cubes.proofs.{NameLemmas.tuple_is, TupleLemmas.{plain_no_memory, plain_refused}}
+use Rattle.olap_cubes.specs.{Cut.categories_named, Steps.tuple_word}
 use Rattle.olap_cubes.proofs.naming.tuple_at.Goals as goal
 
 pub returns-in_err-names-clause-step : goal.returns-in_err-names-clause-step

@@ -1,5 +1,4 @@
-use Rattle.std.proofs.Common.{◌<◌, ◌≤◌, ◌++◌, [], ◌∷◌, List, ap, arith, length, ◌∙◌}
-use Rattle.std.proofs.lemmas.List.{map-append}
+use Rattle.std.proofs.{Common.{◌<◌, ◌≤◌, ◌++◌, [], ◌∷◌, List, ap, arith, length, ◌∙◌}, lemmas.List.map-append}
 use Rattle.olap_ast.specs.Schema.{Schema}
 use Rattle.olap_base.specs.Graph.{Graph}
 use Rattle.olap_cube_views.specs.Dimensions.{graphs_of as graphs_at}

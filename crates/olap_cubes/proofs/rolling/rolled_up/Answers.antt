@@ -9,9 +9,3 @@ pub returns-in_err-graphs-clause-fault : goal.returns-in_err-graphs-clause-fault
 returns-in_err-graphs-clause-fault g c =
     no-memory (graphs_of (schemas_of c.args.cube.now)) (instances_in c.args.columns.now)
     (g.L.Library.rest c.args.lib.now) c.from_residual.result c.from_residual.ensures.1
-
-pub returns-clause-view : goal.returns-clause-view
-returns-clause-view g c = rw (c.deref.ensures.value, c.in_ok-graphs.ensures) at c.rolled_up_on.ensures.view
-
-pub returns-clause-fault : goal.returns-clause-fault
-returns-clause-fault g c = rw (c.deref.ensures.value, c.in_ok-graphs.ensures) at c.rolled_up_on.ensures.fault

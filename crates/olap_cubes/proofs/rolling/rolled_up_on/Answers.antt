@@ -1,19 +1,12 @@
 -- A piece more, the end, and a refusal.
-use Rattle.std.proofs.Common.{◌≡◌, ◌<◌, ◌++◌, ◌∙◌, [], ℕ, List, length, take, inl, ap, arith, subst}
-use Rattle.std.specs.Prelude.{is_ok}
-use Rattle.std.proofs.lemmas.List.{length-take-le}
-use Rattle.std.proofs.lemmas.Result.{err_from_is_err_and}
-use Rattle.olap_base.specs.Limits.{most_facts}
-use Rattle.olap_base.specs.Refusing.{IsRefusedBy}
-use Rattle.olap_records.specs.Standing.{records_fed, unmarked}
-use Rattle.olap_cube_views.specs.CubeFactText.{cube_facts_read_within}
-use Rattle.olap_outside.specs.Pieces.{EndsTold}
-use Rattle.olap_cube_views.specs.CubeFeeding.{HasTakenFacts}
-use Rattle.olap_cube_views.specs.CubeRollingUp.{IsCubeRolledUp}
-use Rattle.olap_cube_views.specs.Dimensions.{categories_in, graphs_of, instances_in}
-use Rattle.olap_cube_views.specs.Seen.{cube_view_of}
-use Rattle.olap_reading.proofs.RollingLemmas.{below, ends-told, long-or-end, longer, mark-joined, parts-more, told-end, told-fault}
-use Rattle.olap_cubes.proofs.RollingLemmas.{no-memory}
+use Rattle.std.proofs.{Common.{◌≡◌, ◌∙◌, [], length, take, ap, arith}, lemmas.List.length-take-le}
+use Rattle.std.{proofs.lemmas.Result.err_from_is_err_and, specs.Prelude.is_ok}
+use Rattle.olap_base.specs.{Limits.most_facts, Refusing.IsRefusedBy}
+use Rattle.olap_records.specs.Standing.{unmarked}
+use Rattle.olap_cube_views.specs.{CubeFactText.cube_facts_read_within, CubeRollingUp.IsCubeRolledUp}
+use Rattle.olap_cube_views.specs.{Dimensions.{categories_in, graphs_of, instances_in}, Seen.cube_view_of}
+use Rattle.olap_reading.proofs.RollingLemmas.{below, ends-told, told-end}
+use Rattle.olap_cubes.proofs.RollingLemmas.{fault-first, fault-more, no-memory, so-far-more}
 use Rattle.olap_cubes.proofs.rolling.rolled_up_on.Goals as goal
 
 pub returns-in_err-roller-clause-fault : goal.returns-in_err-roller-clause-fault
@@ -24,94 +17,41 @@ returns-in_err-roller-clause-fault g c =
 
 pub returns-in_err-roller-2-clause-fault : goal.returns-in_err-roller-2-clause-fault
 returns-in_err-roller-2-clause-fault g c =
-    let lib = g.L.Library in
-    let gr = graphs_of c.args.graphs.now in
-    let i = instances_in c.args.columns.now in
-    let size : length piece ≡ 65536 = c.fill.auto.piece in
-    let end : n < 65536 → EndsTold (lib.rest c.args.lib.now) (lib.rest c.fill.new.lib) =
-    λ l. c.in_ok-count.ensures.end (omega (arith, l, size)) in
     let stop = err_from_is_err_and c.from_residual-in_err-roller-2.result c.from_residual-in_err-roller-2.ensures.1 in
     rw (stop.1, stop.2)
-    (told-fault c.records_are_those_at_the_end.ensures (λ rs. IsRefusedBy e (cube_facts_read_within most_facts gr i rs))
-    (lib.rest c.args.lib.now) (lib.rest c.fill.new.lib) (take n piece) c.in_ok-count.ensures.bytes
-    (long-or-end (lib.rest c.args.lib.now) (lib.rest c.fill.new.lib) (take n piece) n
-    (length-take-le n piece c.in_ok-count.ensures.bound) end)
-    (λ more. subst (λ (xs : List ℕ). IsRefusedBy e (cube_facts_read_within most_facts gr i (records_fed (xs ++ more))))
-    c.without_mark.ensures
-    (c.in_err-roller-2.ensures.takes gr i (categories_in c.args.columns.now) [] c.in_ok-roller.ensures.taken more)))
-  where
-    open c use {in_ok-count.count as n, fill.new.piece, in_err-roller-2.field-0.0 as e}
-
-pub pieces-init : goal.pieces-init
-pieces-init g c =
-    let gr = graphs_of c.args.graphs.now in
-    let i = instances_in c.args.columns.now in
-    let cs = categories_in c.args.columns.now in
-    let size : length piece ≡ 65536 = c.fill.auto.piece in
-    let bound = c.in_ok-count.ensures.bound in
-    let cut = length-take-le n piece bound in
-    record {
-      so_far = record {
-        text = take n piece;
-        parts = c.in_ok-count.ensures.bytes;
-        long = λ e. omega (arith, e, cut);
-        taken = subst (λ (fed : List ℕ). HasTakenFacts gr i cs fed c.in_ok-roller-2.roller) c.without_mark.ensures
-            (c.in_ok-roller-2.ensures.takes gr i cs [] c.in_ok-roller.ensures.taken);
-      };
-      end = λ l. c.in_ok-count.ensures.end (omega (arith, l, size));
-      most = omega (arith, bound, size);
-      few = λ e. c.in_ok-count.ensures.few (omega (arith, e));
-      size = size;
-      ready = c.fill.ensures.ready ∙ ap is_ok c.in_ok-count.was;
-      later = c.fill.ensures.cause.later;
-      kept = c.fill.ensures.kept;
-    }
+    (fault-first c.records_are_those_at_the_end.ensures (g.L.Library.rest c.args.lib.now)
+    (g.L.Library.rest c.fill.new.lib) _ _ n (take n piece) c.in_err-roller-2.field-0.0
+    (length-take-le n piece c.in_ok-count.ensures.bound) c.in_ok-count.ensures.bytes
+    (λ l. c.in_ok-count.ensures.end (omega (arith, l, c.fill.auto.piece)))
+    (λ more. rw c.without_mark.ensures at
+    (c.in_err-roller-2.ensures.takes _ _ _ [] c.in_ok-roller.ensures.taken more)))
   where
     open c use {in_ok-count.count as n, fill.new.piece}
 
 pub returns-in_err-roller-3-clause-fault : goal.returns-in_err-roller-3-clause-fault
 returns-in_err-roller-3-clause-fault g c =
-    let lib = g.L.Library in
-    let gr = graphs_of c.args.graphs.now in
-    let i = instances_in c.args.columns.now in
-    let b = take c.in_ok-count-2.count c.fill-in-pieces.new.piece in
-    let long = sf.long c.pieces-test.true in
     let stop = err_from_is_err_and c.from_residual-in_err-roller-3.result c.from_residual-in_err-roller-3.ensures.1 in
     rw (stop.1, stop.2)
-    (told-fault c.records_are_those_at_the_end.ensures (λ rs. IsRefusedBy e (cube_facts_read_within most_facts gr i rs))
-    (lib.rest c.args.lib.now) (lib.rest c.fill-in-pieces.new.lib) (sf.text ++ b)
-    (parts-more (lib.rest c.args.lib.now) (lib.rest c.pieces.lib) (lib.rest c.fill-in-pieces.new.lib) sf.text b
-    sf.parts c.in_ok-count-2.ensures.bytes)
-    (inl (longer sf.text b long))
-    (λ more. subst (λ (xs : List ℕ). IsRefusedBy e (cube_facts_read_within most_facts gr i (records_fed (xs ++ more))))
-    (mark-joined sf.text b long)
-    (c.in_err-roller-3.ensures.takes gr i (categories_in c.args.columns.now) (unmarked sf.text) sf.taken more)))
+    (fault-more sf c.pieces-test.true (g.L.Library.rest c.fill-in-pieces.new.lib)
+    (take c.in_ok-count-2.count c.fill-in-pieces.new.piece) c.in_ok-count-2.ensures.bytes
+    c.records_are_those_at_the_end.ensures c.in_err-roller-3.field-0.0
+    (c.in_err-roller-3.ensures.takes _ _ _ (unmarked sf.text) sf.taken))
   where
-    open c use {pieces.invariant.so_far as sf, in_err-roller-3.field-0.0 as e}
+    open c use {pieces.invariant.so_far as sf}
 
 pub pieces-preserved : goal.pieces-preserved
 pieces-preserved g c =
     let lib = g.L.Library in
-    let gr = graphs_of c.args.graphs.now in
-    let i = instances_in c.args.columns.now in
-    let cs = categories_in c.args.columns.now in
-    let b = take c.in_ok-count-2.count piece in
-    let long = sf.long c.pieces-test.true in
     let size : length piece ≡ 65536 = c.fill-in-pieces.auto.piece ∙ inv.size in
     let kept = c.fill-in-pieces.ensures.kept in
     record {
-      so_far = record {
-        text = sf.text ++ b;
-        parts = parts-more (lib.rest c.args.lib.now) (lib.rest c.pieces.lib) (lib.rest c.fill-in-pieces.new.lib)
-            sf.text b sf.parts c.in_ok-count-2.ensures.bytes;
-        long = λ e. longer sf.text b long;
-        taken = subst (λ (fed : List ℕ). HasTakenFacts gr i cs fed c.in_ok-roller-3.roller) (mark-joined sf.text b long)
-            (c.in_ok-roller-3.ensures.takes gr i cs (unmarked sf.text) sf.taken);
-      };
+      so_far = so-far-more sf c.pieces-test.true (lib.rest c.fill-in-pieces.new.lib) (take n piece)
+          c.in_ok-count-2.ensures.bytes n c.in_ok-roller-3.roller
+          (c.in_ok-roller-3.ensures.takes _ _ _ (unmarked sf.text) sf.taken);
       end = λ l. ends-told (lib.rest c.args.lib.now) (lib.rest c.pieces.lib) (lib.rest c.fill-in-pieces.new.lib) sf.text
           sf.parts (c.in_ok-count-2.ensures.end (omega (arith, l, size)));
       most = omega (arith, c.in_ok-count-2.ensures.bound, size);
-      few = λ e. c.in_ok-count-2.ensures.few (omega (arith, e));
+      few = λ e. c.in_ok-count-2.ensures.few (omega (arith, e, size));
       size = size;
       ready = c.fill-in-pieces.ensures.ready ∙ ap is_ok c.in_ok-count-2.was;
       later = omega (arith, inv.later, c.fill-in-pieces.ensures.cause.later);
@@ -122,19 +62,19 @@ pieces-preserved g c =
       };
     }
   where
-    open c use {pieces.invariant as inv, pieces.invariant.so_far as sf, fill-in-pieces.new.piece}
+    open c use {pieces.invariant as inv, pieces.invariant.so_far as sf}
+    open c use {fill-in-pieces.new.piece, in_ok-count-2.count as n}
 
 pub returns-in_err-finish-clause-fault : goal.returns-in_err-finish-clause-fault
 returns-in_err-finish-clause-fault g c =
-    let lib = g.L.Library in
     let gr = graphs_of c.args.graphs.now in
     let i = instances_in c.args.columns.now in
     let stop = err_from_is_err_and c.from_residual-in_err-finish.result c.from_residual-in_err-finish.ensures.1 in
     rw (stop.1, stop.2)
     (told-end c.records_are_those_at_the_end.ensures (λ rs. IsRefusedBy e (cube_facts_read_within most_facts gr i rs))
-    (lib.rest c.args.lib.now) (lib.rest c.pieces.lib) sf.text sf.parts
+    (g.L.Library.rest c.args.lib.now) (g.L.Library.rest c.pieces.lib) sf.text sf.parts
     (inv.end (below c.pieces.count inv.most c.pieces-test.false))
-    (c.in_err-finish.ensures.view gr i (categories_in c.args.columns.now) (unmarked sf.text) sf.taken))
+    (c.in_err-finish.ensures.view gr i _ (unmarked sf.text) sf.taken))
   where
     open c use {pieces.invariant as inv, pieces.invariant.so_far as sf, in_err-finish.field-0.0 as e}
 

@@ -1,8 +1,5 @@
-use Rattle.std.proofs.Common.{◌≡◌, ◌+◌, arith, length, sym}
-use Rattle.std.proofs.lemmas.List.{length-map}
-use Rattle.std.specs.String.{string_bytes}
-use Rattle.olap_order.specs.Words.{texts}
-use Rattle.olap_order.proofs.Stepping.{answered, ended, followed}
+use Rattle.std.{proofs.Common.{◌≡◌, ◌+◌, arith, length, sym}, proofs.lemmas.List.length-map, specs.String.string_bytes}
+use Rattle.olap_order.{proofs.Stepping.{answered, ended, followed}, specs.Words.texts}
 use Rattle.olap_cubes.proofs.summarizing.cube.Goals as goal
 
 pub returns-in_err-cube : goal.returns-in_err-cube

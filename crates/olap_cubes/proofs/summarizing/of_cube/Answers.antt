@@ -2,11 +2,8 @@ use Rattle.std.proofs.Common.{◌+◌, List, subst}
 use Rattle.olap_ast.specs.Trees.{numbers_of}
 use Rattle.olap_base.specs.declared.ids.CatId.{CatId}
 use Rattle.olap_cube_summ.specs.Dimensions.{schemas_of}
-use Rattle.olap_order.specs.Judged.{Replies}
-use Rattle.olap_order.specs.Words.{texts}
-use Rattle.olap_order.proofs.Stepping.{ended_unread, followed_unread}
-use Rattle.olap_cubes.specs.Questions.{IsAnswer}
-use Rattle.olap_cubes.specs.Under.{cube_from}
+use Rattle.olap_order.{proofs.Stepping.{ended_unread, followed_unread}, specs.Judged.Replies, specs.Words.texts}
+use Rattle.olap_cubes.specs.{Questions.IsAnswer, Under.cube_from}
 use Rattle.olap_cubes.proofs.summarizing.of_cube.Goals as goal
 
 pub returns-in_err-categories : goal.returns-in_err-categories

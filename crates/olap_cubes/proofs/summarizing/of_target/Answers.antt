@@ -1,10 +1,7 @@
 use Rattle.std.proofs.Common.{List, subst}
-use Rattle.olap_cube.specs.Told.{tuple_of, tuples_in}
-use Rattle.olap_cube.specs.declared.tuples.Tuple.{Tuple}
+use Rattle.olap_cube.specs.{Told.{tuple_of, tuples_in}, declared.tuples.Tuple.Tuple}
 use Rattle.olap_cube_summ.specs.Dimensions.{schemas_of}
-use Rattle.olap_order.specs.Judged.{Replies}
-use Rattle.olap_order.specs.Order.{Done}
-use Rattle.olap_order.proofs.Stepping.{ended_unread, followed_unread}
+use Rattle.olap_order.{proofs.Stepping.{ended_unread, followed_unread}, specs.Judged.Replies, specs.Order.Done}
 use Rattle.olap_cubes.specs.Questions.{ByCube, IsAnswer}
 use Rattle.olap_cubes.proofs.summarizing.of_target.Goals as goal
 

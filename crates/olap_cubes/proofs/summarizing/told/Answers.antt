@@ -1,10 +1,8 @@
 -- The answer is `yes`, or `no` and the counterexample.
 use Rattle.std.proofs.Common.{inl, inr, map, refl, subst, sym, ◌∙◌}
 use Rattle.olap_cube.specs.Told.{tuple_of, tuples_in}
-use Rattle.olap_cube_summ.specs.Dimensions.{schemas_of}
-use Rattle.olap_cube_summ.specs.Found.{chosen_of}
-use Rattle.olap_order.specs.Judged.{IsVerdict}
-use Rattle.olap_order.proofs.Replying.{done, replies_no_memory}
+use Rattle.olap_cube_summ.specs.{Dimensions.schemas_of, Found.chosen_of}
+use Rattle.olap_order.{proofs.Replying.{done, replies_no_memory}, specs.Judged.IsVerdict}
 use Rattle.olap_cubes.specs.Questions.{ByCube}
 use Rattle.olap_cubes.proofs.summarizing.told.Goals as goal
 
@@ -35,20 +33,11 @@ pub returns-in_ok-difference-in-Ok-Some : goal.returns-in_ok-difference-in-Ok-So
 returns-in_ok-difference-in-Ok-Some c =
     let status = c.no.ensures.status in
     let found = rw c.in-Ok-Some.field-0-is at c.in-Ok-Some.ensures.found in
+    let text = c.no.ensures.bytes ∙ c.in_ok-difference-in-Ok-Some.ensures.text in
     record {
       replies = record {
-        right = λ files. inr (
-          status,
-          (
-            map chosen_of c.in-Ok-Some.found.founds,
-            found.is_one,
-            c.no.ensures.bytes ∙ c.in_ok-difference-in-Ok-Some.ensures.text,
-          ),
-        );
+        right = λ files. inr (status, (map chosen_of c.in-Ok-Some.found.founds, found.is_one, text));
         verdict = subst IsVerdict (sym status) tt;
         unread = λ e. absurd (cc);
       };
     }
-
-pub returns-in-Err-Memory : goal.returns-in-Err-Memory
-returns-in-Err-Memory c = record { replies = record { right = tt; verdict = tt; unread = λ e. absurd (cc) } }

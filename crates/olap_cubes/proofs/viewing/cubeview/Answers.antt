@@ -1,9 +1,6 @@
 -- Schemas that aren't read end the order; else what is left of it is judged.
-use Rattle.std.proofs.Common.{◌≡◌, length, sym}
-use Rattle.std.proofs.lemmas.List.{length-map}
-use Rattle.std.specs.String.{string_bytes}
-use Rattle.olap_order.specs.Words.{texts}
-use Rattle.olap_order.proofs.Stepping.{ended, followed}
+use Rattle.std.{proofs.Common.{◌≡◌, length, sym}, proofs.lemmas.List.length-map, specs.String.string_bytes}
+use Rattle.olap_order.{proofs.Stepping.{ended, followed}, specs.Words.texts}
 use Rattle.olap_cubes.proofs.viewing.cubeview.Goals as goal
 
 pub returns-in_err-cube : goal.returns-in_err-cube

@@ -1,13 +1,9 @@
 use Rattle.std.proofs.Common.{List, ap, length, subst, ◌∙◌}
 use Rattle.olap_base.specs.declared.ids.CatId.{CatId}
 use Rattle.olap_cube_summ.specs.Dimensions.{schemas_of}
-use Rattle.olap_order.specs.Judged.{Judged}
-use Rattle.olap_order.specs.Words.{texts}
-use Rattle.olap_order.proofs.Stepping.{ended, followed, unread}
+use Rattle.olap_order.{proofs.Stepping.{ended, followed, unread}, specs.Judged.Judged, specs.Words.texts}
 use Rattle.olap_view.specs.Seen.{ids}
-use Rattle.olap_cubes.specs.Questions.{IsAnswer}
-use Rattle.olap_cubes.specs.Under.{cubeview_from}
-use Rattle.olap_cubes.proofs.DimensionLemmas.{target_fits}
+use Rattle.olap_cubes.{proofs.DimensionLemmas.target_fits, specs.Questions.IsAnswer, specs.Under.cubeview_from}
 use Rattle.olap_cubes.proofs.viewing.of_cube.Goals as goal
 
 pub returns-in_err-target : goal.returns-in_err-target

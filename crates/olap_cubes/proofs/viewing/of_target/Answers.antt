@@ -1,15 +1,11 @@
 use Rattle.std.proofs.Common.{List, ℕ, subst}
 use Rattle.olap_base.specs.Views.{direct_view}
 use Rattle.olap_cube.specs.CubeViews.{tuples}
-use Rattle.olap_cube_views.specs.Dimensions.{instances_in}
-use Rattle.olap_cube_views.specs.CubeViewText.{cube_view_text}
+use Rattle.olap_cube_views.specs.{CubeViewText.cube_view_text, Dimensions.instances_in}
 use Rattle.olap_cube_summ.specs.Dimensions.{schemas_of}
-use Rattle.olap_order.specs.Judged.{Judged}
-use Rattle.olap_order.specs.Order.{Told, and_then}
+use Rattle.olap_order.{proofs.Stepping.{ended, followed}, specs.Judged.Judged, specs.Order.{Told, and_then}}
 use Rattle.olap_order.specs.declared.status.Status.TheVariants.{Yes}
-use Rattle.olap_order.proofs.Stepping.{ended, followed}
-use Rattle.olap_cubes.specs.Questions.{IsAnswer}
-use Rattle.olap_cubes.specs.Steps.{cube_facts_file}
+use Rattle.olap_cubes.specs.{Questions.IsAnswer, Steps.cube_facts_file}
 use Rattle.olap_cubes.proofs.viewing.of_target.Goals as goal
 
 pub returns-in_err-columns : goal.returns-in_err-columns

@@ -2,12 +2,9 @@
 use Rattle.std.proofs.Common.{ap, ◌∙◌}
 use Rattle.olap_base.specs.Views.{direct_view}
 use Rattle.olap_cube.specs.CubeViews.{tuples}
-use Rattle.olap_cube_views.specs.CubeViewText.{cube_view_text}
-use Rattle.olap_cube_views.specs.Dimensions.{categories_in, instances_in}
-use Rattle.olap_order.specs.Order.{Told}
+use Rattle.olap_cube_views.specs.{CubeViewText.cube_view_text, Dimensions.{categories_in, instances_in}}
+use Rattle.olap_order.{proofs.Replying.told_shown, proofs.Stepping.{answered, ended, followed}, specs.Order.Told}
 use Rattle.olap_order.specs.declared.status.Status.TheVariants.{Yes}
-use Rattle.olap_order.proofs.Replying.{told_shown}
-use Rattle.olap_order.proofs.Stepping.{answered, ended, followed}
 use Rattle.olap_cubes.proofs.FilesLemmas.{judged_no_memory}
 use Rattle.olap_cubes.proofs.viewing.told.Goals as goal
 

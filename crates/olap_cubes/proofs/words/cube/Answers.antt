@@ -1,9 +1,7 @@
-use Rattle.std.proofs.Common.{List, ap, sym, ◌∙◌}
+use Rattle.std.{proofs.Common.{List, ap, sym, ◌∙◌}, specs.declared.alloc.Global.Global}
 use Rattle.std.specs.declared.string.String.{String}
-use Rattle.std.specs.declared.alloc.Global.{Global}
 use Rattle.olap_order.specs.Words.{texts}
-use Rattle.olap_cubes.specs.Cut.{by_target, cube_of}
-use Rattle.olap_cubes.proofs.WordLemmas.{cut_schemas}
+use Rattle.olap_cubes.{proofs.WordLemmas.cut_schemas, specs.Cut.{by_target, cube_of}}
 use Rattle.olap_cubes.proofs.words.cube.Goals as goal
 
 pub returns-clause-order : goal.returns-clause-order

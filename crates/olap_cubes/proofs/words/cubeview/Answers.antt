@@ -1,10 +1,7 @@
-use Rattle.std.proofs.Common.{◌≡◌, List, ap, drop, sym, take, ◌∙◌}
+use Rattle.std.{proofs.Common.{◌≡◌, List, ap, drop, sym, take, ◌∙◌}, specs.declared.alloc.Global.Global}
 use Rattle.std.specs.declared.string.String.{String}
-use Rattle.std.specs.declared.alloc.Global.{Global}
-use Rattle.olap_order.specs.Behind.{by_two}
-use Rattle.olap_order.specs.Words.{texts}
-use Rattle.olap_cubes.specs.Cut.{cubeview_of}
-use Rattle.olap_cubes.proofs.WordLemmas.{cut_words}
+use Rattle.olap_order.specs.{Behind.by_two, Words.texts}
+use Rattle.olap_cubes.{proofs.WordLemmas.cut_words, specs.Cut.cubeview_of}
 use Rattle.olap_cubes.proofs.words.cubeview.Goals as goal
 
 pub returns-clause-order : goal.returns-clause-order

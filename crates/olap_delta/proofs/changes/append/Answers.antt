@@ -1,12 +1,9 @@
 -- No sum wraps, and what comes may be stored.
-use Rattle.std.proofs.Common.{◌≡◌, ap, sym, subst, ◌∙◌, w64}
-use mir.Val.{SFits}
-use Rattle.std.proofs.lemmas.Int.{to_z-of_z}
+use Rattle.std.proofs.{Common.{◌≡◌, ap, sym, subst, ◌∙◌, w64}, lemmas.Int.to_z-of_z}
 use Rattle.olap_base.specs.Summaries.{Summary, joined, of_value}
-use Rattle.olap_view.specs.Seen.{summary_of}
-use Rattle.olap_view.specs.StoredNumbers.{is_sum}
-use Rattle.olap_delta.specs.Changing.{IsStorable}
-use Rattle.olap_delta.proofs.StepLemmas.{joined_storable, kept, small}
+use Rattle.olap_view.specs.{Seen.summary_of, StoredNumbers.is_sum}
+use Rattle.olap_delta.{proofs.StepLemmas.{joined_storable, kept, small}, specs.Changing.IsStorable}
+use mir.Val.{SFits}
 use Rattle.olap_delta.proofs.changes.append.Goals as goal
 
 pub joined-joined-requires-clause-this : goal.joined-joined-requires-clause-this

@@ -1,13 +1,9 @@
 -- What comes may be stored.
-use Rattle.std.proofs.Common.{◌≡◌, ◌≤◌, ap, sym, subst, ◌∙◌, arith, w64}
-use mir.Val.{SFits}
-use Rattle.std.proofs.lemmas.Int.{to_z-of_z}
+use Rattle.std.proofs.{Common.{◌≡◌, ◌≤◌, ap, sym, subst, ◌∙◌, arith, w64}, lemmas.Int.to_z-of_z}
 use Rattle.olap_base.specs.Summaries.{Summary}
-use Rattle.olap_view.specs.Seen.{summary_of}
-use Rattle.olap_view.specs.StoredNumbers.{is_sum}
-use Rattle.olap_delta.specs.Changes.{without}
-use Rattle.olap_delta.specs.Changing.{IsStorable}
-use Rattle.olap_delta.proofs.StepLemmas.{kept, without_storable}
+use Rattle.olap_view.specs.{Seen.summary_of, StoredNumbers.is_sum}
+use Rattle.olap_delta.{proofs.StepLemmas.{kept, without_storable}, specs.Changes.without, specs.Changing.IsStorable}
+use mir.Val.{SFits}
 use Rattle.olap_delta.proofs.changes.retract.Goals as goal
 
 pub returns-clause-storable : goal.returns-clause-storable

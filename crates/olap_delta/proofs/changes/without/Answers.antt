@@ -1,7 +1,6 @@
 -- No number wraps.
-use Rattle.std.proofs.Common.{◌≡◌, ◌-◌, ◌-ℤ◌, arith, w64, to_z, of_z}
+use Rattle.std.proofs.{Common.{◌≡◌, ◌-◌, ◌-ℤ◌, arith, w64, to_z, of_z}, lemmas.Int.{ints, to_z-of_z}}
 use mir.Syntax.{w128}
-use Rattle.std.proofs.lemmas.Int.{ints, to_z-of_z}
 use Rattle.olap_delta.proofs.changes.without.Goals as goal
 
 pub overflow_sub-result : goal.overflow_sub-result

@@ -2,8 +2,7 @@
 use Rattle.std.proofs.Common.{◌+◌, ◌≤◌, sym, subst, arith}
 use Rattle.olap_base.specs.Limits.{most_count}
 use Rattle.olap_view.specs.Seen.{summary_of}
-use Rattle.olap_delta.specs.Changing.{IsStorable}
-use Rattle.olap_delta.proofs.StepLemmas.{kept, lot_joined_storable}
+use Rattle.olap_delta.{proofs.StepLemmas.{kept, lot_joined_storable}, specs.Changing.IsStorable}
 use Rattle.olap_delta.proofs.joining.append.Goals as goal
 
 pub overflow_add-row : goal.overflow_add-row

@@ -1,19 +1,11 @@
 -- What the lots make of the views is what their facts make of them, and the table's views are a store, in file order.
-use Rattle.std.proofs.Common.{◌≡◌, List, ap, sym, subst, ◌∙◌}
-use Rattle.std.specs.Prelude.{ℕ, All, Ok}
-use Rattle.olap_base.specs.Instance.{Instance}
-use Rattle.olap_base.specs.Views.{View}
-use Rattle.olap_view.specs.Seen.{views_of}
-use Rattle.olap_view.specs.Stores.{IsInFileOrder, IsSoundStore}
-use Rattle.olap_view.specs.SummaryTables.{views_at}
-use Rattle.olap_delta.specs.FactByFact.{facts_changed}
-use Rattle.olap_delta.specs.Changing.{step_of}
-use Rattle.olap_delta.specs.Joining.{AreJoined}
-use Rattle.olap_delta.specs.Lots.{StandFor}
-use Rattle.olap_delta.specs.declared.lots.Lot.{Lot}
+use Rattle.std.{proofs.Common.{◌≡◌, List, ap, sym, subst, ◌∙◌}, specs.Prelude.{ℕ, All, Ok}}
+use Rattle.olap_base.specs.{Instance.Instance, Views.View}
+use Rattle.olap_view.specs.{Seen.views_of, Stores.{IsInFileOrder, IsSoundStore}, SummaryTables.views_at}
 use Rattle.olap_delta.proofs.JoinedTableLemmas.{table_changed}
-use Rattle.olap_delta.proofs.StoreChangedLemmas.{store_is}
-use Rattle.olap_delta.proofs.StorableLemmas.{table_order, table_sound, table_storable}
+use Rattle.olap_delta.proofs.{StorableLemmas.{table_order, table_sound, table_storable}, StoreChangedLemmas.store_is}
+use Rattle.olap_delta.specs.{Changing.step_of, FactByFact.facts_changed, Joining.AreJoined, Lots.StandFor}
+use Rattle.olap_delta.specs.declared.lots.Lot.{Lot}
 use Rattle.olap_delta.proofs.joining.joined.Goals as goal
 
 pub join_all-requires-clause-storable : goal.join_all-requires-clause-storable

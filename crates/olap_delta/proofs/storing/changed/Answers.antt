@@ -2,24 +2,18 @@
 use Rattle.std.proofs.Common.{ℕ, List, sym, subst, ◌∙◌}
 use Rattle.olap_base.specs.Views.{Fact}
 use Rattle.olap_facts.specs.Seen.{facts_of}
-use Rattle.olap_delta.specs.Lots.{StandFor}
 use Rattle.olap_delta.proofs.ListedLemmas.{all_far, are_few, has_room, is_at_member, one_more, so_far}
+use Rattle.olap_delta.specs.Lots.{StandFor}
 use Rattle.olap_delta.proofs.storing.changed.Goals as goal
 
 pub take-requires-clause-member : goal.take-requires-clause-member
-take-requires-clause-member c =
-    is_at_member c.args.facts.now.rows c.items-fact-items.result.now c.facts.fact-index c.items-fact-items.ensures _ _ _
-    c.requires.at_members c.facts.invariant.places c.facts-test.true
+take-requires-clause-member c = search is_at_member
 
 pub take-requires-clause-room : goal.take-requires-clause-room
-take-requires-clause-room c =
-    has_room c.args.facts.now.rows c.items-fact-items.result.now c.facts.fact-index c.items-fact-items.ensures _ _
-    c.requires.few c.facts.invariant.stand.taken c.facts-test.true
+take-requires-clause-room c = search has_room
 
 pub joined-requires-clause-few : goal.joined-requires-clause-few
-joined-requires-clause-few c =
-    are_few c.args.facts.now.rows c.items-fact-items.result.now c.facts.fact-index c.items-fact-items.ensures _ _
-    c.requires.few c.facts.invariant.stand.taken
+joined-requires-clause-few c = search are_few
 
 pub facts-preserved : goal.facts-preserved
 facts-preserved c =

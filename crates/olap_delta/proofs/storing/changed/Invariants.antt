@@ -1,7 +1,6 @@
 -- The lots are those of the facts so far.
 use Rattle.std.proofs.Common.{◌≡◌, length}
-use Rattle.olap_delta.specs.Lots.{AreLots, StandFor}
-use Rattle.olap_delta.proofs.ListedLemmas.{so_far}
+use Rattle.olap_delta.{proofs.ListedLemmas.so_far, specs.Lots.{AreLots, StandFor}}
 use Rattle.olap_delta.proofs.storing.changed.Given as goal
 
 abbrev pub invariant-facts : goal.invariant-facts

@@ -1,11 +1,9 @@
 -- All of them were taken.
-use Rattle.std.proofs.Common.{[], List, subst}
-use Rattle.std.specs.Prelude.{map}
+use Rattle.std.{proofs.Common.{[], List, subst}, specs.Prelude.map}
 use Rattle.olap_facts.specs.Seen.{fact_of, facts_of}
-use Rattle.olap_facts.specs.declared.tables.Fact as told
 use Rattle.olap_view.specs.Seen.{views_of}
-use Rattle.olap_delta.specs.Taking.{AreTaken}
-use Rattle.olap_delta.proofs.DeltaLemmas.{handed_out_after, taken_none, taken_since}
+use Rattle.olap_delta.{proofs.DeltaLemmas.{handed_out_after, taken_none, taken_since}, specs.Taking.AreTaken}
+use Rattle.olap_facts.specs.declared.tables.Fact as told
 use Rattle.olap_delta.proofs.storing.one_by_one.Goals as goal
 
 pub returns : goal.returns

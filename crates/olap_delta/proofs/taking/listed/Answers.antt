@@ -1,10 +1,9 @@
 -- The listed facts go into the views, and then the others.
 use Rattle.std.proofs.Common.{[], List, map, subst}
 use Rattle.olap_facts.specs.Seen.{fact_of}
-use Rattle.olap_facts.specs.declared.tables.Fact as told
 use Rattle.olap_view.specs.Seen.{views_of}
-use Rattle.olap_delta.specs.Taking.{AreTaken}
-use Rattle.olap_delta.proofs.DeltaLemmas.{taken_none, taken_since}
+use Rattle.olap_delta.{proofs.DeltaLemmas.{taken_none, taken_since}, specs.Taking.AreTaken}
+use Rattle.olap_facts.specs.declared.tables.Fact as told
 use Rattle.olap_delta.proofs.taking.listed.Goals as goal
 
 pub returns-clause-facts : goal.returns-clause-facts

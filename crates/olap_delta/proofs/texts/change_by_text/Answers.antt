@@ -1,15 +1,10 @@
 -- A whole text is one piece.
-use Rattle.std.proofs.Common.{◌∙◌, [], ℕ, List, ap, subst}
-use Rattle.std.proofs.lemmas.List.{append-nil}
-use Rattle.std.proofs.lemmas.Result.{err_from_is_err_and}
-use Rattle.olap_base.specs.Limits.{most_listed_facts}
-use Rattle.olap_base.specs.Refusing.{IsRefusedBy}
+use Rattle.std.proofs.{Common.{◌∙◌, [], ℕ, List, ap, subst}, lemmas.List.append-nil, lemmas.Result.err_from_is_err_and}
+use Rattle.olap_base.specs.{Limits.most_listed_facts, Refusing.IsRefusedBy}
 use Rattle.olap_facts.specs.FactText.{facts_read}
 use Rattle.olap_records.specs.Standing.{records_fed}
 use Rattle.olap_view.specs.Seen.{views_of}
-use Rattle.olap_delta.specs.Changing.{step_of}
-use Rattle.olap_delta.specs.Reading.{views_changed}
-use Rattle.olap_delta.specs.Taking.{IsStoreAfterAll}
+use Rattle.olap_delta.specs.{Changing.step_of, Reading.views_changed, Taking.IsStoreAfterAll}
 use Rattle.olap_delta.proofs.texts.change_by_text.Goals as goal
 
 pub returns-in_err-changer-clause-err : goal.returns-in_err-changer-clause-err

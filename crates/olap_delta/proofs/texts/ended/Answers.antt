@@ -1,11 +1,9 @@
 -- The last fact, or none, or a refusal of the text.
-use Rattle.std.proofs.Common.{◌++◌, ◌∷◌, ◌∙◌, [], Ok, Option, ap}
-use Rattle.std.proofs.lemmas.List.{append-nil}
-use Rattle.olap_facts.specs.Feeding.{facts_if, fed_read}
-use Rattle.olap_facts.specs.Seen.{fact_of}
-use Rattle.olap_facts.specs.declared.tables.Fact as told
+use Rattle.std.proofs.{Common.{◌++◌, ◌∷◌, ◌∙◌, [], Ok, Option, ap}, lemmas.List.append-nil}
+use Rattle.olap_facts.specs.{Feeding.{facts_if, fed_read}, Seen.fact_of}
 use Rattle.olap_view.specs.Seen.{views_of}
 use Rattle.olap_delta.specs.Changing.{step_of}
+use Rattle.olap_facts.specs.declared.tables.Fact as told
 use Rattle.olap_delta.proofs.texts.ended.Goals as goal
 
 pub returns-in-Ok-Some-clause-ended : goal.returns-in-Ok-Some-clause-ended

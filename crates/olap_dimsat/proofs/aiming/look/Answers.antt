@@ -1,7 +1,6 @@
 -- What was supposed stands before the search, and what is meant stays admitted.
 use Rattle.std.proofs.Common.{◌∙◌}
-use Rattle.olap_dimsat.specs.Asking.{task_of}
-use Rattle.olap_dimsat.proofs.WitnessLemmas.{ready_still}
+use Rattle.olap_dimsat.{proofs.WitnessLemmas.ready_still, specs.Asking.task_of}
 use Rattle.olap_dimsat.proofs.aiming.look.Goals as goal
 
 pub returns-then-not-suppose_all-clause-ready : goal.returns-then-not-suppose_all-clause-ready

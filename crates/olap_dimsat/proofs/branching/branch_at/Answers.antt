@@ -1,13 +1,9 @@
 -- A place is kept, and is a branch where there may be more.
-use Rattle.std.proofs.Common.{◌+◌, length, refl, ap, sym, subst, ◌∙◌}
-use Rattle.olap_clauses.specs.declared.trails.Trail.{Trail}
-use Rattle.olap_clauses.specs.Engines.{trail_of}
-use Rattle.olap_clauses.specs.Trails.{steps_of}
+use Rattle.std.proofs.Common.{length, refl, ap, ◌∙◌}
+use Rattle.olap_clauses.specs.{Engines.trail_of, Trails.steps_of, declared.trails.Trail.Trail}
 use Rattle.olap_frozen.specs.Leaves.{chosen_of}
+use Rattle.olap_dimsat.{proofs.BranchLemmas.{branches_more, branches_past, none_more_topped}, specs.Asking.task_of}
 use Rattle.olap_dimsat.specs.declared.branching.Branch.{Branch}
-use Rattle.olap_dimsat.specs.Asking.{task_of}
-use Rattle.olap_dimsat.specs.Branches.{AreBranches, IsTopped}
-use Rattle.olap_dimsat.proofs.BranchLemmas.{branches_more, branches_past, none_more_topped}
 use Rattle.olap_dimsat.proofs.branching.branch_at.Goals as goal
 
 pub is_topped-known-requires : goal.is_topped-known-requires
@@ -35,7 +31,7 @@ returns-then-known-clause-branches c =
     branches_past t c.args.p w (trail_of c.args.engine.now) (trail_of c.pin.new.engine) c.args.branches.now.items
     c.requires.branches c.pin.ensures.longer
     (none_more_topped t c.args.p w c.args.engine.now c.requires.ready c.requires.pinned
-    (subst (λ (x : Trail). IsTopped t x c.args.p w) c.trail.ensures (c.is_topped-known.ensures c.if-known.true)))
+    (rw (← c.trail.ensures) (c.is_topped-known.ensures c.if-known.true)))
 
 pub returns-clause-branches : goal.returns-clause-branches
 returns-clause-branches c =
@@ -43,7 +39,7 @@ returns-clause-branches c =
     let w = chosen_of c.args.best.now.edges c.args.best.now.names in
     let ts = trail_of c.pin.new.engine in
     let b : Branch = record { place = c.args.p; mark = c.len-mark.result } in
-    subst (λ bs. AreBranches t (c.args.p + 1) w ts bs) (sym c.in_ok-push.ensures.items)
+    rw c.in_ok-push.ensures.items
     (branches_more t c.args.p w (trail_of c.args.engine.now) ts c.args.branches.now.items b c.requires.branches
     c.pin.ensures.longer c.requires.pinned refl
     (c.len-mark.ensures ∙ ap (λ (x : Trail). length (steps_of x)) c.trail-2.ensures))

@@ -1,12 +1,9 @@
 -- One place after another.
-use Rattle.std.proofs.Common.{◌≡◌, subst, ◌∙◌, arith}
+use Rattle.std.proofs.Common.{◌≡◌, ◌∙◌, arith}
 use Rattle.olap_clauses.specs.Engines.{trail_of}
 use Rattle.olap_frozen.specs.Leaves.{chosen_of}
+use Rattle.olap_dimsat.proofs.{BranchLemmas.branches_still, SettleLemmas.pinned_grown, WitnessLemmas.ready_still}
 use Rattle.olap_dimsat.specs.Asking.{task_of}
-use Rattle.olap_dimsat.specs.Branches.{AreBranches}
-use Rattle.olap_dimsat.proofs.BranchLemmas.{branches_still}
-use Rattle.olap_dimsat.proofs.SettleLemmas.{pinned_grown}
-use Rattle.olap_dimsat.proofs.WitnessLemmas.{ready_still}
 use Rattle.olap_dimsat.proofs.branching.branch_from.Goals as goal
 
 pub places-init : goal.places-init
@@ -47,5 +44,4 @@ pub returns-clause-branches : goal.returns-clause-branches
 returns-clause-branches c =
     let e : c.places.p ≡ c.args.apart =
     let b = c.places-test.false in let u = c.places.auto.p-end in let f = c.requires.from in omega arith in
-    subst (λ n. AreBranches (task_of c.args.a.now) n (chosen_of c.args.best.now.edges c.args.best.now.names)
-    (trail_of c.places.engine) c.places.branches.items) e c.places.invariant.branches
+    rw (← e) c.places.invariant.branches

@@ -2,9 +2,7 @@
 use Rattle.std.proofs.Common.{◌≡◌}
 use Rattle.olap_clauses.specs.Engines.{trail_of, variables_of}
 use Rattle.olap_frozen.specs.Leaves.{chosen_of}
-use Rattle.olap_dimsat.specs.Asking.{task_of}
-use Rattle.olap_dimsat.specs.Branches.{AreBranches}
-use Rattle.olap_dimsat.specs.Pinned.{IsPinned, IsReady}
+use Rattle.olap_dimsat.specs.{Asking.task_of, Branches.AreBranches, Pinned.{IsPinned, IsReady}}
 use Rattle.olap_dimsat.proofs.branching.branch_from.Given as goal
 
 abbrev pub invariant-places : goal.invariant-places

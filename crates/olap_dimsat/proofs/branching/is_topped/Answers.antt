@@ -1,11 +1,9 @@
 -- Each greater number is refuted.
-use Rattle.std.proofs.Common.{◌+◌, inl, inr, subst, sym, arith}
+use Rattle.std.proofs.Common.{◌+◌, inl, inr, arith}
 use Rattle.olap_frozen.specs.Leaves.{chosen_of}
-use Rattle.olap_dimsat.specs.Asking.{task_of}
-use Rattle.olap_dimsat.specs.Branches.{IsRefuted}
-use Rattle.olap_dimsat.proofs.BranchLemmas.{topped}
-use Rattle.olap_dimsat.proofs.branching.is_topped.Goals as goal
+use Rattle.olap_dimsat.{proofs.BranchLemmas.topped, specs.Asking.task_of}
 use Rattle.olap_base.proofs.GeneralLemmas.{below_or_same}
+use Rattle.olap_dimsat.proofs.branching.is_topped.Goals as goal
 
 pub numbers-init : goal.numbers-init
 numbers-init c = λ x l h. absurd (omega arith)
@@ -17,8 +15,7 @@ is_refuted-requires-clause-number c =
 pub numbers-preserved : goal.numbers-preserved
 numbers-preserved c = λ x l h. elim (below_or_same x (c.numbers.x + 1) (omega arith)) [
   | inl b ↦ c.numbers.invariant x l (omega arith)
-  | inr e ↦ subst (λ n. IsRefuted (task_of c.args.a.now) c.args.trail.now c.args.p n) (sym e)
-      (c.is_refuted.ensures c.if-not-is_refuted.false)
+  | inr e ↦ rw e (c.is_refuted.ensures c.if-not-is_refuted.false)
 ]
 
 pub returns : goal.returns

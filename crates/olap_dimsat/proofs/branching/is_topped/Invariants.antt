@@ -1,7 +1,6 @@
 -- No greater number so far is left.
 use Rattle.std.proofs.Common.{ℕ, ◌<◌, ◌≤◌}
-use Rattle.olap_dimsat.specs.Asking.{task_of}
-use Rattle.olap_dimsat.specs.Branches.{IsRefuted}
+use Rattle.olap_dimsat.specs.{Asking.task_of, Branches.IsRefuted}
 use Rattle.olap_dimsat.proofs.branching.is_topped.Given as goal
 
 abbrev pub invariant-numbers : goal.invariant-numbers

@@ -2,9 +2,8 @@
 use Rattle.std.proofs.Common.{◌+◌, ◌∙◌}
 use Rattle.olap_clauses.specs.Engines.{trail_of}
 use Rattle.olap_frozen.specs.Leaves.{chosen_of}
+use Rattle.olap_dimsat.proofs.{SettleLemmas.{longer_again, pinned_grown}, WitnessLemmas.ready_still}
 use Rattle.olap_dimsat.specs.Asking.{task_of}
-use Rattle.olap_dimsat.proofs.SettleLemmas.{longer_again, pinned_grown}
-use Rattle.olap_dimsat.proofs.WitnessLemmas.{ready_still}
 use Rattle.olap_dimsat.proofs.branching.pin.Goals as goal
 
 pub returns-then-len-stood-clause-pinned : goal.returns-then-len-stood-clause-pinned

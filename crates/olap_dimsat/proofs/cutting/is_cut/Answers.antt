@@ -1,8 +1,7 @@
 use Rattle.std.proofs.Common.{sym, ◌∙◌, arith}
 use Rattle.olap_base.proofs.ListLemmas.{Contains-map}
 use Rattle.olap_ast.specs.Trees.{constraint_of}
-use Rattle.olap_dimsat.specs.Asking.{task_of}
-use Rattle.olap_dimsat.proofs.KnowingLemmas.{broken, broken_none, false_none}
+use Rattle.olap_dimsat.{proofs.KnowingLemmas.{broken, broken_none, false_none}, specs.Asking.task_of}
 use Rattle.olap_dimsat.proofs.cutting.is_cut.Goals as goal
 
 pub returns-then-is_false : goal.returns-then-is_false

@@ -1,7 +1,6 @@
 use Rattle.std.proofs.Common.{sym, ◌∙◌}
 use Rattle.olap_ast.specs.Trees.{formula_of}
-use Rattle.olap_dimsat.specs.Asking.{task_of}
-use Rattle.olap_dimsat.proofs.KnowingLemmas.{false_at}
+use Rattle.olap_dimsat.{proofs.KnowingLemmas.false_at, specs.Asking.task_of}
 use Rattle.olap_dimsat.proofs.cutting.is_false.Goals as goal
 
 pub returns-in-No : goal.returns-in-No

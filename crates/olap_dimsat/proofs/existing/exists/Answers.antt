@@ -1,6 +1,5 @@
 use Rattle.olap_clauses.specs.Engines.{trail_of}
-use Rattle.olap_dimsat.specs.Asking.{task_of}
-use Rattle.olap_dimsat.proofs.WitnessLemmas.{ready_still, same_agrees, taken_agrees}
+use Rattle.olap_dimsat.{proofs.WitnessLemmas.{ready_still, same_agrees, taken_agrees}, specs.Asking.task_of}
 use Rattle.olap_dimsat.proofs.existing.exists.Goals as goal
 
 pub returns-clause-one : goal.returns-clause-one

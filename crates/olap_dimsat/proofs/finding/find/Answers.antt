@@ -1,8 +1,7 @@
 use Rattle.std.proofs.Common.{◌∙◌}
 use Rattle.olap_ast.specs.Trees.{formula_of}
 use Rattle.olap_schema.specs.Schemas.{schema_of}
-use Rattle.olap_dimsat.specs.Finding.{IsFoundAs}
-use Rattle.olap_dimsat.proofs.FindingLemmas.{none_named, some_named}
+use Rattle.olap_dimsat.{proofs.FindingLemmas.{none_named, some_named}, specs.Finding.IsFoundAs}
 use Rattle.olap_dimsat.proofs.finding.find.Goals as goal
 
 pub returns-clause-some : goal.returns-clause-some

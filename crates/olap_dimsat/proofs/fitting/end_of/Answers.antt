@@ -1,7 +1,6 @@
 use Rattle.std.proofs.Common.{◌-◌, ◌<◌, ap, arith}
 use Rattle.olap_pool.specs.declared.literals.Lit.{Lit}
-use Rattle.olap_dimsat.specs.Asking.{task_of}
-use Rattle.olap_dimsat.specs.Tasks.{constant_count}
+use Rattle.olap_dimsat.specs.{Asking.task_of, Tasks.constant_count}
 use Rattle.olap_dimsat.proofs.fitting.end_of.Goals as goal
 
 pub name-requires-clause-inside : goal.name-requires-clause-inside

@@ -1,10 +1,7 @@
-use Rattle.std.proofs.Common.{◌<◌, ◌≤◌, inl, inr, sym, subst, arith}
-use Rattle.olap_dimsat.specs.Asking.{task_of}
-use Rattle.olap_encoding.specs.Layouts.{name_variable}
-use Rattle.olap_dimsat.specs.Tasks.{constant_count}
-use Rattle.olap_dimsat.proofs.fitting.names_end.Goals as goal
+use Rattle.std.proofs.Common.{◌≤◌, inl, inr, arith}
 use Rattle.olap_dimsat.proofs.fitting.names_end.Goals.{then-own-end, else-own-end}
 use Rattle.olap_base.proofs.GeneralLemmas.{below_or_same}
+use Rattle.olap_dimsat.proofs.fitting.names_end.Goals as goal
 
 pub categories-preserved : goal.categories-preserved
 categories-preserved c = λ d j h t.
@@ -20,8 +17,8 @@ categories-preserved c = λ d j h t.
     elim (below_or_same d c.categories.c h) [
       | inl l ↦ let b = c.categories.invariant d j l t in omega (arith, old, b)
       | inr q ↦
-          let b = c.end_of-own.ensures j (subst (λ k. j < constant_count (task_of a) k) q t) in
-          subst (λ k. name_variable a.layout.now k j < c.if-own-end.end) (sym q) (omega (arith, own, b))
+          let b = c.end_of-own.ensures j (rw (← q) t) in
+          rw q (omega (arith, own, b))
     ]
 
 pub returns : goal.returns

@@ -1,6 +1,5 @@
 -- The names of the categories before have their variables before.
-use Rattle.olap_dimsat.specs.Asking.{task_of}
-use Rattle.olap_dimsat.specs.Tasks.{AreNamesBefore}
+use Rattle.olap_dimsat.specs.{Asking.task_of, Tasks.AreNamesBefore}
 use Rattle.olap_dimsat.proofs.fitting.names_end.Given as goal
 
 abbrev pub invariant-categories : goal.invariant-categories

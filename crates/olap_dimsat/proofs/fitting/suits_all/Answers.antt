@@ -1,8 +1,4 @@
-use Rattle.std.proofs.Common.{List, refl, sym, subst, arith}
-use Rattle.olap_clauses.specs.declared.trails.Step.{Step}
-use Rattle.olap_clauses.specs.Standing.{Agrees}
-use Rattle.olap_dimsat.specs.Asking.{task_of}
-use Rattle.olap_dimsat.specs.Reads.{AllSuit}
+use Rattle.std.proofs.Common.{refl, arith}
 use Rattle.olap_dimsat.proofs.StepLemmas.{agrees_at}
 use Rattle.olap_dimsat.proofs.fitting.suits_all.Goals as goal
 
@@ -12,10 +8,9 @@ returns-then-not-suits-clause-no c = λ e v r a.
     let h = c.steps-test.true in
     c.if-not-suits.ensures.no refl v r
     (agrees_at v items c.steps.step-index _ (omega arith)
-    (subst (λ (ss : List Step). Agrees v ss) (sym c.steps-step-items.ensures) a))
+    (rw c.steps-step-items.ensures a))
 
 pub returns-clause-yes : goal.returns-clause-yes
 returns-clause-yes c = λ _.
     let f = c.args.frozen.now in
-    subst (λ (ss : List Step). AllSuit (task_of c.args.a.now) f.edges f.names ss) c.steps-step-items.ensures
-    (λ k d h. c.steps.invariant k d (let b = c.steps-test.false in omega arith))
+    rw (← c.steps-step-items.ensures) (λ k d h. c.steps.invariant k d (let b = c.steps-test.false in omega arith))

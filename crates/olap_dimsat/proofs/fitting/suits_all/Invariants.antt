@@ -1,7 +1,6 @@
 use Rattle.std.proofs.Common.{ℕ, ◌<◌, get_or}
 use Rattle.olap_clauses.specs.declared.trails.Step.{Step}
-use Rattle.olap_dimsat.specs.Asking.{task_of}
-use Rattle.olap_dimsat.specs.Reads.{Suits}
+use Rattle.olap_dimsat.specs.{Asking.task_of, Reads.Suits}
 use Rattle.olap_dimsat.proofs.fitting.suits_all.Given as goal
 
 abbrev pub invariant-steps : goal.invariant-steps

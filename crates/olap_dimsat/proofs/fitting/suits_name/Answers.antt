@@ -1,13 +1,9 @@
-use Rattle.std.proofs.Common.{◌≡◌, ◌+◌, ◌-◌, ◌<◌, suc, ap, sym, ◌∙◌, arith}
+use Rattle.std.proofs.{Common.{◌≡◌, ◌+◌, ◌-◌, ◌<◌, suc, ap, sym, ◌∙◌, arith}, lemmas.Grind.get_or_default_zero}
 use Rattle.std.specs.Prelude.{◌==◌, slice_index}
-use Rattle.std.proofs.lemmas.Grind.{get_or_default_zero}
 use Rattle.olap_frozen.specs.Leaves.{chosen_of}
-use Rattle.olap_dimsat.specs.Asking.{task_of}
+use Rattle.olap_dimsat.{proofs.ReadLemmas.index_of_choice, proofs.Truths.beq_false, specs.Asking.task_of}
+use Rattle.olap_dimsat.specs.{Reads.index_in, Tasks.constant_count}
 use Rattle.olap_encoding.specs.Layouts.{name_variable}
-use Rattle.olap_dimsat.specs.Tasks.{constant_count}
-use Rattle.olap_dimsat.specs.Reads.{index_in}
-use Rattle.olap_dimsat.proofs.Truths.{beq_false}
-use Rattle.olap_dimsat.proofs.ReadLemmas.{index_of_choice}
 use Rattle.olap_dimsat.proofs.fitting.suits_name.Goals as goal
 
 pub returns-clause-no : goal.returns-clause-no

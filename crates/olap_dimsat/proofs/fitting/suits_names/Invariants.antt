@@ -1,8 +1,6 @@
-use Rattle.std.proofs.Common.{◌≡◌, ℕ, suc, ◌<◌}
-use Rattle.std.specs.Prelude.{◌≢◌, ◌==◌, slice_index}
-use Rattle.olap_dimsat.specs.Asking.{task_of}
+use Rattle.std.{proofs.Common.{◌≡◌, ℕ, suc, ◌<◌}, specs.Prelude.{◌≢◌, ◌==◌, slice_index}}
+use Rattle.olap_dimsat.specs.{Asking.task_of, Tasks.constant_count}
 use Rattle.olap_encoding.specs.Layouts.{name_variable}
-use Rattle.olap_dimsat.specs.Tasks.{constant_count}
 use Rattle.olap_dimsat.proofs.fitting.suits_names.Given as goal
 
 abbrev pub invariant-categories : goal.invariant-categories

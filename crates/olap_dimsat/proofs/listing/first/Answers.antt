@@ -1,9 +1,8 @@
 -- The least is found by one search.
 use Rattle.std.proofs.Common.{refl}
 use Rattle.olap_clauses.specs.Engines.{trail_of, variables_of}
+use Rattle.olap_dimsat.proofs.{MadeLemmas.{suited_still, undone}, WitnessLemmas.ready_still}
 use Rattle.olap_dimsat.specs.Asking.{task_of}
-use Rattle.olap_dimsat.proofs.MadeLemmas.{suited_still, undone}
-use Rattle.olap_dimsat.proofs.WitnessLemmas.{ready_still}
 use Rattle.olap_dimsat.proofs.listing.first.Goals as goal
 
 pub returns-then-found-clause-some : goal.returns-then-found-clause-some

@@ -1,12 +1,7 @@
-use Rattle.std.proofs.Common.{List, sym, subst, map, arith}
-use Rattle.std.specs.Prelude.{IfSome}
-use Rattle.olap_ast.specs.Frozen.{Frozen}
-use Rattle.std.proofs.lemmas.List.{length-map}
-use Rattle.olap_frozen.specs.declared.frozen.Frozen as kept
+use Rattle.std.{proofs.Common.{subst, map, arith}, proofs.lemmas.List.length-map, specs.Prelude.IfSome}
 use Rattle.olap_frozen.specs.LeastFound.{frozen_of}
-use Rattle.olap_dimsat.specs.Following.{AreFirsts, IsNext}
-use Rattle.olap_dimsat.specs.Asking.{task_of}
-use Rattle.olap_dimsat.proofs.ListedLemmas.{HasAll, IsAhead, IsFront, ahead_more, all_firsts, front_more, has_all, more_firsts, none_left, some_more}
+use Rattle.olap_dimsat.proofs.ListedLemmas.{IsAhead, ahead_more, all_firsts, front_more, has_all, more_firsts, none_left, some_more}
+use Rattle.olap_dimsat.specs.{Asking.task_of, Following.IsNext}
 use Rattle.olap_dimsat.proofs.listing.list.Goals as goal
 
 pub returns-then-len-limit-clause-too_many : goal.returns-then-len-limit-clause-too_many
@@ -26,19 +21,16 @@ listed-preserved c =
     let old = map frozen_of c.listed.list.items in
     let w = frozen_of c.listed.best in
     let y = frozen_of c.next-place.new.best in
-    let ahead = subst (λ o. IfSome o (λ p. IsAhead t c.args.apart old w)) c.in-Some.is i.ahead in
+    let ahead = rw c.in-Some.is at i.ahead in
     let e = c.in_ok-add.ensures.listed in record {
       few = let n = c.in_ok-add.ensures.count in let h = c.if-len-limit.false in let l = c.len.ensures in omega arith;
       handed = c.in_ok-add.ensures.handed;
-      front = subst (λ (fs : List Frozen). IsFront t c.args.apart fs) (sym e)
-          (front_more t c.args.apart old w i.front ahead);
+      front = rw e (front_more t c.args.apart old w i.front ahead);
       ahead = some_more c.next-place.result (IsNext t c.args.apart w y)
           (IsAhead t c.args.apart (map frozen_of c.add.new.list.items) y)
-          (λ m. subst (λ (fs : List Frozen). IsAhead t c.args.apart fs y) (sym e)
-          (ahead_more t c.args.apart old w y i.front ahead m)) s.some;
+          (λ m. rw e (ahead_more t c.args.apart old w y i.front ahead m)) s.some;
       branches = s.branches;
-      whole = λ q. subst (λ (fs : List Frozen). HasAll t c.args.apart fs) (sym e)
-          (has_all t c.args.apart old w ahead (s.none q));
+      whole = λ q. rw e (has_all t c.args.apart old w ahead (s.none q));
       best = s.best;
       suited = s.suited;
       ready = s.ready;
@@ -50,6 +42,5 @@ pub returns-clause-all : goal.returns-clause-all
 returns-clause-all c =
     let t = task_of c.args.a.now in
     let i = c.listed.invariant in
-    subst (λ (list : List kept.Frozen). AreFirsts t c.args.apart (map frozen_of list)) (sym c.from_vec.ensures)
-    (all_firsts t c.args.apart (map frozen_of c.listed.list.items) i.front
+    rw c.from_vec.ensures (all_firsts t c.args.apart (map frozen_of c.listed.list.items) i.front
     (i.whole (none_left c.listed.place c.in_default.not-Some)))

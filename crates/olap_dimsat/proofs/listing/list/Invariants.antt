@@ -1,12 +1,8 @@
-use Rattle.std.proofs.Common.{◌≡◌, ◌-◌, ◌≤◌, map, vec_len}
-use Rattle.std.specs.Prelude.{All, IfSome, None}
+use Rattle.std.{proofs.Common.{◌≡◌, ◌-◌, ◌≤◌, map, vec_len}, specs.Prelude.{All, IfSome, None}}
 use Rattle.olap_clauses.specs.Engines.{trail_of, variables_of}
 use Rattle.olap_frozen.specs.LeastFound.{frozen_of}
-use Rattle.olap_dimsat.specs.Asking.{IsFor, IsSuited, task_of}
-use Rattle.olap_dimsat.specs.Branches.{IsOpen}
-use Rattle.olap_dimsat.specs.Following.{IsHanded}
-use Rattle.olap_dimsat.specs.Pinned.{IsReady}
-use Rattle.olap_dimsat.proofs.ListedLemmas.{HasAll, IsAhead, IsFront}
+use Rattle.olap_dimsat.{proofs.ListedLemmas.{HasAll, IsAhead, IsFront}, specs.Asking.{IsFor, IsSuited, task_of}}
+use Rattle.olap_dimsat.specs.{Branches.IsOpen, Following.IsHanded, Pinned.IsReady}
 use Rattle.olap_dimsat.proofs.listing.list.Given as goal
 
 abbrev pub invariant-listed : goal.invariant-listed

@@ -1,15 +1,9 @@
 -- The last branch at which there is more is where the next one differs first.
-use Rattle.std.proofs.Common.{List, refl, sym, subst, ◌∙◌, arith}
-use Rattle.olap_clauses.specs.declared.trails.Step.{Step}
+use Rattle.std.proofs.Common.{refl, ◌∙◌, arith}
 use Rattle.olap_clauses.specs.Engines.{trail_of}
-use Rattle.olap_frozen.specs.declared.frozen.Frozen.{Frozen}
 use Rattle.olap_frozen.specs.Leaves.{chosen_of}
-use Rattle.olap_dimsat.specs.Asking.{task_of}
-use Rattle.olap_dimsat.specs.Branches.{AreBranches, IsOpen}
-use Rattle.olap_dimsat.specs.Following.{IsRisen, NoneMore}
-use Rattle.olap_dimsat.specs.Pinned.{IsLonger, IsPinned}
 use Rattle.olap_dimsat.proofs.BranchLemmas.{branches_left, last_mark, last_pinned, last_place, no_branches, none_case, risen_next, risen_open}
-use Rattle.olap_dimsat.proofs.WitnessLemmas.{ready_still}
+use Rattle.olap_dimsat.{proofs.WitnessLemmas.ready_still, specs.Asking.task_of}
 use Rattle.olap_dimsat.proofs.listing.next.Goals as goal
 
 pub branches-init : goal.branches-init
@@ -30,10 +24,8 @@ rise-requires-clause-pinned c =
     let t = task_of c.args.a.now in
     let w = chosen_of c.args.best.now.edges c.args.best.now.names in
     let ss = trail_of c.branches.engine in
-    let all = subst (λ bs. AreBranches t c.args.apart w ss bs) c.in-Some.ensures.items i.branches in
-    subst (λ (f : Frozen). IsPinned t b.place (chosen_of f.edges f.names) (trail_of c.undo.new.self)) (sym i.best)
-    (subst (λ (xs : List Step). IsPinned t b.place w xs) (sym c.undo.ensures.trail)
-    (last_pinned t c.args.apart w ss c.pop.new.self.items b all))
+    let all = rw c.in-Some.ensures.items at i.branches in
+    rw i.best (rw c.undo.ensures.trail (last_pinned t c.args.apart w ss c.pop.new.self.items b all))
   where
     open c use {branches.invariant as i, in-Some.last as b}
 
@@ -42,7 +34,7 @@ rise-requires-clause-fits c =
     let t = task_of c.args.a.now in
     let w = chosen_of c.args.best.now.edges c.args.best.now.names in
     let ss = trail_of c.branches.engine in
-    let all = subst (λ bs. AreBranches t c.args.apart w ss bs) c.in-Some.ensures.items c.branches.invariant.branches in
+    let all = rw c.in-Some.ensures.items at c.branches.invariant.branches in
     let l = last_place t c.args.apart w ss c.pop.new.self.items c.in-Some.last all in
     let f = c.ranges.apart.fits in omega arith
 
@@ -52,9 +44,9 @@ returns-then-rise-clause-some c =
     let w = chosen_of c.args.best.now.edges c.args.best.now.names in
     let y = chosen_of c.rise.new.best.edges c.rise.new.best.names in
     let ss = trail_of c.branches.engine in
-    let all = subst (λ bs. AreBranches t c.args.apart w ss bs) c.in-Some.ensures.items i.branches in
+    let all = rw c.in-Some.ensures.items at i.branches in
     risen_next t c.args.apart w ss c.pop.new.self.items b all y c.requires.one c.requires.places
-    (subst (λ (f : Frozen). IsRisen t b.place (chosen_of f.edges f.names) y) i.best (c.if-rise.ensures.some refl))
+    (rw (← i.best) (c.if-rise.ensures.some refl))
   where
     open c use {branches.invariant as i, in-Some.last as b}
 
@@ -65,12 +57,11 @@ returns-then-rise-clause-branches c =
     let y = chosen_of c.rise.new.best.edges c.rise.new.best.names in
     let ss = trail_of c.branches.engine in
     let ts = trail_of c.rise.new.engine in
-    let all = subst (λ bs. AreBranches t c.args.apart w ss bs) c.in-Some.ensures.items i.branches in
-    let longer = subst (λ (xs : List Step). IsLonger xs ts) c.undo.ensures.trail (c.if-rise.ensures.longer refl) in
-    subst (λ (xs : List Step). IsOpen t b.place c.args.apart y xs rest)
-    (sym (c.undo-then-rise.ensures.trail ∙ last_mark t c.args.apart w ss rest b all ts longer))
+    let all = rw c.in-Some.ensures.items at i.branches in
+    let longer = rw c.undo.ensures.trail at (c.if-rise.ensures.longer refl) in
+    rw (c.undo-then-rise.ensures.trail ∙ last_mark t c.args.apart w ss rest b all ts longer)
     (risen_open t c.args.apart w ss rest b all y
-    (subst (λ (f : Frozen). IsRisen t b.place (chosen_of f.edges f.names) y) i.best (c.if-rise.ensures.some refl)))
+    (rw (← i.best) (c.if-rise.ensures.some refl)))
   where
     open c use {branches.invariant as i, pop.new.self.items as rest, in-Some.last as b}
 
@@ -84,11 +75,9 @@ branches-preserved c =
     let t = task_of c.args.a.now in
     let w = chosen_of c.args.best.now.edges c.args.best.now.names in
     let ss = trail_of c.branches.engine in
-    let all = subst (λ bs. AreBranches t c.args.apart w ss bs) c.in-Some.ensures.items i.branches in record {
-      branches = subst (λ (xs : List Step). AreBranches t c.args.apart w xs rest)
-          (sym (r.trail refl ∙ c.undo.ensures.trail))
-          (branches_left t c.args.apart w ss rest b all
-          (subst (λ (f : Frozen). NoneMore t b.place (chosen_of f.edges f.names)) i.best (r.none refl)));
+    let all = rw c.in-Some.ensures.items at i.branches in record {
+      branches = rw (r.trail refl ∙ c.undo.ensures.trail) (branches_left t c.args.apart w ss rest b all
+          (rw (← i.best) (r.none refl)));
       best = r.stays refl ∙ i.best;
       suited = c.rise.ensures.suited;
       ready = c.rise.ensures.ready;

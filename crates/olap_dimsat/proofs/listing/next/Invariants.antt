@@ -2,9 +2,7 @@
 use Rattle.std.proofs.Common.{◌≡◌, length}
 use Rattle.olap_clauses.specs.Engines.{trail_of, variables_of}
 use Rattle.olap_frozen.specs.Leaves.{chosen_of}
-use Rattle.olap_dimsat.specs.Asking.{IsSuited, task_of}
-use Rattle.olap_dimsat.specs.Branches.{AreBranches}
-use Rattle.olap_dimsat.specs.Pinned.{IsReady}
+use Rattle.olap_dimsat.specs.{Asking.{IsSuited, task_of}, Branches.AreBranches, Pinned.IsReady}
 use Rattle.olap_dimsat.proofs.listing.next.Given as goal
 
 abbrev pub invariant-branches : goal.invariant-branches

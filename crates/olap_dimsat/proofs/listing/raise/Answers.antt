@@ -1,14 +1,9 @@
-use Rattle.std.proofs.Common.{◌+◌, List, refl, sym, subst, ◌∙◌, inl, inr, arith}
-use Rattle.olap_clauses.specs.declared.trails.Step.{Step}
+use Rattle.std.proofs.Common.{◌+◌, refl, ◌∙◌, inl, inr, arith}
 use Rattle.olap_clauses.specs.Engines.{trail_of}
-use Rattle.olap_clauses.specs.Standing.{AgreesDecisions}
-use Rattle.olap_frozen.specs.declared.frozen.Frozen.{Frozen}
 use Rattle.olap_frozen.specs.Leaves.{chosen_of}
-use Rattle.olap_dimsat.specs.Asking.{IsFor, task_of}
-use Rattle.olap_dimsat.specs.Pinned.{IsLonger, IsPinned, IsReplaced}
-use Rattle.olap_dimsat.proofs.FollowingLemmas.{none_more, raised}
-use Rattle.olap_dimsat.proofs.listing.raise.Goals as goal
+use Rattle.olap_dimsat.{proofs.FollowingLemmas.{none_more, raised}, specs.Asking.task_of}
 use Rattle.olap_base.proofs.GeneralLemmas.{below_or_same}
+use Rattle.olap_dimsat.proofs.listing.raise.Goals as goal
 
 pub replace-requires : goal.replace-requires
 replace-requires c =
@@ -18,10 +13,8 @@ replace-requires c =
       number = c.requires.in_range (c.numbers.x + 1) (omega arith);
       suited = i.suited;
       ready = i.ready;
-      best = subst (λ (f : Frozen). IsFor t f) (sym i.best) c.requires.best;
-      pinned = subst (λ (f : Frozen). IsPinned t c.args.p (chosen_of f.edges f.names) (trail_of c.numbers.engine))
-          (sym i.best) (subst (λ (ss : List Step). IsPinned t c.args.p (chosen_of old.edges old.names) ss)
-          (sym i.trail) c.requires.pinned);
+      best = rw i.best c.requires.best;
+      pinned = rw i.best (rw i.trail c.requires.pinned);
     }
   where
     open c use {args.best.now as old, numbers.invariant as i}
@@ -32,7 +25,7 @@ numbers-preserved c = record {
   best = s.stays refl ∙ i.best;
   none = λ k l h f v one r a q. elim (below_or_same k (c.numbers.x + 1) (omega arith)) [
     | inl b ↦ i.none k l (omega arith) f v one r a q
-    | inr z ↦ s.no refl f v one r (subst (λ (ss : List Step). AgreesDecisions v ss) (sym i.trail) a) (q ∙ z)
+    | inr z ↦ s.no refl f v one r (rw i.trail a) (q ∙ z)
   ];
   suited = c.replace.ensures.suited;
   ready = c.replace.ensures.ready;
@@ -44,8 +37,7 @@ pub returns-then-replace-clause-raised : goal.returns-then-replace-clause-raised
 returns-then-replace-clause-raised c = λ e.
     let t = task_of c.args.a.now in
     let x = c.numbers.x + 1 in
-    let r = subst (λ (b : Frozen). IsReplaced t c.args.p x (chosen_of b.edges b.names)
-    (chosen_of new.edges new.names) (trail_of c.replace.new.engine)) i.best (c.if-replace.ensures.yes refl) in
+    let r = rw i.best at (c.if-replace.ensures.yes refl) in
     raised t c.args.p c.args.number x (chosen_of old.edges old.names) (chosen_of new.edges new.names)
     (trail_of c.args.engine.now) (trail_of c.replace.new.engine) c.args.engine.now c.requires.ready c.requires.pinned
     c.requires.number (let l = c.numbers.auto.x in omega arith) (λ k l h. i.none k l (omega arith)) r
@@ -84,16 +76,13 @@ pub returns-clause-stays : goal.returns-clause-stays
 returns-clause-stays c = λ _. c.numbers.invariant.best
 
 pub returns-clause-best : goal.returns-clause-best
-returns-clause-best c =
-    subst (λ (f : Frozen). IsFor (task_of c.args.a.now) f) (sym c.numbers.invariant.best) c.requires.best
+returns-clause-best c = rw c.numbers.invariant.best c.requires.best
 
 pub returns-clause-suited : goal.returns-clause-suited
 returns-clause-suited c = c.numbers.invariant.suited
 
 pub returns-then-replace-clause-longer : goal.returns-then-replace-clause-longer
-returns-then-replace-clause-longer c = λ _.
-    subst (λ (ss : List Step). IsLonger ss (trail_of c.replace.new.engine)) c.numbers.invariant.trail
-    (c.if-replace.ensures.longer refl)
+returns-then-replace-clause-longer c = λ _. rw (← c.numbers.invariant.trail) (c.if-replace.ensures.longer refl)
 
 pub returns-clause-trail : goal.returns-clause-trail
 returns-clause-trail c = λ _. c.numbers.invariant.trail

@@ -1,7 +1,6 @@
 use Rattle.std.proofs.Common.{◌≡◌, ℕ, ◌<◌, ◌≤◌}
 use Rattle.olap_clauses.specs.Engines.{trail_of, variables_of}
-use Rattle.olap_dimsat.specs.Asking.{IsSuited, task_of}
-use Rattle.olap_dimsat.specs.Pinned.{IsReady, NoneAt}
+use Rattle.olap_dimsat.specs.{Asking.{IsSuited, task_of}, Pinned.{IsReady, NoneAt}}
 use Rattle.olap_dimsat.proofs.listing.raise.Given as goal
 
 abbrev pub invariant-numbers : goal.invariant-numbers

@@ -1,9 +1,7 @@
 use Rattle.std.proofs.Common.{refl}
 use Rattle.olap_clauses.specs.Engines.{trail_of}
 use Rattle.olap_frozen.specs.Leaves.{chosen_of}
-use Rattle.olap_dimsat.specs.Asking.{task_of}
-use Rattle.olap_dimsat.proofs.FollowingLemmas.{risen}
-use Rattle.olap_dimsat.proofs.SettleLemmas.{longer_again}
+use Rattle.olap_dimsat.{proofs.FollowingLemmas.risen, proofs.SettleLemmas.longer_again, specs.Asking.task_of}
 use Rattle.olap_dimsat.proofs.listing.rise.Goals as goal
 
 pub number_at-number-requires : goal.number_at-number-requires

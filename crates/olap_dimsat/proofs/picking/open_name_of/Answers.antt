@@ -1,8 +1,6 @@
-use Rattle.std.proofs.Common.{◌-◌, ◌<◌, refl, ap, sym, subst, arith}
+use Rattle.std.proofs.Common.{◌-◌, ◌<◌, refl, ap, arith}
 use Rattle.olap_pool.specs.declared.literals.Lit.{Lit}
-use Rattle.olap_clauses.specs.Trails.{IsOpen}
-use Rattle.olap_dimsat.specs.Asking.{task_of}
-use Rattle.olap_dimsat.specs.Tasks.{constant_count}
+use Rattle.olap_dimsat.specs.{Asking.task_of, Tasks.constant_count}
 use Rattle.olap_dimsat.proofs.picking.open_name_of.Goals as goal
 
 pub name-name-requires-clause-inside : goal.name-name-requires-clause-inside
@@ -27,5 +25,4 @@ returns-in-Unknown c =
     let l = c.requires.task.laid.names c.args.c.0 (c.from.result - 1) c.requires.category within in
     let e = ap (λ (x : Lit). x.variable) c.name-name.ensures in
     let n = c.requires.variables in
-    subst (λ (x : Lit). IsOpen c.args.trail.now x) (sym c.negated.ensures)
-    (c.in-Unknown.ensures.open refl (omega arith))
+    rw c.negated.ensures (c.in-Unknown.ensures.open refl (omega arith))

@@ -1,14 +1,9 @@
 -- The parts are of one task.
-use Rattle.std.proofs.Common.{map, subst}
+use Rattle.std.proofs.Common.{map}
 use Rattle.olap_ast.specs.Trees.{constraint_of, formula_of}
-use Rattle.olap_encoding.specs.Encoding.{IsLaid}
 use Rattle.olap_encoding.specs.EncoderInside.{encoding_of}
-use Rattle.olap_names.proofs.NameableLemmas.{can_be_named}
-use Rattle.olap_names.specs.Names.{with_graph}
-use Rattle.olap_names.specs.Questions.{Question}
-use Rattle.olap_dimsat.specs.Asking.{task_at}
-use Rattle.olap_dimsat.proofs.EncodeLemmas.{encoded, spoken_for}
-use Rattle.olap_dimsat.proofs.MadeLemmas.{ready_first}
+use Rattle.olap_names.{proofs.NameableLemmas.can_be_named, specs.Names.with_graph}
+use Rattle.olap_dimsat.{proofs.EncodeLemmas.{encoded, spoken_for}, proofs.MadeLemmas.ready_first, specs.Asking.task_at}
 use Rattle.olap_dimsat.proofs.posing.pose.Goals as goal
 
 pub of-requires : goal.of-requires
@@ -50,7 +45,7 @@ returns c =
       candidates = c.in_ok-candidates.ensures.candidates;
       texts = c.in_ok-candidates.ensures.count;
     })
-    (subst (λ (q : Question). IsLaid q e.meanings layout) c.in_ok-encoder.ensures.question parts.laid)
+    (rw (← c.in_ok-encoder.ensures.question) parts.laid)
     c.in_ok-encoder.ensures.sound.few parts.variables c.in_ok-encoder.ensures.met parts.pool in
     record {
       task = i.task;

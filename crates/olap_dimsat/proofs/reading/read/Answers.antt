@@ -1,6 +1,5 @@
 use Rattle.std.proofs.Common.{◌∙◌, arith}
-use Rattle.olap_dimsat.specs.Asking.{task_of}
-use Rattle.olap_dimsat.proofs.ReadLemmas.{is_choice}
+use Rattle.olap_dimsat.{proofs.ReadLemmas.is_choice, specs.Asking.task_of}
 use Rattle.olap_dimsat.proofs.reading.read.Goals as goal
 
 pub returns-clause-read : goal.returns-clause-read

@@ -1,9 +1,6 @@
-use Rattle.std.proofs.Common.{refl, ap, sym, ◌∙◌, arith}
-use Rattle.std.proofs.lemmas.Bool.{false_from_ne_true}
+use Rattle.std.proofs.{Common.{refl, ap, sym, ◌∙◌, arith}, lemmas.Bool.false_from_ne_true}
 use Rattle.olap_pool.specs.declared.literals.Lit.{Lit}
-use Rattle.olap_dimsat.specs.Asking.{task_of}
-use Rattle.olap_dimsat.proofs.Truths.{holds_at}
-use Rattle.olap_dimsat.proofs.ReadLemmas.{index_absent, zero_not_suc}
+use Rattle.olap_dimsat.{proofs.ReadLemmas.{index_absent, zero_not_suc}, proofs.Truths.holds_at, specs.Asking.task_of}
 use Rattle.olap_dimsat.proofs.reading.read_constant.Goals as goal
 
 pub name-name-requires-clause-inside : goal.name-name-requires-clause-inside

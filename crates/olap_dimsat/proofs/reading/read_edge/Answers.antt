@@ -1,7 +1,5 @@
-use Rattle.std.proofs.Common.{refl, sym, ◌∙◌}
-use Rattle.std.proofs.lemmas.Bool.{false_from_ne_true}
-use Rattle.olap_dimsat.proofs.Truths.{holds_at, not_both}
-use Rattle.olap_dimsat.proofs.ReadLemmas.{bit_present}
+use Rattle.std.proofs.{Common.{refl, sym, ◌∙◌}, lemmas.Bool.false_from_ne_true}
+use Rattle.olap_dimsat.proofs.{ReadLemmas.bit_present, Truths.{holds_at, not_both}}
 use Rattle.olap_dimsat.proofs.reading.read_edge.Goals as goal
 
 pub returns-in-Yes-clause-is : goal.returns-in-Yes-clause-is

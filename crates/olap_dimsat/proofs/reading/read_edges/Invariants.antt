@@ -1,7 +1,5 @@
-use Rattle.std.proofs.Common.{◌≡◌, ℕ, ◌<◌, false, length}
-use Rattle.std.specs.Prelude.{slice_index_or}
-use Rattle.olap_dimsat.specs.Asking.{task_of}
-use Rattle.olap_dimsat.specs.Reads.{EdgeReads}
+use Rattle.std.{proofs.Common.{◌≡◌, ℕ, ◌<◌, false, length}, specs.Prelude.slice_index_or}
+use Rattle.olap_dimsat.specs.{Asking.task_of, Reads.EdgeReads}
 use Rattle.olap_dimsat.proofs.reading.read_edges.Given as goal
 
 abbrev pub invariant-edges : goal.invariant-edges

@@ -1,7 +1,5 @@
 use Rattle.std.proofs.Common.{refl, arith}
-use Rattle.olap_dimsat.specs.Asking.{task_of}
-use Rattle.olap_dimsat.specs.Tasks.{constant_count}
-use Rattle.olap_dimsat.proofs.ReadLemmas.{no_constant}
+use Rattle.olap_dimsat.{proofs.ReadLemmas.no_constant, specs.Asking.task_of, specs.Tasks.constant_count}
 use Rattle.olap_dimsat.proofs.reading.read_name.Goals as goal
 
 pub returns-clause-is : goal.returns-clause-is

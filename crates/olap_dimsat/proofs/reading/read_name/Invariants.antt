@@ -1,6 +1,5 @@
 use Rattle.std.proofs.Common.{ℕ, ◌+◌, ◌<◌, false}
-use Rattle.olap_dimsat.specs.Asking.{task_of}
-use Rattle.olap_dimsat.specs.Reads.{ConstantReads}
+use Rattle.olap_dimsat.specs.{Asking.task_of, Reads.ConstantReads}
 use Rattle.olap_dimsat.proofs.reading.read_name.Given as goal
 
 abbrev pub invariant-indexes : goal.invariant-indexes

@@ -1,8 +1,5 @@
-use Rattle.std.proofs.Common.{◌≡◌, ℕ, ◌<◌, ◌≤◌, length}
-use Rattle.std.specs.Prelude.{slice_index}
-use Rattle.olap_dimsat.specs.Asking.{task_of}
-use Rattle.olap_dimsat.specs.Tasks.{constant_count}
-use Rattle.olap_dimsat.specs.Reads.{NameReads}
+use Rattle.std.{proofs.Common.{◌≡◌, ℕ, ◌<◌, ◌≤◌, length}, specs.Prelude.slice_index}
+use Rattle.olap_dimsat.specs.{Asking.task_of, Reads.NameReads, Tasks.constant_count}
 use Rattle.olap_dimsat.proofs.reading.read_names.Given as goal
 
 abbrev pub invariant-categories : goal.invariant-categories

@@ -1,10 +1,7 @@
 -- At an edge's place the literal is the edge's; after the edges it is the category's name that is decided.
-use Rattle.std.proofs.Common.{◌≡◌, ◌+◌, ◌-◌, ◌<◌, length, ap, sym, subst, ◌∙◌, arith}
+use Rattle.std.proofs.Common.{◌≡◌, ◌+◌, ◌-◌, ◌<◌, length, ap, sym, ◌∙◌, arith}
 use Rattle.olap_pool.specs.declared.literals.Lit.{Lit}
-use Rattle.olap_clauses.specs.Engines.{trail_of}
-use Rattle.olap_dimsat.specs.Asking.{task_of}
-use Rattle.olap_dimsat.specs.Pinned.{NoneAt, SayAt}
-use Rattle.olap_dimsat.proofs.SettleLemmas.{bit, bit_of_one, code_edge, same_bit}
+use Rattle.olap_dimsat.{proofs.SettleLemmas.{bit, bit_of_one, code_edge, same_bit}, specs.Asking.task_of}
 use Rattle.olap_dimsat.proofs.settling.assume_at.Goals as goal
 
 pub returns-then-p-edges-clause-yes : goal.returns-then-p-edges-clause-yes
@@ -36,8 +33,7 @@ returns-else-p-edges-clause-yes c = λ e.
     let t = task_of c.args.a.now in
     let is : length c.args.a.now.question.graph.now.edges + (c.args.p - c.edges-edges.result + 1) - 1 ≡ c.args.p =
     omega arith in
-    subst (λ q. SayAt t q c.args.x (trail_of c.args.engine.now) (trail_of c.assume_name.new.engine)) is
-    (c.assume_name.ensures.yes e)
+    rw (← is) (c.assume_name.ensures.yes e)
 
 pub returns-else-p-edges-clause-no : goal.returns-else-p-edges-clause-no
 returns-else-p-edges-clause-no c = λ e.
@@ -46,4 +42,4 @@ returns-else-p-edges-clause-no c = λ e.
     let t = task_of c.args.a.now in
     let is : length c.args.a.now.question.graph.now.edges + (c.args.p - c.edges-edges.result + 1) - 1 ≡ c.args.p =
     omega arith in
-    subst (λ q. NoneAt t q c.args.x (trail_of c.args.engine.now)) is (c.assume_name.ensures.no e)
+    rw (← is) (c.assume_name.ensures.no e)

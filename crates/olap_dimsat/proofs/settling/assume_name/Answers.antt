@@ -1,12 +1,9 @@
-use Rattle.std.proofs.Common.{◌≡◌, ◌-◌, ◌<◌, suc, refl, ap, sym, ◌∙◌, arith}
-use Rattle.std.specs.Prelude.{◌==◌}
+use Rattle.std.{proofs.Common.{◌≡◌, ◌-◌, ◌<◌, suc, refl, ap, sym, ◌∙◌, arith}, specs.Prelude.◌==◌}
 use Rattle.olap_pool.specs.declared.literals.Lit.{Lit}
 use Rattle.olap_clauses.specs.Engines.{trail_of}
-use Rattle.olap_dimsat.specs.Asking.{task_of}
-use Rattle.olap_encoding.specs.Layouts.{name_variable}
-use Rattle.olap_dimsat.specs.Tasks.{constant_count}
 use Rattle.olap_dimsat.proofs.SettleLemmas.{code_index, index_of_named, longer_again, named_more, named_of_index}
-use Rattle.olap_dimsat.proofs.WitnessLemmas.{ready_still}
+use Rattle.olap_dimsat.{proofs.WitnessLemmas.ready_still, specs.Asking.task_of, specs.Tasks.constant_count}
+use Rattle.olap_encoding.specs.Layouts.{name_variable}
 use Rattle.olap_dimsat.proofs.settling.assume_name.Goals as goal
 
 pub name-name-requires-clause-inside : goal.name-name-requires-clause-inside

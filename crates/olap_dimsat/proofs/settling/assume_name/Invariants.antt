@@ -1,13 +1,8 @@
-use Rattle.std.proofs.Common.{◌≡◌, ◌-◌, ℕ, Bool}
-use Rattle.std.specs.Prelude.{◌↔◌}
+use Rattle.std.{proofs.Common.{◌≡◌, ◌-◌, ℕ, Bool}, specs.Prelude.◌↔◌}
 use Rattle.olap_ast.specs.Frozen.{Frozen}
-use Rattle.olap_clauses.specs.Engines.{admits, trail_of, variables_of}
-use Rattle.olap_clauses.specs.Standing.{AgreesDecisions}
-use Rattle.olap_dimsat.specs.Asking.{task_of}
-use Rattle.olap_dimsat.specs.Pinned.{AreShaped, IsLonger}
-use Rattle.olap_dimsat.specs.Reads.{Reads}
-use Rattle.olap_dimsat.specs.Tasks.{IsOne}
-use Rattle.olap_dimsat.proofs.SettleLemmas.{NamedSo}
+use Rattle.olap_clauses.specs.{Engines.{admits, trail_of, variables_of}, Standing.AgreesDecisions}
+use Rattle.olap_dimsat.{proofs.SettleLemmas.NamedSo, specs.Asking.task_of, specs.Pinned.{AreShaped, IsLonger}}
+use Rattle.olap_dimsat.specs.{Reads.Reads, Tasks.IsOne}
 use Rattle.olap_dimsat.proofs.settling.assume_name.Given as goal
 
 abbrev pub invariant-indexes : goal.invariant-indexes

@@ -1,12 +1,8 @@
 -- What is forced is so in each frozen dimension that is as the best one before.
-use Rattle.std.proofs.Common.{subst}
-use Rattle.olap_clauses.specs.declared.trails.Trail.{Trail}
 use Rattle.olap_clauses.specs.Engines.{trail_of}
 use Rattle.olap_frozen.specs.Leaves.{chosen_of}
+use Rattle.olap_dimsat.proofs.{SettleLemmas.{none_less_settled, pinned_grown}, WitnessLemmas.ready_still}
 use Rattle.olap_dimsat.specs.Asking.{task_of}
-use Rattle.olap_dimsat.specs.Pinned.{IsSettled}
-use Rattle.olap_dimsat.proofs.SettleLemmas.{none_less_settled, pinned_grown}
-use Rattle.olap_dimsat.proofs.WitnessLemmas.{ready_still}
 use Rattle.olap_dimsat.proofs.settling.first_open.Goals as goal
 
 pub first_unsettled-requires-clause-one : goal.first_unsettled-requires-clause-one
@@ -36,4 +32,4 @@ returns-clause-least c = λ q h l.
     let pinned =
     pinned_grown t c.args.from w (trail_of c.args.engine.now) (trail_of e) c.force.ensures.grown c.requires.pinned in
     none_less_settled t c.args.from q w e ready pinned h
-    (subst (λ (x : Trail). IsSettled t x q w) c.trail.ensures (c.first_unsettled.ensures q h l))
+    (rw (← c.trail.ensures) (c.first_unsettled.ensures q h l))

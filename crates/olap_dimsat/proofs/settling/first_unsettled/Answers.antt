@@ -1,10 +1,9 @@
 -- One place more.
-use Rattle.std.proofs.Common.{inl, inr, sym, subst, arith}
+use Rattle.std.proofs.Common.{inl, inr, arith}
 use Rattle.olap_frozen.specs.Leaves.{chosen_of}
 use Rattle.olap_dimsat.specs.Asking.{task_of}
-use Rattle.olap_dimsat.specs.Pinned.{IsSettled}
-use Rattle.olap_dimsat.proofs.settling.first_unsettled.Goals as goal
 use Rattle.olap_base.proofs.GeneralLemmas.{below_or_same}
+use Rattle.olap_dimsat.proofs.settling.first_unsettled.Goals as goal
 
 pub is_settled-requires-clause-place : goal.is_settled-requires-clause-place
 is_settled-requires-clause-place c = (c.places-in-places.ensures c.places.p).0 c.places-test.true
@@ -18,7 +17,7 @@ places-preserved c = λ q h l.
     let w = chosen_of c.args.best.now.edges c.args.best.now.names in
     elim (below_or_same q c.places.p l) [
       | inl b ↦ c.places.invariant q h b
-      | inr e ↦ subst (λ m. IsSettled t c.args.trail.now m w) (sym e) (c.is_settled.ensures c.if-is_settled.true)
+      | inr e ↦ rw e (c.is_settled.ensures c.if-is_settled.true)
     ]
 
 pub returns-else-is_settled : goal.returns-else-is_settled

@@ -1,8 +1,7 @@
 -- The places so far are settled.
 use Rattle.std.proofs.Common.{ℕ, ◌-◌, ◌<◌, ◌≤◌}
 use Rattle.olap_frozen.specs.Leaves.{chosen_of}
-use Rattle.olap_dimsat.specs.Asking.{task_of}
-use Rattle.olap_dimsat.specs.Pinned.{IsSettled}
+use Rattle.olap_dimsat.specs.{Asking.task_of, Pinned.IsSettled}
 use Rattle.olap_dimsat.proofs.settling.first_unsettled.Given as goal
 
 abbrev pub invariant-places : goal.invariant-places

@@ -1,10 +1,7 @@
-use Rattle.std.proofs.Common.{inl, inr}
-use Rattle.std.proofs.lemmas.Bool.{cases_Bool}
+use Rattle.std.proofs.{Common.{inl, inr}, lemmas.Bool.cases_Bool}
 use Rattle.olap_clauses.specs.Engines.{trail_of}
 use Rattle.olap_frozen.specs.Leaves.{chosen_of}
-use Rattle.olap_dimsat.specs.Asking.{task_of}
-use Rattle.olap_dimsat.proofs.WitnessLemmas.{ready_still}
-use Rattle.olap_dimsat.proofs.SettleLemmas.{has_its_own, kept}
+use Rattle.olap_dimsat.{proofs.SettleLemmas.{has_its_own, kept}, proofs.WitnessLemmas.ready_still, specs.Asking.task_of}
 use Rattle.olap_dimsat.proofs.settling.keep.Goals as goal
 
 pub returns-clause-pinned : goal.returns-clause-pinned

@@ -1,12 +1,7 @@
-use Rattle.std.proofs.Common.{List, refl, sym, subst, ◌∙◌, arith}
-use Rattle.olap_clauses.specs.declared.trails.Step.{Step}
+use Rattle.std.proofs.Common.{refl, ◌∙◌, arith}
 use Rattle.olap_clauses.specs.Engines.{trail_of}
-use Rattle.olap_clauses.specs.Standing.{AgreesDecisions}
-use Rattle.olap_frozen.specs.declared.frozen.Frozen.{Frozen}
 use Rattle.olap_frozen.specs.Leaves.{chosen_of}
-use Rattle.olap_dimsat.specs.Asking.{IsFor, task_of}
-use Rattle.olap_dimsat.specs.Pinned.{IsPinned}
-use Rattle.olap_dimsat.proofs.SettleLemmas.{least_of_places, pinned_start}
+use Rattle.olap_dimsat.{proofs.SettleLemmas.{least_of_places, pinned_start}, specs.Asking.task_of}
 use Rattle.olap_dimsat.proofs.settling.least.Goals as goal
 
 pub returns-clause-some : goal.returns-clause-some
@@ -20,7 +15,7 @@ pub returns-then-not-exists-clause-none : goal.returns-then-not-exists-clause-no
 returns-then-not-exists-clause-none c = λ _ f one.
     let w = c.requires.ready f one in
     c.if-not-exists.ensures.none refl f w.0 one w.1
-    (subst (λ (ss : List Step). AgreesDecisions w.0 ss) (sym c.requires.empty) tt)
+    (rw c.requires.empty tt)
 
 pub returns-then-not-exists-clause-suited : goal.returns-then-not-exists-clause-suited
 returns-then-not-exists-clause-suited c = c.exists.ensures.suited
@@ -32,15 +27,14 @@ settle_from-requires c =
     let l = c.exists.new.leaf.frozen in record {
       suited = record {
         task = s.task;
-        frozen = subst (λ (f : Frozen). IsFor t f) (sym c.swap.ensures.y_after) c.requires.best;
+        frozen = rw c.swap.ensures.y_after c.requires.best;
         decided = s.decided;
         room = s.room;
         variables = s.variables;
       };
       ready = c.exists.ensures.ready;
-      best = subst (λ (f : Frozen). IsFor t f) (sym c.swap.ensures.x_after) s.frozen;
-      pinned = subst (λ (f : Frozen). IsPinned t 0 (chosen_of f.edges f.names) (trail_of c.exists.new.engine))
-          (sym c.swap.ensures.x_after) (pinned_start t (chosen_of l.edges l.names) (trail_of c.exists.new.engine)
+      best = rw c.swap.ensures.x_after s.frozen;
+      pinned = rw c.swap.ensures.x_after (pinned_start t (chosen_of l.edges l.names) (trail_of c.exists.new.engine)
           (c.exists.ensures.trail ∙ c.requires.empty) (c.if-not-exists.ensures.one refl));
     }
 

@@ -1,9 +1,6 @@
 -- A name's literal is that of the constant before its index.
-use Rattle.std.proofs.Common.{◌≤◌, ◌+◌, ◌-◌, ◌∙◌, ap, sym, subst, arith}
-use Rattle.std.specs.Prelude.{slice_index, true}
-use Rattle.olap_dimsat.specs.Asking.{task_of}
-use Rattle.olap_dimsat.specs.Tasks.{constant_count}
-use Rattle.olap_dimsat.proofs.SettleLemmas.{says_edge, says_name}
+use Rattle.std.{proofs.Common.{◌≤◌, ◌+◌, ◌-◌, ◌∙◌, ap, arith}, specs.Prelude.{slice_index, true}}
+use Rattle.olap_dimsat.{proofs.SettleLemmas.{says_edge, says_name}, specs.Asking.task_of, specs.Tasks.constant_count}
 use Rattle.olap_dimsat.proofs.settling.literal_at.Goals as goal
 
 pub name-requires-clause-inside : goal.name-requires-clause-inside
@@ -12,8 +9,7 @@ name-requires-clause-inside c =
     let e = c.edges-edges.ensures.count in
     let behind = c.if-p-edges.false in
     let at = c.args.p - c.edges-edges.result + 1 in
-    let most : c.args.number ≤ constant_count t at =
-    subst (λ n. c.args.number ≤ constant_count t (c.args.p - n + 1)) (sym e) (c.requires.number.name (omega arith)) in
+    let most : c.args.number ≤ constant_count t at = rw e (c.requires.number.name (omega arith)) in
     let from = c.from.ensures in
     let positive = c.requires.positive in
     let place = c.requires.place in
@@ -36,8 +32,7 @@ returns-else-p-edges c =
     let behind = c.if-p-edges.false in
     let place = c.requires.place in
     let at = c.args.p - c.edges-edges.result + 1 in
-    let most : c.args.number ≤ constant_count t at =
-    subst (λ n. c.args.number ≤ constant_count t (c.args.p - n + 1)) (sym e) (c.requires.number.name (omega arith)) in
+    let most : c.args.number ≤ constant_count t at = rw e (c.requires.number.name (omega arith)) in
     let literal = c.name.ensures
     ∙ ap (λ n. record { variable = slice_index t.layout.starts.items at + (n - 1); positive = true }) c.from.ensures in
     record {

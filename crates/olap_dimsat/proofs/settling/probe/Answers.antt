@@ -1,12 +1,8 @@
-use Rattle.std.proofs.Common.{List, refl, sym, subst, ◌∙◌}
-use Rattle.olap_clauses.specs.declared.trails.Step.{Step}
+use Rattle.std.proofs.Common.{refl, ◌∙◌}
 use Rattle.olap_clauses.specs.Engines.{trail_of, variables_of}
-use Rattle.olap_clauses.specs.Standing.{AgreesDecisions}
-use Rattle.olap_dimsat.specs.Asking.{task_of}
-use Rattle.olap_dimsat.specs.Pinned.{AreShaped, SayAt}
 use Rattle.olap_dimsat.proofs.MadeLemmas.{suited_still}
 use Rattle.olap_dimsat.proofs.SettleLemmas.{agrees_grown, longer_again, longer_same, say_grown, shaped_grown}
-use Rattle.olap_dimsat.proofs.WitnessLemmas.{ready_still}
+use Rattle.olap_dimsat.{proofs.WitnessLemmas.ready_still, specs.Asking.task_of}
 use Rattle.olap_dimsat.proofs.settling.probe.Goals as goal
 
 pub returns-then-not-assume_at-clause-ready : goal.returns-then-not-assume_at-clause-ready
@@ -24,11 +20,10 @@ returns-clause-yes c = λ e.
     let t = task_of c.args.a.now in
     let old = trail_of c.args.engine.now in
     let x = c.exists.ensures in record {
-      say = subst (λ (ss : List Step). SayAt t c.args.p c.args.x old ss) (sym x.trail)
-          (say_grown t c.args.p c.args.x old (trail_of c.assume_at.new.engine) (trail_of c.force.new.self)
+      say = rw x.trail (say_grown t c.args.p c.args.x old (trail_of c.assume_at.new.engine) (trail_of c.force.new.self)
           c.force.ensures.grown (c.if-not-assume_at.ensures.yes refl));
       one = x.one e;
-      agrees = λ v r. subst (λ (ss : List Step). AgreesDecisions v ss) (sym x.trail) (x.agrees e v r);
+      agrees = λ v r. rw x.trail (x.agrees e v r);
     }
 
 pub returns-clause-no : goal.returns-clause-no
@@ -45,7 +40,7 @@ returns-clause-longer c =
 
 pub returns-clause-shaped : goal.returns-clause-shaped
 returns-clause-shaped c =
-    subst (λ (ss : List Step). AreShaped (task_of c.args.a.now) ss) (sym c.exists.ensures.trail)
+    rw c.exists.ensures.trail
     (shaped_grown (task_of c.args.a.now) (trail_of c.assume_at.new.engine) (trail_of c.force.new.self)
     c.force.ensures.grown c.assume_at.ensures.shaped)
 

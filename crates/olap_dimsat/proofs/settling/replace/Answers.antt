@@ -1,19 +1,14 @@
-use Rattle.std.proofs.Common.{refl, sym, subst}
+use Rattle.std.proofs.Common.{refl}
 use Rattle.olap_clauses.specs.Engines.{trail_of, variables_of}
-use Rattle.olap_frozen.specs.declared.frozen.Frozen.{Frozen}
 use Rattle.olap_frozen.specs.Leaves.{chosen_of}
-use Rattle.olap_dimsat.specs.Asking.{IsFor, task_of}
-use Rattle.olap_dimsat.specs.Pinned.{IsReplaced}
-use Rattle.olap_dimsat.proofs.MadeLemmas.{suited_still}
-use Rattle.olap_dimsat.proofs.WitnessLemmas.{ready_still}
-use Rattle.olap_dimsat.proofs.SettleLemmas.{replaced}
+use Rattle.olap_dimsat.proofs.{MadeLemmas.suited_still, SettleLemmas.replaced, WitnessLemmas.ready_still}
+use Rattle.olap_dimsat.specs.Asking.{task_of}
 use Rattle.olap_dimsat.proofs.settling.replace.Goals as goal
 
 pub returns-then-probe-clause-yes : goal.returns-then-probe-clause-yes
 returns-then-probe-clause-yes c = λ e.
     let t = task_of c.args.a.now in
-    subst (λ (f : Frozen). IsReplaced t c.args.p c.args.x (chosen_of best.edges best.names) (chosen_of f.edges f.names)
-    (trail_of c.probe.new.engine)) (sym c.swap.ensures.x_after)
+    rw c.swap.ensures.x_after
     (replaced t c.args.p c.args.x (chosen_of best.edges best.names) (chosen_of leaf.edges leaf.names)
     (trail_of c.args.engine.now) (trail_of c.probe.new.engine) c.args.engine.now c.requires.ready c.requires.pinned
     c.probe.ensures.shaped (c.if-probe.ensures.yes refl))
@@ -34,14 +29,13 @@ probe-requires c = record {
 }
 
 pub returns-then-probe-clause-best : goal.returns-then-probe-clause-best
-returns-then-probe-clause-best c =
-    subst (λ (f : Frozen). IsFor (task_of c.args.a.now) f) (sym c.swap.ensures.x_after) c.probe.ensures.suited.frozen
+returns-then-probe-clause-best c = rw c.swap.ensures.x_after c.probe.ensures.suited.frozen
 
 pub returns-then-probe-clause-suited : goal.returns-then-probe-clause-suited
 returns-then-probe-clause-suited c =
     let s = c.probe.ensures.suited in record {
       task = s.task;
-      frozen = subst (λ (f : Frozen). IsFor (task_of c.args.a.now) f) (sym c.swap.ensures.y_after) c.requires.best;
+      frozen = rw c.swap.ensures.y_after c.requires.best;
       decided = s.decided;
       room = s.room;
       variables = s.variables;

@@ -1,15 +1,9 @@
-use Rattle.std.proofs.Common.{List, refl, sym, subst, ◌∙◌, inl, inr, arith}
-use Rattle.olap_clauses.specs.declared.trails.Step.{Step}
+use Rattle.std.proofs.Common.{refl, sym, ◌∙◌, inl, inr, arith}
 use Rattle.olap_clauses.specs.Engines.{trail_of, variables_of}
-use Rattle.olap_clauses.specs.Standing.{AgreesDecisions}
-use Rattle.olap_frozen.specs.declared.frozen.Frozen.{Frozen}
 use Rattle.olap_frozen.specs.Leaves.{chosen_of}
-use Rattle.olap_dimsat.specs.Asking.{IsFor, task_of}
-use Rattle.olap_dimsat.specs.Pinned.{IsLonger, IsPinned, IsReplaced, IsSame, NoneLess}
-use Rattle.olap_dimsat.proofs.MadeLemmas.{suited_still}
-use Rattle.olap_dimsat.proofs.SettleLemmas.{none_less}
-use Rattle.olap_dimsat.proofs.settling.settle.Goals as goal
+use Rattle.olap_dimsat.{proofs.MadeLemmas.suited_still, proofs.SettleLemmas.none_less, specs.Asking.task_of}
 use Rattle.olap_base.proofs.GeneralLemmas.{below_or_same}
+use Rattle.olap_dimsat.proofs.settling.settle.Goals as goal
 
 pub replace-requires : goal.replace-requires
 replace-requires c =
@@ -23,10 +17,8 @@ replace-requires c =
       };
       suited = i.suited;
       ready = i.ready;
-      best = subst (λ (f : Frozen). IsFor t f) (sym i.best) c.requires.best;
-      pinned = subst (λ (f : Frozen). IsPinned t c.args.p (chosen_of f.edges f.names) (trail_of c.numbers.engine))
-          (sym i.best) (subst (λ (ss : List Step). IsPinned t c.args.p (chosen_of old.edges old.names) ss)
-          (sym i.trail) c.requires.pinned);
+      best = rw i.best c.requires.best;
+      pinned = rw i.best (rw i.trail c.requires.pinned);
     }
   where
     open c use {args.best.now as old, numbers.invariant as i}
@@ -37,10 +29,8 @@ keep-requires c =
       task = c.requires.suited.task;
       place = c.requires.place;
       ready = i.ready;
-      best = subst (λ (f : Frozen). IsFor t f) (sym i.best) c.requires.best;
-      pinned = subst (λ (f : Frozen). IsPinned t c.args.p (chosen_of f.edges f.names) (trail_of c.numbers.engine))
-          (sym i.best) (subst (λ (ss : List Step). IsPinned t c.args.p (chosen_of old.edges old.names) ss)
-          (sym i.trail) c.requires.pinned);
+      best = rw i.best c.requires.best;
+      pinned = rw i.best (rw i.trail c.requires.pinned);
       variables = i.suited.variables;
     }
   where
@@ -52,7 +42,7 @@ numbers-preserved c = record {
   best = s.stays refl ∙ i.best;
   none = λ k h f v one r a q. elim (below_or_same k c.numbers.x h) [
     | inl l ↦ i.none k l f v one r a q
-    | inr z ↦ s.no refl f v one r (subst (λ (ss : List Step). AgreesDecisions v ss) (sym i.trail) a) (q ∙ z)
+    | inr z ↦ s.no refl f v one r (rw i.trail a) (q ∙ z)
   ];
   suited = c.replace.ensures.suited;
   ready = c.replace.ensures.ready;
@@ -63,8 +53,7 @@ numbers-preserved c = record {
 pub returns-then-replace-clause-least : goal.returns-then-replace-clause-least
 returns-then-replace-clause-least c =
     let t = task_of c.args.a.now in
-    let r = subst (λ (b : Frozen). IsReplaced t c.args.p c.numbers.x (chosen_of b.edges b.names)
-    (chosen_of new.edges new.names) (trail_of c.replace.new.engine)) i.best (c.if-replace.ensures.yes refl) in
+    let r = rw i.best at (c.if-replace.ensures.yes refl) in
     none_less t c.args.p c.numbers.x (chosen_of old.edges old.names) (chosen_of new.edges new.names)
     (trail_of c.args.engine.now) c.args.engine.now c.requires.ready c.requires.pinned i.none r.same r.number
   where
@@ -74,7 +63,7 @@ pub returns-clause-least : goal.returns-clause-least
 returns-clause-least c =
     let t = task_of c.args.a.now in
     let w = chosen_of old.edges old.names in
-    subst (λ (b : Frozen). NoneLess t c.args.p (chosen_of b.edges b.names)) (sym i.best)
+    rw i.best
     (none_less t c.args.p c.number_at-number.result w w (trail_of c.args.engine.now) c.args.engine.now c.requires.ready
     c.requires.pinned (λ k h. i.none k (let b = c.numbers-test.false in omega arith)) (λ k h. refl)
     (sym c.number_at-number.ensures.number))
@@ -84,14 +73,12 @@ returns-clause-least c =
 pub returns-then-replace-clause-same : goal.returns-then-replace-clause-same
 returns-then-replace-clause-same c =
     let new = c.replace.new.best in
-    subst (λ (f : Frozen). IsSame c.args.p (chosen_of new.edges new.names) (chosen_of f.edges f.names))
-    c.numbers.invariant.best (c.if-replace.ensures.yes refl).same
+    rw (← c.numbers.invariant.best) (c.if-replace.ensures.yes refl).same
 
 pub returns-clause-same : goal.returns-clause-same
 returns-clause-same c =
     let old = c.args.best.now in
-    subst (λ (f : Frozen). IsSame c.args.p (chosen_of f.edges f.names) (chosen_of old.edges old.names))
-    (sym c.numbers.invariant.best) (λ k h. refl)
+    rw c.numbers.invariant.best (λ k h. refl)
 
 pub returns-clause-suited : goal.returns-clause-suited
 returns-clause-suited c =
@@ -131,14 +118,10 @@ pub returns-clause-pinned : goal.returns-clause-pinned
 returns-clause-pinned c = c.keep.ensures.pinned
 
 pub returns-clause-best : goal.returns-clause-best
-returns-clause-best c =
-    subst (λ (f : Frozen). IsFor (task_of c.args.a.now) f) (sym c.numbers.invariant.best) c.requires.best
+returns-clause-best c = rw c.numbers.invariant.best c.requires.best
 
 pub returns-then-replace-clause-longer : goal.returns-then-replace-clause-longer
-returns-then-replace-clause-longer c =
-    subst (λ (ss : List Step). IsLonger ss (trail_of c.replace.new.engine)) c.numbers.invariant.trail
-    (c.if-replace.ensures.longer refl)
+returns-then-replace-clause-longer c = rw (← c.numbers.invariant.trail) (c.if-replace.ensures.longer refl)
 
 pub returns-clause-longer : goal.returns-clause-longer
-returns-clause-longer c =
-    subst (λ (ss : List Step). IsLonger ss (trail_of c.keep.new.engine)) c.numbers.invariant.trail c.keep.ensures.longer
+returns-clause-longer c = rw (← c.numbers.invariant.trail) c.keep.ensures.longer

@@ -1,12 +1,9 @@
-use Rattle.std.proofs.Common.{◌∙◌, inl, inr, sym, subst, arith}
+use Rattle.std.proofs.{Common.{◌∙◌, inl, inr, arith}, lemmas.Bool.cases_lt}
 use Rattle.olap_clauses.specs.Engines.{trail_of}
 use Rattle.olap_frozen.specs.Leaves.{chosen_of}
-use Rattle.olap_dimsat.specs.Asking.{task_of}
-use Rattle.olap_dimsat.specs.Pinned.{NoneLess}
-use Rattle.olap_dimsat.proofs.SettleLemmas.{longer_again, none_less_still}
-use Rattle.olap_dimsat.proofs.settling.settle_from.Goals as goal
-use Rattle.std.proofs.lemmas.Bool.{cases_lt}
+use Rattle.olap_dimsat.{proofs.SettleLemmas.{longer_again, none_less_still}, specs.Asking.task_of}
 use Rattle.olap_base.proofs.GeneralLemmas.{below_or_same}
+use Rattle.olap_dimsat.proofs.settling.settle_from.Goals as goal
 
 pub settle_next-known-requires-clause-place : goal.settle_next-known-requires-clause-place
 settle_next-known-requires-clause-place c = (c.places-end.ensures c.places.p).0 c.places-test.true
@@ -22,7 +19,7 @@ places-preserved c =
       same = λ q h. s.same q (let f = c.places.auto.p in omega arith) ∙ i.same q h;
       least = λ q f h. elim (below_or_same q c.places.p h) [
         | inl l ↦ none_less_still t c.places.p q w y l s.same (i.least q f l)
-        | inr e ↦ subst (λ m. NoneLess t m y) (sym e) s.least
+        | inr e ↦ rw e s.least
       ];
       known = λ q h l. s.known q (omega arith) l;
       best = s.best;

@@ -1,8 +1,7 @@
 use Rattle.std.proofs.Common.{ℕ, ◌<◌, ◌≤◌}
 use Rattle.olap_clauses.specs.Engines.{trail_of, variables_of}
 use Rattle.olap_frozen.specs.Leaves.{chosen_of}
-use Rattle.olap_dimsat.specs.Asking.{IsFor, IsSuited, task_of}
-use Rattle.olap_dimsat.specs.Pinned.{IsLonger, IsPinned, IsReady, IsSame, NoneLess}
+use Rattle.olap_dimsat.specs.{Asking.{IsFor, IsSuited, task_of}, Pinned.{IsLonger, IsPinned, IsReady, IsSame, NoneLess}}
 use Rattle.olap_dimsat.proofs.settling.settle_from.Given as goal
 
 abbrev pub invariant-places : goal.invariant-places

@@ -1,8 +1,6 @@
 use Rattle.std.proofs.Common.{refl, ◌∙◌, arith}
 use Rattle.olap_clauses.specs.Engines.{trail_of, variables_of}
-use Rattle.olap_dimsat.specs.Asking.{task_of}
-use Rattle.olap_dimsat.proofs.MadeLemmas.{suited_still}
-use Rattle.olap_dimsat.proofs.SettleLemmas.{longer_again}
+use Rattle.olap_dimsat.{proofs.MadeLemmas.suited_still, proofs.SettleLemmas.longer_again, specs.Asking.task_of}
 use Rattle.olap_dimsat.proofs.settling.settle_next.Goals as goal
 
 pub keep-requires : goal.keep-requires

@@ -1,8 +1,6 @@
 -- The decisions that stand are the trail's, and those that come are.
-use Rattle.std.proofs.Common.{ap, sym, subst, ◌∙◌}
+use Rattle.std.proofs.Common.{ap, ◌∙◌}
 use Rattle.olap_trail.specs.Decisions.{Decided}
-use Rattle.olap_dimsat.specs.Asking.{task_of}
-use Rattle.olap_dimsat.specs.Tracking.{AreRead}
 use Rattle.olap_dimsat.proofs.tracking.follow.Goals as goal
 
 pub follow_edges-requires-clause-task : goal.follow_edges-requires-clause-task
@@ -15,9 +13,7 @@ follow_edges-requires-clause-of c = record {
 }
 
 pub follow_edges-requires-clause-read : goal.follow_edges-requires-clause-read
-follow_edges-requires-clause-read c =
-    subst (λ (d : Decided). AreRead (task_of c.args.a.now) c.args.trail.now d.decisions) (sym c.undo.ensures)
-    c.standing-stands.ensures.read
+follow_edges-requires-clause-read c = rw c.undo.ensures c.standing-stands.ensures.read
 
 pub returns-clause-read : goal.returns-clause-read
 returns-clause-read c = c.follow_edges.ensures.read

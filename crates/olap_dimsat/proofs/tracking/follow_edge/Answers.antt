@@ -1,5 +1,4 @@
-use Rattle.std.proofs.Common.{refl, sym, ◌∙◌}
-use Rattle.std.proofs.lemmas.Bool.{false_from_ne_true}
+use Rattle.std.proofs.{Common.{refl, sym, ◌∙◌}, lemmas.Bool.false_from_ne_true}
 use Rattle.olap_dimsat.proofs.Truths.{holds_at}
 use Rattle.olap_dimsat.proofs.tracking.follow_edge.Goals as goal
 

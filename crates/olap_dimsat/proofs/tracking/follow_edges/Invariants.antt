@@ -1,5 +1,4 @@
-use Rattle.olap_dimsat.specs.Asking.{task_of}
-use Rattle.olap_dimsat.specs.Tracking.{AreRead, IsOf}
+use Rattle.olap_dimsat.specs.{Asking.task_of, Tracking.{AreRead, IsOf}}
 use Rattle.olap_dimsat.proofs.tracking.follow_edges.Given as goal
 
 abbrev pub invariant-edges : goal.invariant-edges

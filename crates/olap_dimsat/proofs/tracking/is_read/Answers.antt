@@ -1,7 +1,5 @@
-use Rattle.std.proofs.Common.{refl, sym, ◌∙◌}
-use Rattle.std.proofs.lemmas.Bool.{false_from_ne_true}
-use Rattle.olap_dimsat.proofs.Truths.{holds_at}
-use Rattle.olap_dimsat.proofs.TrackingLemmas.{not_is}
+use Rattle.std.proofs.{Common.{refl, sym, ◌∙◌}, lemmas.Bool.false_from_ne_true}
+use Rattle.olap_dimsat.proofs.{TrackingLemmas.not_is, Truths.holds_at}
 use Rattle.olap_dimsat.proofs.tracking.is_read.Goals as goal
 
 pub returns-in-Yes : goal.returns-in-Yes

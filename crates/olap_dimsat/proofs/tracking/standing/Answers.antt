@@ -1,6 +1,5 @@
 use Rattle.std.proofs.Common.{◌<◌, length, arith}
-use Rattle.olap_dimsat.specs.Asking.{task_of}
-use Rattle.olap_dimsat.proofs.TrackingLemmas.{at_decision, edge_inside, read_next}
+use Rattle.olap_dimsat.{proofs.TrackingLemmas.{at_decision, edge_inside, read_next}, specs.Asking.task_of}
 use Rattle.olap_dimsat.proofs.tracking.standing.Goals as goal
 
 pub is_read-requires-clause-edge : goal.is_read-requires-clause-edge

@@ -1,7 +1,6 @@
 use Rattle.std.proofs.Common.{ℕ, ◌<◌, get_or}
 use Rattle.olap_trail.specs.Decisions.{Decision}
-use Rattle.olap_dimsat.specs.Asking.{task_of}
-use Rattle.olap_dimsat.specs.Reads.{EdgeReads}
+use Rattle.olap_dimsat.specs.{Asking.task_of, Reads.EdgeReads}
 use Rattle.olap_dimsat.proofs.tracking.standing.Given as goal
 
 -- the trail makes the decisions so far

@@ -1,12 +1,8 @@
 -- The constraints are the schema's, and the formula `true` has no constants.
 use Rattle.std.proofs.Common.{◌≡◌, map, refl, subst, sym}
-use Rattle.olap_ast.specs.Formula.{Formula.Truth}
-use Rattle.olap_ast.specs.Schema.{Schema}
-use Rattle.olap_ast.specs.Trees.{constraint_of}
-use Rattle.olap_ast.specs.Valid.{IsValidSchema}
-use Rattle.olap_ast.proofs.SourceLemmas.{no_more_constants}
-use Rattle.olap_names.specs.Names.{with_graph}
-use Rattle.olap_names.proofs.NameableLemmas.{can_be_named}
+use Rattle.olap_ast.{proofs.SourceLemmas.no_more_constants, specs.Formula.Formula.Truth, specs.Schema.Schema}
+use Rattle.olap_ast.specs.{Trees.constraint_of, Valid.IsValidSchema}
+use Rattle.olap_names.{proofs.NameableLemmas.can_be_named, specs.Names.with_graph}
 use Rattle.olap_schema.specs.Schemas.{schema_of}
 use Rattle.olap_draft.proofs.drafting.draft.Goals as goal
 

@@ -1,7 +1,6 @@
 -- One clause after the other.
+use Rattle.olap_encoding.proofs.{GivenLemmas.given_always, Growing.{next_on, next_last}}
 use Rattle.olap_encoding.specs.EncoderInside.{encoding_of}
-use Rattle.olap_encoding.proofs.GivenLemmas.{given_always}
-use Rattle.olap_encoding.proofs.Growing.{next_on, next_last}
 use Rattle.olap_encoding.proofs.closing.fill.Goals as goal
 
 pub clause-requires-clause-given : goal.clause-requires-clause-given

@@ -1,8 +1,6 @@
 -- The encoding has grown, and the literal tells of the names so far.
 use Rattle.olap_ast.specs.Trees.{op_of}
-use Rattle.olap_encoding.specs.Encoding.{IsNext, Says}
-use Rattle.olap_encoding.specs.EncoderInside.{encoding_of}
-use Rattle.olap_encoding.specs.Formulas.{AmongIs}
+use Rattle.olap_encoding.specs.{EncoderInside.encoding_of, Encoding.{IsNext, Says}, Formulas.AmongIs}
 use Rattle.olap_encoding.proofs.formulas.among.Given as goal
 
 abbrev pub invariant-names : goal.invariant-names

@@ -1,16 +1,11 @@
 -- One name more.
-use Rattle.std.proofs.Common.{◌≡◌, [], true, false, get_or, sym, subst, ◌+◌, ◌∙◌, w64}
-use Rattle.std.proofs.lemmas.Int.{to_z-of_z}
+use Rattle.std.proofs.{Common.{◌≡◌, [], true, false, get_or, sym, subst, ◌∙◌, w64}, lemmas.Int.to_z-of_z}
 use Rattle.olap_ast.specs.Trees.{op_of}
-use Rattle.olap_names.specs.Names.{others_of}
-use Rattle.olap_names.specs.Questions.{Question}
-use Rattle.olap_encoding.specs.EncoderInside.{encoding_of}
-use Rattle.olap_encoding.specs.Encoding.{IsNext, Says}
-use Rattle.olap_encoding.specs.Formulas.{AmongIs, AnyIs, Wants}
-use Rattle.olap_encoding.proofs.Growing.{says_still}
-use Rattle.olap_encoding.proofs.NumberLemmas.{says_more, says_other}
-use Rattle.olap_encoding.proofs.formulas.among_more.Goals as goal
+use Rattle.olap_names.specs.{Names.others_of, Questions.Question}
+use Rattle.olap_encoding.proofs.{Growing.says_still, NumberLemmas.{says_more, says_other}}
+use Rattle.olap_encoding.specs.{EncoderInside.encoding_of, Formulas.Wants}
 use Rattle.olap_base.proofs.GeneralLemmas.{both_ok}
+use Rattle.olap_encoding.proofs.formulas.among_more.Goals as goal
 
 pub returns-then-not-is_wanted-clause-says : goal.returns-then-not-is_wanted-clause-says
 returns-then-not-is_wanted-clause-says c =
@@ -26,8 +21,7 @@ pub returns-clause-says : goal.returns-clause-says
 returns-clause-says c =
     let e = encoding_of c.any.new.e in
     let op = op_of c.args.op in
-    both_ok c.any.result (λ _. IsNext (encoding_of c.args.e.now) e) (λ o. Says e o (AnyIs c.args.l b))
-    (λ o. Says e o (AmongIs d (j + 1) op m want))
+    both_ok c.any.result _ _ _
     (λ o n s. says_more e d j op m want c.args.l b o (says_still n.later c.requires.says)
     (says_still n.later c.name-b.ensures) s
     (subst (λ (p : Question). Wants op m want (get_or (others_of p.candidates d) j [])) (sym n.later.question)

@@ -1,10 +1,8 @@
 -- The first names, and no others.
-use Rattle.std.proofs.Common.{length, subst, w64}
-use Rattle.std.proofs.lemmas.Int.{to_z-of_z}
+use Rattle.std.proofs.{Common.{length, subst, w64}, lemmas.Int.to_z-of_z}
 use Rattle.olap_ast.specs.Trees.{op_of}
-use Rattle.olap_encoding.specs.EncoderInside.{encoding_of}
+use Rattle.olap_encoding.{proofs.ComparingLemmas.number_by_rung, specs.EncoderInside.encoding_of}
 use Rattle.olap_encoding.specs.Formulas.{IsLeading}
-use Rattle.olap_encoding.proofs.ComparingLemmas.{number_by_rung}
 use Rattle.olap_encoding.proofs.formulas.by_rung.Goals as goal
 
 pub returns : goal.returns

@@ -1,16 +1,10 @@
 -- Reached, and with a name that compares so.
-use Rattle.std.proofs.Common.{rules, w64}
-use Rattle.std.proofs.lemmas.Int.{to_z-of_z}
-use Rattle.olap_ast.specs.Formula.{Formula.Compare}
+use Rattle.std.proofs.{Common.{rules, w64}, lemmas.Int.to_z-of_z}
 use Rattle.olap_ast.specs.Trees.{op_of}
-use Rattle.olap_encoding.specs.EncoderInside.{encoding_of}
-use Rattle.olap_encoding.specs.Encoding.{IsNext, Says, BothAre}
-use Rattle.olap_encoding.specs.Formulas.{TellsAt}
-use Rattle.olap_encoding.proofs.Growing.{says_still, next_on, next_after}
-use Rattle.olap_encoding.proofs.OutLemmas.{category_still}
-use Rattle.olap_encoding.proofs.TellingLemmas.{tell_compared, tell_unreached}
-use Rattle.olap_encoding.proofs.formulas.compared.Goals as goal
+use Rattle.olap_encoding.proofs.{Growing.{says_still, next_on, next_after}, OutLemmas.category_still}
+use Rattle.olap_encoding.{proofs.TellingLemmas.{tell_compared, tell_unreached}, specs.EncoderInside.encoding_of}
 use Rattle.olap_base.proofs.GeneralLemmas.{both_ok}
+use Rattle.olap_encoding.proofs.formulas.compared.Goals as goal
 
 pub returns-then-eq-clause-says : goal.returns-then-eq-clause-says
 returns-then-eq-clause-says c =
@@ -24,8 +18,7 @@ pub returns-clause-says : goal.returns-clause-says
 returns-clause-says c =
     let e = encoding_of c.both.new.e in
     let op = op_of c.args.op in
-    both_ok c.both.result (λ _. IsNext (encoding_of c.comparing.new.e) e) (λ l. Says e l (BothAre a.a b.b))
-    (λ l. TellsAt e c.args.c.0 l (Compare d op m))
+    both_ok c.both.result _ _ _
     (λ l n s. tell_compared e n.sound c.args.c.0 l a.a b.b d op m c.requires.speaks.1 s
     (says_still (next_on b.ensures.next n).later a.ensures.says)
     (says_still n.later (rw (to_z-of_z w64 m c.ranges.n) at b.ensures.says)))

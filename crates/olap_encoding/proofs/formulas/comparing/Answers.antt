@@ -1,20 +1,10 @@
 -- A rung; or no other that doesn't compare so, where the first name does, else another that does.
-use Rattle.std.proofs.Common.{not, sym, subst, length, w64}
-use Rattle.std.proofs.lemmas.Int.{to_z-of_z}
-use Rattle.std.specs.Prelude.{IsTrue, ◌↔◌}
-use Rattle.olap_ast.specs.Formula.{IsNumbered}
-use Rattle.olap_ast.specs.Trees.{op_of}
-use Rattle.olap_names.specs.Names.{first_of, others_of}
-use Rattle.olap_names.specs.Questions.{Question}
-use Rattle.olap_encoding.specs.EncoderInside.{encoding_of}
-use Rattle.olap_encoding.specs.Encoding.{Says}
-use Rattle.olap_encoding.specs.Formulas.{AmongIs}
-use Rattle.olap_encoding.proofs.ComparingLemmas.{number_by_names}
-use Rattle.olap_encoding.proofs.OutLemmas.{category_still}
+use Rattle.std.{proofs.Common.{not, sym, subst, length, w64}, proofs.lemmas.Int.to_z-of_z, specs.Prelude.{IsTrue, ◌↔◌}}
+use Rattle.olap_ast.specs.{Formula.IsNumbered, Trees.op_of}
+use Rattle.olap_names.specs.{Names.{first_of, others_of}, Questions.Question}
+use Rattle.olap_encoding.proofs.{ComparingLemmas.number_by_names, OutLemmas.category_still}
+use Rattle.olap_encoding.specs.{EncoderInside.encoding_of, Encoding.Says, Formulas.AmongIs}
 use Rattle.olap_encoding.proofs.formulas.comparing.Goals as goal
-
-pub returns-in-Some-clause-says : goal.returns-in-Some-clause-says
-returns-in-Some-clause-says c = rw (to_z-of_z w64 c.args.n c.ranges.n) at c.in-Some.ensures
 
 pub returns-clause-says : goal.returns-clause-says
 returns-clause-says c =

@@ -1,12 +1,9 @@
 -- The name at a place.
-use mathlib.Core.Bool.{beq}
-use Rattle.std.proofs.Common.{◌≡◌, [], get_or, subst, w64}
+use Rattle.std.proofs.{Common.{◌≡◌, [], get_or, subst, w64}, lemmas.Int.to_z-of_z, lemmas.List.get_or_read}
 use Rattle.std.specs.Prelude.{IsTrue}
-use Rattle.std.proofs.lemmas.Int.{to_z-of_z}
-use Rattle.std.proofs.lemmas.List.{get_or_read}
 use Rattle.olap_ast.specs.Trees.{op_of}
-use Rattle.olap_encoding.specs.Formulas.{Wants}
-use Rattle.olap_encoding.proofs.NumberLemmas.{wanted_is}
+use Rattle.olap_encoding.{proofs.NumberLemmas.wanted_is, specs.Formulas.Wants}
+use mathlib.Core.Bool.{beq}
 use Rattle.olap_encoding.proofs.formulas.is_wanted.Goals as goal
 
 pub returns : goal.returns

@@ -1,7 +1,7 @@
 -- Connective by connective.
-use Rattle.olap_encoding.specs.EncoderInside.{encoding_of}
 use Rattle.olap_encoding.proofs.GivenLemmas.{known_negated}
 use Rattle.olap_encoding.proofs.JoiningLemmas.{joins_both, joins_any, joins_implied, joins_either, joins_neither}
+use Rattle.olap_encoding.specs.EncoderInside.{encoding_of}
 use Rattle.olap_encoding.proofs.formulas.join.Goals as goal
 
 pub returns-in-Conjunction-clause-joins : goal.returns-in-Conjunction-clause-joins

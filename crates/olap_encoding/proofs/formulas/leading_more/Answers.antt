@@ -1,6 +1,5 @@
 -- One name more.
-use Rattle.std.proofs.Common.{◌≡◌, true, false, sym, ◌∙◌, arith, w64}
-use Rattle.std.proofs.lemmas.Int.{to_z-of_z}
+use Rattle.std.proofs.{Common.{◌≡◌, true, false, sym, ◌∙◌, arith, w64}, lemmas.Int.to_z-of_z}
 use Rattle.olap_ast.specs.Trees.{op_of}
 use Rattle.olap_encoding.proofs.NumberLemmas.{leading_here, leading_other}
 use Rattle.olap_encoding.proofs.formulas.leading_more.Goals as goal

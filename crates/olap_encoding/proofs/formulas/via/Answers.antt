@@ -1,12 +1,8 @@
 -- Both walks.
-use Rattle.olap_ast.specs.Formula.{Formula.Via}
+use Rattle.olap_encoding.proofs.{Growing.{says_still, next_on, next_after}, TellingLemmas.tell_via}
 use Rattle.olap_encoding.specs.EncoderInside.{encoding_of}
-use Rattle.olap_encoding.specs.Encoding.{IsNext, Says, BothAre}
-use Rattle.olap_encoding.specs.Formulas.{TellsAt}
-use Rattle.olap_encoding.proofs.Growing.{says_still, next_on, next_after}
-use Rattle.olap_encoding.proofs.TellingLemmas.{tell_via}
-use Rattle.olap_encoding.proofs.formulas.via.Goals as goal
 use Rattle.olap_base.proofs.GeneralLemmas.{both_ok}
+use Rattle.olap_encoding.proofs.formulas.via.Goals as goal
 
 pub returns-clause-next : goal.returns-clause-next
 returns-clause-next c =
@@ -16,8 +12,7 @@ returns-clause-next c =
 pub returns-clause-says : goal.returns-clause-says
 returns-clause-says c =
     let e = encoding_of c.both.new.e in
-    both_ok c.both.result (λ _. IsNext (encoding_of c.reach-2.new.self) e) (λ l. Says e l (BothAre a.a b.b))
-    (λ l. TellsAt e c.args.c.0 l (Via c.args.d.0 c.args.k.0))
+    both_ok c.both.result _ _ _
     (λ l n s. tell_via e n.sound c.args.c.0 l a.a b.b c.args.d.0 c.args.k.0 s
     (says_still (next_on b.ensures.next n).later a.ensures.says) (says_still n.later b.ensures.says))
     c.both.ensures.next c.both.ensures.says

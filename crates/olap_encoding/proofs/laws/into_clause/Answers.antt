@@ -1,9 +1,7 @@
 -- One edge after the other, and one clause.
 use Rattle.std.proofs.Common.{◌≤◌, length, sym, subst, ◌∙◌, arith}
-use Rattle.olap_encoding.specs.Encoding.{IsGiven}
-use Rattle.olap_encoding.specs.EncoderInside.{encoding_of}
-use Rattle.olap_encoding.proofs.GivenLemmas.{given_into, given_turned}
-use Rattle.olap_encoding.proofs.OutLemmas.{none_into, one_into, all_into}
+use Rattle.olap_encoding.proofs.{GivenLemmas.{given_into, given_turned}, OutLemmas.{none_into, one_into, all_into}}
+use Rattle.olap_encoding.specs.{EncoderInside.encoding_of, Encoding.IsGiven}
 use Rattle.olap_encoding.proofs.laws.into_clause.Goals as goal
 
 pub edges-init : goal.edges-init

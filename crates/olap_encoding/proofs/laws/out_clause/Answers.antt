@@ -1,9 +1,7 @@
 -- One edge after the other, and one clause.
 use Rattle.std.proofs.Common.{◌+◌, sym, subst, ◌∙◌}
-use Rattle.olap_encoding.specs.Encoding.{IsGiven}
-use Rattle.olap_encoding.specs.EncoderInside.{encoding_of}
-use Rattle.olap_encoding.proofs.GivenLemmas.{given_out, given_turned}
-use Rattle.olap_encoding.proofs.OutLemmas.{AreOut, none_out, one_out, all_out}
+use Rattle.olap_encoding.proofs.{GivenLemmas.{given_out, given_turned}, OutLemmas.{AreOut, none_out, one_out, all_out}}
+use Rattle.olap_encoding.specs.{EncoderInside.encoding_of, Encoding.IsGiven}
 use Rattle.olap_encoding.proofs.laws.out_clause.Goals as goal
 
 pub edges-init : goal.edges-init

@@ -1,10 +1,8 @@
 -- One rung after the other.
+use Rattle.olap_encoding.proofs.{Growing.{next_on, says_still}, LadderLemmas.{given_highest, count_still, given_lowest}}
+use Rattle.olap_encoding.proofs.{NameLemmas.constants_still, OutLemmas.category_still}
 use Rattle.olap_encoding.specs.EncoderInside.{encoding_of}
-use Rattle.olap_encoding.proofs.Growing.{next_on, says_still}
-use Rattle.olap_encoding.proofs.OutLemmas.{category_still}
 use Rattle.std.proofs.Common.{◌<◌, subst}
-use Rattle.olap_encoding.proofs.NameLemmas.{constants_still}
-use Rattle.olap_encoding.proofs.LadderLemmas.{given_highest, count_still, given_lowest}
 use Rattle.olap_encoding.proofs.naming.ladder.Goals as goal
 
 pub clause-requires-clause-given : goal.clause-requires-clause-given

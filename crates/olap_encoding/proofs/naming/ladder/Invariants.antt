@@ -1,6 +1,5 @@
 -- The rung below.
-use Rattle.olap_encoding.specs.EncoderInside.{encoding_of}
-use Rattle.olap_encoding.proofs.LadderLemmas.{IsRung}
+use Rattle.olap_encoding.{proofs.LadderLemmas.IsRung, specs.EncoderInside.encoding_of}
 use Rattle.olap_encoding.proofs.naming.ladder.Given as goal
 
 abbrev pub invariant-rungs : goal.invariant-rungs

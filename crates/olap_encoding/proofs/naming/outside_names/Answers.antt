@@ -1,9 +1,8 @@
 -- One name after the other.
 use Rattle.std.proofs.Common.{◌<◌, length, subst, ap}
-use Rattle.olap_encoding.specs.EncoderInside.{encoding_of}
 use Rattle.olap_encoding.proofs.Growing.{next_same, next_on}
-use Rattle.olap_encoding.proofs.OutLemmas.{category_still}
 use Rattle.olap_encoding.proofs.NameLemmas.{constants_still, outside_still, given_outside_name_at}
+use Rattle.olap_encoding.{proofs.OutLemmas.category_still, specs.EncoderInside.encoding_of}
 use Rattle.olap_encoding.proofs.naming.outside_names.Goals as goal
 
 pub names-init : goal.names-init

@@ -1,8 +1,6 @@
 -- Each name, and each two.
 use Rattle.std.proofs.Common.{◌<◌, subst}
-use Rattle.olap_encoding.proofs.Growing.{next_same, next_on}
-use Rattle.olap_encoding.proofs.OutLemmas.{category_still}
-use Rattle.olap_encoding.proofs.NameLemmas.{constants_still}
+use Rattle.olap_encoding.proofs.{Growing.{next_same, next_on}, NameLemmas.constants_still, OutLemmas.category_still}
 use Rattle.olap_encoding.proofs.naming.pairs.Goals as goal
 
 pub names-init : goal.names-init

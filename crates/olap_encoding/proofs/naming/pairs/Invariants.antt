@@ -1,6 +1,5 @@
 -- The encoding has grown.
-use Rattle.olap_encoding.specs.Encoding.{IsNext}
-use Rattle.olap_encoding.specs.EncoderInside.{encoding_of}
+use Rattle.olap_encoding.specs.{EncoderInside.encoding_of, Encoding.IsNext}
 use Rattle.olap_encoding.proofs.naming.pairs.Given as goal
 
 abbrev pub invariant-names : goal.invariant-names

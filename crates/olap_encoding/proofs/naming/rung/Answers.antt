@@ -1,9 +1,8 @@
 -- A variable, and four clauses of the name and the rungs below and above it.
-use Rattle.olap_encoding.specs.EncoderInside.{encoding_of}
 use Rattle.olap_encoding.proofs.Growing.{next_on, says_still}
 use Rattle.olap_encoding.proofs.LadderLemmas.{given_up, given_reaches, given_above, given_between}
-use Rattle.olap_encoding.proofs.OutLemmas.{category_still}
-use Rattle.olap_encoding.proofs.NameLemmas.{constants_still}
+use Rattle.olap_encoding.proofs.{NameLemmas.constants_still, OutLemmas.category_still}
+use Rattle.olap_encoding.specs.EncoderInside.{encoding_of}
 use Rattle.olap_encoding.proofs.naming.rung.Goals as goal
 
 pub name-l-requires-clause-category : goal.name-l-requires-clause-category

@@ -1,7 +1,6 @@
 -- A new variable and its clauses.
+use Rattle.olap_encoding.proofs.{Growing.{next_on, says_still}, NodeLemmas.{given_first, given_second, given_both}}
 use Rattle.olap_encoding.specs.EncoderInside.{encoding_of}
-use Rattle.olap_encoding.proofs.Growing.{next_on, says_still}
-use Rattle.olap_encoding.proofs.NodeLemmas.{given_first, given_second, given_both}
 use Rattle.olap_encoding.proofs.nodes.gate.Goals as goal
 
 pub clause-requires-clause-given : goal.clause-requires-clause-given

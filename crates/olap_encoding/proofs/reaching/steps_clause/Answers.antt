@@ -3,20 +3,15 @@ use Rattle.std.proofs.Common.{get_or, sym, subst, refl, ◌∙◌, ap}
 use Rattle.olap_base.specs.Graph.{Graph}
 use Rattle.olap_graph.specs.Lookups.{edges_from, edge_at as graph_edge}
 use Rattle.olap_names.specs.declared.questions.Question.{Question}
-use Rattle.olap_encoding.specs.Encoding.{IsGiven, Says, ReachingIs}
-use Rattle.olap_encoding.specs.EncoderInside.{encoding_of}
-use Rattle.olap_encoding.proofs.Growing.{next_on, next_same, says_still}
-use Rattle.olap_encoding.proofs.GivenLemmas.{given_steps, given_turned}
+use Rattle.olap_encoding.proofs.{GivenLemmas.{given_steps, given_turned}, Growing.{next_on, next_same, says_still}}
 use Rattle.olap_encoding.proofs.OutLemmas.{nowhere, out_edge, category_still, edge_still, none_tried, one_tried, all_tried}
+use Rattle.olap_encoding.specs.{EncoderInside.encoding_of, Encoding.{IsGiven, Says, ReachingIs}}
 use Rattle.olap_encoding.proofs.reaching.steps_clause.Goals as goal
 
 pub edges-init : goal.edges-init
 edges-init c =
     none_tried c.args.e.now.question.graph.now (encoding_of c.args.e.now) c.args.c.0 c.args.d.0
     c.parents-id-items.result.now c.args.literals.now.items (next_same c.requires.sound) refl
-
-pub try_step-requires-clause-sound : goal.try_step-requires-clause-sound
-try_step-requires-clause-sound c = c.edges.invariant.next.sound
 
 pub try_step-requires-clause-edge : goal.try_step-requires-clause-edge
 try_step-requires-clause-edge c =

@@ -1,6 +1,5 @@
 -- The measure is the size of the formula.
-use Rattle.olap_ast.specs.Trees.{formula_of}
-use Rattle.olap_ast.specs.Valid.{node_count}
+use Rattle.olap_ast.specs.{Trees.formula_of, Valid.node_count}
 use Rattle.olap_encoding.proofs.splitting.+alternatives.Given as goal
 
 abbrev pub decreases-alternatives : goal.decreases-alternatives

@@ -1,14 +1,9 @@
 -- What is true of a formula is true of its parts.
-use Rattle.std.proofs.Common.{◌≡◌, ◌+◌, refl, sym, arith}
-use Rattle.std.specs.Prelude.{not}
-use Rattle.olap_ast.specs.Trees.{formula_of}
-use Rattle.olap_ast.specs.Valid.{node_count}
-use Rattle.olap_encoding.specs.EncoderInside.{encoding_of}
-use Rattle.olap_encoding.specs.Formulas.{signed}
-use Rattle.olap_encoding.proofs.Growing.{next_after}
-use Rattle.olap_encoding.proofs.OutLemmas.{category_still}
-use Rattle.olap_encoding.proofs.TellingLemmas.{spoken_still}
+use Rattle.std.{proofs.Common.{◌≡◌, ◌+◌, refl, sym, arith}, specs.Prelude.not}
+use Rattle.olap_ast.specs.{Trees.formula_of, Valid.node_count}
+use Rattle.olap_encoding.proofs.{Growing.next_after, OutLemmas.category_still}
 use Rattle.olap_encoding.proofs.SplittingLemmas.{required, counted, spoken_as, true_still, true_as, true_turned, true_first, true_second}
+use Rattle.olap_encoding.{proofs.TellingLemmas.spoken_still, specs.EncoderInside.encoding_of, specs.Formulas.signed}
 use Rattle.olap_encoding.proofs.splitting.+require.Goals as goal
 
 pub require-requires : goal.require-requires
@@ -27,18 +22,10 @@ require-requires t c =
 
 pub require-requires-in-Some : goal.require-requires-in-Some
 require-requires-in-Some t c =
-    let e = encoding_of c.args.e.now in (
+    let e = encoding_of c.args.e.now in
+    let so = true_first e c.args.c.0 c.args.holds p.first_holds p.second_holds k c.requires.so in (
       omega (arith, c.decreases, k.smaller),
-      (
-        c.requires.sound,
-        (
-          c.requires.category,
-          (
-            (k.spoken e.question c.requires.speaks).0,
-            true_first e c.args.c.0 c.args.holds p.first_holds p.second_holds k c.requires.so,
-          ),
-        ),
-      ),
+      (c.requires.sound, (c.requires.category, ((k.spoken e.question c.requires.speaks).0, so))),
     )
   where
     open c use {in-Some.p, in-Some.ensures as k}
@@ -46,19 +33,12 @@ require-requires-in-Some t c =
 pub require-requires-in-Some-2 : goal.require-requires-in-Some-2
 require-requires-in-Some-2 t c =
     let e = encoding_of c.args.e.now in
-    let n = c.in_ok-require.ensures.next in (
+    let n = c.in_ok-require.ensures.next in
+    let speaks = spoken_still n.later (formula_of p.second.now) (k.spoken e.question c.requires.speaks).1 in
+    let so = true_still n.later c.args.c.0 (signed p.second_holds (formula_of p.second.now))
+    (true_second e c.args.c.0 c.args.holds p.first_holds p.second_holds k c.requires.so) in (
       omega (arith, c.decreases, k.smaller),
-      (
-        n.sound,
-        (
-          category_still n.later c.args.c.0 c.requires.category,
-          (
-            spoken_still n.later (formula_of p.second.now) (k.spoken e.question c.requires.speaks).1,
-            true_still n.later c.args.c.0 (signed p.second_holds (formula_of p.second.now))
-                (true_second e c.args.c.0 c.args.holds p.first_holds p.second_holds k c.requires.so),
-          ),
-        ),
-      ),
+      (n.sound, (category_still n.later c.args.c.0 c.requires.category, (speaks, so))),
     )
   where
     open c use {in-Some.p, in-Some.ensures as k}

@@ -1,13 +1,8 @@
 -- The clause begins with the negation of the category's presence.
-use Rattle.std.proofs.Common.{sym, subst}
-use Rattle.std.specs.Prelude.{Contains}
-use Rattle.std.proofs.lemmas.List.Elements.{Contains-push}
+use Rattle.std.{proofs.Common.{sym, subst}, proofs.lemmas.List.Elements.Contains-push, specs.Prelude.Contains}
 use Rattle.olap_ast.specs.Trees.{formula_of}
-use Rattle.olap_encoding.specs.EncoderInside.{encoding_of}
-use Rattle.olap_encoding.specs.Encoding.{IsGiven}
-use Rattle.olap_encoding.specs.Formulas.{signed}
-use Rattle.olap_encoding.proofs.Growing.{says_still, next_on}
-use Rattle.olap_encoding.proofs.SplittingLemmas.{true_still, given_widened}
+use Rattle.olap_encoding.proofs.{Growing.{says_still, next_on}, SplittingLemmas.{true_still, given_widened}}
+use Rattle.olap_encoding.specs.{EncoderInside.encoding_of, Encoding.IsGiven, Formulas.signed}
 use Rattle.olap_encoding.proofs.splitting.alternatives_clause.Goals as goal
 
 pub clause-requires-clause-given : goal.clause-requires-clause-given

@@ -1,8 +1,7 @@
 -- A constraint is true wherever its root is present.
 use Rattle.std.proofs.Common.{refl}
 use Rattle.olap_ast.specs.Trees.{constraint_of}
-use Rattle.olap_encoding.specs.EncoderInside.{encoding_of}
-use Rattle.olap_encoding.proofs.SplittingLemmas.{constraint_true}
+use Rattle.olap_encoding.{proofs.SplittingLemmas.constraint_true, specs.EncoderInside.encoding_of}
 use Rattle.olap_encoding.proofs.splitting.constraint.Goals as goal
 
 pub require-requires-clause-so : goal.require-requires-clause-so

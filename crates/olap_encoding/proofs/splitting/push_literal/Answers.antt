@@ -1,11 +1,8 @@
 -- The literal itself, or its negation.
 use Rattle.std.proofs.Common.{sym, subst}
-use Rattle.olap_ast.specs.Formula.{Formula.Not}
-use Rattle.olap_ast.specs.Trees.{formula_of}
-use Rattle.olap_encoding.specs.EncoderInside.{encoding_of}
-use Rattle.olap_encoding.specs.Formulas.{IsWidened, signed}
-use Rattle.olap_encoding.proofs.TellingLemmas.{tell_not}
-use Rattle.olap_encoding.proofs.SplittingLemmas.{widened_by}
+use Rattle.olap_ast.specs.{Formula.Formula.Not, Trees.formula_of}
+use Rattle.olap_encoding.proofs.{SplittingLemmas.widened_by, TellingLemmas.tell_not}
+use Rattle.olap_encoding.specs.{EncoderInside.encoding_of, Formulas.{IsWidened, signed}}
 use Rattle.olap_encoding.proofs.splitting.push_literal.Goals as goal
 
 pub returns-in_ok-push-clause-widened : goal.returns-in_ok-push-clause-widened

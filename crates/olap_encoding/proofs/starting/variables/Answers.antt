@@ -3,12 +3,6 @@ use Rattle.olap_names.specs.Questions.{question_of}
 use Rattle.olap_encoding.proofs.StartingLemmas.{then_named}
 use Rattle.olap_encoding.proofs.starting.variables.Goals as goal
 
-pub names-requires-clause-ordered : goal.names-requires-clause-ordered
-names-requires-clause-ordered c = c.in_ok-first_variables.ensures.ordered
-
-pub names-requires-clause-few : goal.names-requires-clause-few
-names-requires-clause-few c = c.in_ok-first_variables.ensures.few
-
 pub returns : goal.returns
 returns c =
     then_named (question_of c.args.q.now) c.first_variables.new.meanings.items c.names.new.meanings.items

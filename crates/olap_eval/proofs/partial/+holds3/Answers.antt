@@ -1,8 +1,7 @@
 -- The parts of a list: the value of each is counted, and then those of the rest.
 use Rattle.std.proofs.Common.{◌≡◌, ◌∙◌, ◌∷◌, [], ap, sym}
 use Rattle.olap_ast.specs.Trees.{formula_of, terms_of}
-use Rattle.olap_eval.specs.Partial.{value_at, values_of}
-use Rattle.olap_eval.proofs.PartialLemmas.{count_on}
+use Rattle.olap_eval.{proofs.PartialLemmas.count_on, specs.Partial.{value_at, values_of}}
 use Rattle.olap_eval.proofs.partial.+holds3.Goals as goal
 
 pub counted-returns-in-More : goal.counted-returns-in-More

@@ -1,8 +1,7 @@
 -- The value so far and that of what is left of the path are the value of the whole path.
 use Rattle.std.proofs.Common.{◌≡◌, ◌&&◌, drop}
 use Rattle.olap_ast.specs.ThreeValues.{value_of_both}
-use Rattle.olap_eval.specs.Partial.{value_along}
-use Rattle.olap_eval.proofs.ShapeLemmas.{numbers}
+use Rattle.olap_eval.{proofs.ShapeLemmas.numbers, specs.Partial.value_along}
 use Rattle.olap_eval.proofs.partial.along.Given as goal
 
 abbrev pub invariant-path : goal.invariant-path

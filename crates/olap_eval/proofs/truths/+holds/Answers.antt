@@ -1,8 +1,7 @@
 -- The atoms: what a shape answers is the truth of the atom.
-use Rattle.std.proofs.Common.{rules, w64}
-use Rattle.std.proofs.lemmas.Int.{to_z-of_z}
-use mir.Val.{SFits}
+use Rattle.std.proofs.{Common.{rules, w64}, lemmas.Int.to_z-of_z}
 use Rattle.olap_eval.proofs.ShapeLemmas.{reach_truth, via_truth, via_stops, named_truth, named_stops, numbered_truth, numbered_stops}
+use mir.Val.{SFits}
 use Rattle.olap_eval.proofs.truths.+holds.Goals as goal
 
 pub holds-returns-in-Reach : goal.holds-returns-in-Reach

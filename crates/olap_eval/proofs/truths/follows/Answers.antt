@@ -1,7 +1,7 @@
 -- The path goes on from the category reached so far along the rest of the list.
 use Rattle.olap_eval.proofs.ShapeLemmas.{next_category, rest_none, follow_step, follow_stop, follow_done}
-use Rattle.olap_eval.proofs.truths.follows.Goals as goal
 use Rattle.olap_base.proofs.GeneralLemmas.{refuted}
+use Rattle.olap_eval.proofs.truths.follows.Goals as goal
 
 pub path-init : goal.path-init
 path-init g c = record { here = c.requires; to = λ q. q; from = λ q. q }

@@ -1,8 +1,7 @@
 -- The header, a fact or a fault.
 use Rattle.std.proofs.Common.{ap}
-use Rattle.olap_facts.specs.Seen.{fact_of}
-use Rattle.olap_facts.specs.declared.pending.Told.{Told}
 use Rattle.olap_facts.proofs.CountingLemmas.{counted-fact, counted-header, fact-fault, header-fault}
+use Rattle.olap_facts.specs.{Seen.fact_of, declared.pending.Told.Told}
 use Rattle.olap_facts.proofs.fronts.taken.Goals as goal
 
 pub returns-then-not-is_row-clause-counts : goal.returns-then-not-is_row-clause-counts

@@ -1,9 +1,7 @@
 -- The records so far were looked up.
 use Rattle.std.proofs.Common.{◌≡◌, ℕ, ◌+◌, ◌≤◌, ◌++◌, true, List, length, map, take}
 use Rattle.olap_base.specs.Views.{Fact, IsFactTable}
-use Rattle.olap_facts.specs.Feeding.{Counted}
-use Rattle.olap_facts.specs.Pending.{ArePending}
-use Rattle.olap_facts.specs.Seen.{fact_of}
+use Rattle.olap_facts.specs.{Feeding.Counted, Pending.ArePending, Seen.fact_of}
 use Rattle.olap_facts.proofs.judging.settle.Given as goal
 
 abbrev pub invariant-records : goal.invariant-records

@@ -1,9 +1,7 @@
 -- The look at the table of bottoms is the test.
-use Rattle.std.proofs.Common.{◌∙◌, ap, subst}
-use Rattle.std.specs.Bool.{one_answer}
+use Rattle.std.{proofs.Common.{◌∙◌, ap, subst}, specs.Bool.one_answer}
 use Rattle.olap_base.specs.Graph.{IsBottom}
-use Rattle.olap_facts.specs.FactText.{is_bottom}
-use Rattle.olap_facts.proofs.BottomLemmas.{bottom-is}
+use Rattle.olap_facts.{proofs.BottomLemmas.bottom-is, specs.FactText.is_bottom}
 use Rattle.olap_facts.proofs.reading.is_at_bottom.Goals as goal
 
 pub returns-clause-value : goal.returns-clause-value

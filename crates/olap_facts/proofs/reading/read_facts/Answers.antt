@@ -1,16 +1,12 @@
 -- The facts of the one piece and the last, or what refuses the text.
-use Rattle.std.proofs.Common.{◌≡◌, ◌∙◌, [], List, Option, map, ap, sym, subst}
-use Rattle.std.specs.Prelude.{ℕ, Ok, Result, Some}
-use Rattle.std.proofs.lemmas.Result.{err_from_is_err_and}
-use Rattle.olap_base.specs.Views.{Fact, IsFactTable}
-use Rattle.olap_base.specs.declared.refusals.Fault.{Fault}
-use Rattle.olap_facts.specs.declared.kinds.FactKind.{FactKind}
-use Rattle.olap_base.specs.Refusing.{IsRefusedBy}
-use Rattle.olap_facts.specs.Seen.{fact_of}
-use Rattle.olap_facts.specs.declared.tables.Fact as told
+use Rattle.std.proofs.{Common.{◌∙◌, [], List, map, ap, sym, subst}, lemmas.Result.err_from_is_err_and}
+use Rattle.std.specs.Prelude.{ℕ, Ok, Result}
+use Rattle.olap_base.specs.{Refusing.IsRefusedBy, Views.{Fact, IsFactTable}, declared.refusals.Fault.Fault}
 use Rattle.olap_facts.proofs.WholeLemmas.{IsListed, last-listed, none-listed, read-by, refused-whole, table-at}
+use Rattle.olap_facts.{proofs.reading.read_facts.Goals.{in-Some+in_ok-push, in_default}, specs.Seen.fact_of}
+use Rattle.olap_facts.specs.declared.kinds.FactKind.{FactKind}
+use Rattle.olap_facts.specs.declared.tables.Fact as told
 use Rattle.olap_facts.proofs.reading.read_facts.Goals as goal
-use Rattle.olap_facts.proofs.reading.read_facts.Goals.{in-Some+in_ok-push, in_default}
 
 pub returns-in_err-take-clause-read : goal.returns-in_err-take-clause-read
 returns-in_err-take-clause-read c =
@@ -38,30 +34,24 @@ returns-clause-read c =
     let listed : IsListed g i before c.in_ok-last.field-0 c.match-branch-3.facts.items =
     elim c.match-branch-3.branch [
       | in-Some+in_ok-push w ↦
-          let last : c.in_ok-last.field-0 ≡ Some w.in-Some.last = w.in-Some.is in
-          let same-items : w.push.new.self.items ≡ c.match-branch-3.facts.items = cc in
-          subst (λ (o : Option told.Fact). IsListed g i before o c.match-branch-3.facts.items) (sym last)
-          (last-listed g i before table new (same.graph ∙ f.graph) (same.instance ∙ f.instance) w.in-Some.last
-          c.match-branch-3.facts.items (sym same-items ∙ w.in_ok-push.ensures.items) (rw last at e.member)
-          (rw last at e.bottom))
+          last-listed g i before table new (same.graph ∙ f.graph) (same.instance ∙ f.instance) w.in-Some.is
+          (ap (λ v. v.items) w.facts-is ∙ w.in_ok-push.ensures.items) last.member last.bottom
       | in_default w ↦
-          let same-items : before ≡ c.match-branch-3.facts.items = cc in
-          subst (λ (fs : List told.Fact). IsListed g i before c.in_ok-last.field-0 fs) same-items
-          (none-listed g i before table c.in_ok-last.field-0 w.in_default.not-Some)
+          none-listed g i before table c.in_ok-last.field-0 w.in_default.not-Some (ap (λ v. v.items) w.facts-is)
     ] in
-    let read = c.in_ok-last.ensures.reads piece (map fact_of before) (c.in_ok-take.ensures.feeds [] [] f.fed) in
     sym (read-by c.records_are_those_at_the_end.ensures g i new (same.graph ∙ f.graph) (same.instance ∙ f.instance)
     (same.most ∙ f.most) c.args.text.now piece c.without_mark.ensures)
-    ∙ read ∙ ap Ok (sym listed.all) ∙ ap (λ (fs : List told.Fact). Ok (map fact_of fs)) (sym c.from_vec.ensures)
+    ∙ last.reads piece (map fact_of before) (c.in_ok-take.ensures.feeds [] [] f.fed) ∙ ap Ok (sym listed.all)
+    ∙ ap (λ (fs : List told.Fact). Ok (map fact_of fs)) (sym c.from_vec.ensures)
   where
     open c use {
       args.graph.now as g,
       args.instance.now as i,
       new-feed.ensures as f,
+      without_mark.result.now as piece,
       take.new.self as new,
       take.new.batch.items as before,
-      in_ok-last.ensures as e,
-      without_mark.result.now as piece,
+      in_ok-last.ensures as last,
     }
 
 pub returns-clause-table : goal.returns-clause-table
@@ -71,16 +61,10 @@ returns-clause-table c =
     let listed : IsListed g i before c.in_ok-last.field-0 c.match-branch-3.facts.items =
     elim c.match-branch-3.branch [
       | in-Some+in_ok-push w ↦
-          let last : c.in_ok-last.field-0 ≡ Some w.in-Some.last = w.in-Some.is in
-          let same-items : w.push.new.self.items ≡ c.match-branch-3.facts.items = cc in
-          subst (λ (o : Option told.Fact). IsListed g i before o c.match-branch-3.facts.items) (sym last)
-          (last-listed g i before table new (same.graph ∙ f.graph) (same.instance ∙ f.instance) w.in-Some.last
-          c.match-branch-3.facts.items (sym same-items ∙ w.in_ok-push.ensures.items) (rw last at e.member)
-          (rw last at e.bottom))
+          last-listed g i before table new (same.graph ∙ f.graph) (same.instance ∙ f.instance) w.in-Some.is
+          (ap (λ v. v.items) w.facts-is ∙ w.in_ok-push.ensures.items) last.member last.bottom
       | in_default w ↦
-          let same-items : before ≡ c.match-branch-3.facts.items = cc in
-          subst (λ (fs : List told.Fact). IsListed g i before c.in_ok-last.field-0 fs) same-items
-          (none-listed g i before table c.in_ok-last.field-0 w.in_default.not-Some)
+          none-listed g i before table c.in_ok-last.field-0 w.in_default.not-Some (ap (λ v. v.items) w.facts-is)
     ] in
     subst (λ (fs : List told.Fact). IsFactTable g i (map fact_of fs)) (sym c.from_vec.ensures) listed.table
   where
@@ -90,5 +74,5 @@ returns-clause-table c =
       new-feed.ensures as f,
       take.new.self as new,
       take.new.batch.items as before,
-      in_ok-last.ensures as e,
+      in_ok-last.ensures as last,
     }

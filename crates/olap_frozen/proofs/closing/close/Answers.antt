@@ -1,4 +1,4 @@
-use Rattle.std.proofs.Common.{inl, refl, ◌∙◌}
+use Rattle.std.proofs.Common.{inl, refl, arith}
 use Rattle.olap_frozen.proofs.RowLemmas.{closed_rows}
 use Rattle.olap_frozen.proofs.closing.close.Goals as goal
 
@@ -6,6 +6,4 @@ pub pass_all-requires-clause-own : goal.pass_all-requires-clause-own
 pass_all-requires-clause-own c = λ x h. (c.draw.ensures.drawn x x h).1 (inl refl)
 
 pub returns-clause-rows : goal.returns-clause-rows
-returns-clause-rows c =
-    closed_rows c.args.graph.now c.args.edges.now c.draw.new.rows c.pass_all.new.rows c.categories-few.ensures.hierarchy
-    (c.draw.ensures.count ∙ c.requires.rows) c.draw.ensures.drawn c.pass_all.ensures
+returns-clause-rows c = grind (arith, closed_rows)

@@ -1,17 +1,12 @@
-use Rattle.std.proofs.Common.{◌≡◌, ◌+◌, ap, sym, subst, ◌∙◌, arith, get_or, false, length}
-use Rattle.std.proofs.Math.ListN.{length-set}
+use Rattle.std.proofs.{Common.{◌≡◌, ◌+◌, ap, sym, subst, ◌∙◌, arith, get_or, false, length}, Math.ListN.length-set}
 use Rattle.std.specs.FinSet.{insert}
-use Rattle.olap_frozen.specs.Rows.{AreDrawn}
-use Rattle.olap_graph.proofs.RowLemmas.{row_read}
 use Rattle.olap_frozen.proofs.RowLemmas.{draw_more, draw_none, draw_skip}
+use Rattle.olap_frozen.{proofs.closing.draw.Goals.{then-edges-from, else-edges-from}, specs.Rows.AreDrawn}
+use Rattle.olap_graph.proofs.RowLemmas.{row_read}
 use Rattle.olap_frozen.proofs.closing.draw.Goals as goal
-use Rattle.olap_frozen.proofs.closing.draw.Goals.{then-edges-from, else-edges-from}
 
 pub edges-init : goal.edges-init
-edges-init c = record {
-  count = c.isolate.ensures.count;
-  drawn = draw_none c.args.graph.now c.args.edges.now c.isolate.new.rows c.isolate.ensures.own;
-}
+edges-init c = search draw_none
 
 pub edges-preserved : goal.edges-preserved
 edges-preserved c =

@@ -1,40 +1,11 @@
 -- One set after another gets what the set has.
-use Rattle.std.proofs.Common.{◌≡◌, ◌<◌, ◌+◌, ◌∙◌, ap, sym, subst, length, arith}
-use Rattle.std.specs.FinSet.{contains, union}
-use Rattle.olap_bits.specs.Sets.{members}
-use Rattle.olap_graph.specs.Rows.{row}
+use Rattle.std.proofs.Common.{arith}
 use Rattle.olap_graph.proofs.RowLemmas.{IsPassing, pass_more, pass_skip, row_at, row_read}
-use Rattle.olap_frozen.proofs.RowLemmas.{alone}
+use Rattle.olap_frozen.proofs.{RowLemmas.alone, closing.pass.Goals.{then-has, else-has}}
 use Rattle.olap_frozen.proofs.closing.pass.Goals as goal
-use Rattle.olap_frozen.proofs.closing.pass.Goals.{then-has, else-has}
 
 pub categories-preserved : goal.categories-preserved
-categories-preserved c =
-    let inside : at < length new = let n = c.categories.invariant.count in omega arith in
-    let of_k : members c.index-rows-from.result ≡ row old k =
-    row_read old c.from.result c.index-rows-from.result
-    (let e = c.from.ensures in let n = c.requires.inside in omega arith) c.index-rows-from.is
-    ∙ ap (row old) c.from.ensures in
-    let has = ap (λ s. contains s k) (sym (row_at new at c.index-rows-c.result inside))
-    ∙ sym c.has.ensures in
-    elim c.if-has.branch [
-      | then-has w ↦ subst (λ rs. IsPassing old rs k (at + 1)) (sym w.rows-is)
-          (pass_more old new k at w.union.result (has ∙ w.if-has.true) inside
-          (w.union.ensures ∙ ap (λ s. union s (members c.index-rows-from.result))
-          (row_read new at w.index-rows-c-then-has.result inside w.index-rows-c-then-has.is)
-          ∙ ap (union (row new at)) of_k) c.categories.invariant)
-      | else-has w ↦ subst (λ rs. IsPassing old rs k (at + 1)) (sym w.rows-is)
-          (pass_skip old new k at (has ∙ w.if-has.false) c.categories.invariant)
-    ]
-  where
-    open c use {args.rows.now as old, args.k, categories.rows as new, categories.c as at}
+categories-preserved c = grind (arith, row_read, row_at, then-has, IsPassing, pass_more, else-has, pass_skip)
 
 pub returns-then-is_subset-clause-passed : goal.returns-then-is_subset-clause-passed
-returns-then-is_subset-clause-passed c = λ x y h.
-    let old = c.args.rows.now in
-    let of_k : members c.index-rows-from.result ≡ row old c.args.k =
-    row_read old c.from.result c.index-rows-from.result
-    (let e = c.from.ensures in let n = c.requires.inside in omega arith) c.index-rows-from.is
-    ∙ ap (row old) c.from.ensures in
-    alone old c.args.k c.index-rows-from.result c.with.result c.empty.result of_k c.with.ensures c.empty.ensures
-    (sym c.is_subset.ensures ∙ c.if-is_subset.true) x y
+returns-then-is_subset-clause-passed c = grind (arith, row_read, alone)

@@ -1,6 +1,5 @@
 -- One category after another is passed through.
-use Rattle.std.proofs.Common.{length, arith}
-use Rattle.olap_graph.specs.Rows.{Has}
+use Rattle.std.proofs.Common.{arith}
 use Rattle.olap_graph.proofs.RowLemmas.{through_start, through_more, through_end}
 use Rattle.olap_frozen.proofs.closing.pass_all.Goals as goal
 
@@ -8,11 +7,7 @@ pub through-init : goal.through-init
 through-init c = through_start c.args.rows.now c.requires.own
 
 pub through-preserved : goal.through-preserved
-through-preserved c =
-    let k = c.through.k in
-    through_more (Has c.args.rows.now) (length c.args.rows.now) k c.through.rows c.pass.new.rows
-    (let l = c.through-test.true in omega arith) c.through.invariant
-    c.pass.ensures.count c.pass.ensures.passed
+through-preserved c = search through_more
 
 pub returns : goal.returns
 returns c =

@@ -1,23 +1,13 @@
-use Rattle.std.proofs.Common.{◌≡◌, ◌+◌, true, false, inl, inr, ap, sym, ◌∙◌, arith}
-use Rattle.std.specs.Prelude.{slice_index}
-use Rattle.std.specs.FinSet as set
+use Rattle.std.{proofs.Common.{◌≡◌, ◌+◌, true, false, inl, inr, ap, sym, ◌∙◌, arith}, specs.Prelude.slice_index}
 use Rattle.olap_graph.specs.Rows.{row}
 use Rattle.olap_frozen.proofs.SoundLemmas.{present_is}
-use Rattle.olap_frozen.proofs.frozen.are_absent_zero.Goals as goal
 use Rattle.olap_frozen.proofs.frozen.are_absent_zero.Goals.{else-not-row_has-via-then-not-row_has+else-names-from-ne0, else-not-row_has-via-else-not-row_has}
 use Rattle.olap_base.proofs.GeneralLemmas.{below_or_same}
+use Rattle.std.specs.FinSet as set
+use Rattle.olap_frozen.proofs.frozen.are_absent_zero.Goals as goal
 
 pub returns-then-names-from-ne0 : goal.returns-then-names-from-ne0
-returns-then-names-from-ne0 c = (
-  λ e. absurd (cc),
-  λ a. absurd (
-      let is = present_is c.args.graph.now c.args.root.0 c.args.edges.now c.args.rows.now
-      c.categories-c-end.ensures.hierarchy
-      c.requires.root c.requires.rows c.requires.sound c.categories.c in
-      let k = c.categories-c-end.ensures.count in
-      c.if-names-from-ne0.true (ap (slice_index c.args.names.now) c.from.ensures
-      ∙ a c.categories.c (omega arith) (sym is ∙ sym c.row_has.ensures ∙ c.if-not-row_has.true))),
-)
+returns-then-names-from-ne0 c = grind (arith, present_is)
 
 pub categories-preserved : goal.categories-preserved
 categories-preserved c = λ x h p. elim (below_or_same x c.categories.c h) [

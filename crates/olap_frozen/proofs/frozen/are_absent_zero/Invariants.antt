@@ -1,5 +1,4 @@
-use Rattle.std.proofs.Common.{◌≡◌, ◌<◌, ℕ, false}
-use Rattle.std.specs.Prelude.{slice_index}
+use Rattle.std.{proofs.Common.{◌≡◌, ◌<◌, ℕ, false}, specs.Prelude.slice_index}
 use Rattle.olap_ast.specs.Frozen.{chosen, is_present}
 use Rattle.olap_frozen.proofs.frozen.are_absent_zero.Given as goal
 

@@ -1,33 +1,12 @@
-use Rattle.std.proofs.Common.{◌≡◌, map, true, false, sym, ◌∙◌}
-use Rattle.olap_ast.specs.Trees.{constraint_of, formula_of}
+use Rattle.std.proofs.Common.{false, arith}
 use Rattle.olap_frozen.proofs.LeafLemmas.{absent_part, sound_part}
 use Rattle.olap_frozen.proofs.frozen.stands.Goals as goal
 
 pub returns-then-not-is_sound : goal.returns-then-not-is_sound
-returns-then-not-is_sound c = (
-  λ e. absurd (cc),
-  λ f. absurd (
-      let s = sound_part q.graph.now (map constraint_of q.constraints.now)
-      (formula_of q.formula.now) q.candidates.now q.root.0
-      a.edges.now a.names.now c.close.ensures.hierarchy c.requires.root c.requires.sized c.requires.candidates f in
-      let b = c.is_sound.ensures.1 s in
-      let z : true ≡ false = sym b ∙ g in cc),
-)
-  where
-    open c use {args as a, args.question.now as q, if-not-is_sound.true as g}
+returns-then-not-is_sound c = grind (arith, sound_part)
 
 pub returns-then-not-are_absent_zero : goal.returns-then-not-are_absent_zero
-returns-then-not-are_absent_zero c = (
-  λ e. absurd (cc),
-  λ f. absurd (
-      let s = absent_part q.graph.now (map constraint_of q.constraints.now)
-      (formula_of q.formula.now) q.candidates.now q.root.0
-      a.edges.now a.names.now c.close.ensures.hierarchy c.requires.root c.requires.sized c.requires.candidates f in
-      let b = c.are_absent_zero.ensures.1 s in
-      let z : true ≡ false = sym b ∙ g in cc),
-)
-  where
-    open c use {args as a, args.question.now as q, if-not-are_absent_zero.true as g}
+returns-then-not-are_absent_zero c = grind (arith, absent_part)
 
 pub close-requires-clause-edges : goal.close-requires-clause-edges
 close-requires-clause-edges c = c.requires.sized.edge_count

@@ -1,6 +1,4 @@
-use Rattle.std.proofs.Common.{◌≡◌, map, true, false, sym, subst, ◌∙◌, arith}
-use Rattle.std.specs.Prelude.{Contains}
-use Rattle.std.proofs.lemmas.List.{take_all}
+use Rattle.std.proofs.{Common.{◌≡◌, true, false, sym, ◌∙◌, arith}, lemmas.List.take_all}
 use Rattle.olap_base.proofs.ListLemmas.{Contains-map}
 use Rattle.olap_ast.specs.Trees.{constraint_of}
 use Rattle.olap_frozen.proofs.leaves.meets.Goals as goal
@@ -18,12 +16,4 @@ returns-then-not-holds c = (
 )
 
 pub returns : goal.returns
-returns c =
-    let all = take_all c.constraints.constraint-index c.args.constraints.now (omega arith) in (
-      λ e. record {
-        meets = λ k h p. c.constraints.invariant k
-            (subst (λ l. Contains (map constraint_of l) k) (sym all) h) p;
-        question = c.holds-2.ensures.0 e;
-      },
-      λ m. c.holds-2.ensures.1 m.question,
-    )
+returns c = grind (arith, take_all)

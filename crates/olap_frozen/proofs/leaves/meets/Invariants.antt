@@ -1,8 +1,5 @@
-use Rattle.std.proofs.Common.{◌≡◌, true, map, take}
-use Rattle.std.specs.Prelude.{Contains}
-use Rattle.olap_ast.specs.Formula.{Holds}
-use Rattle.olap_ast.specs.Schema.{Constraint}
-use Rattle.olap_ast.specs.Trees.{constraint_of}
+use Rattle.std.{proofs.Common.{◌≡◌, true, map, take}, specs.Prelude.Contains}
+use Rattle.olap_ast.specs.{Formula.Holds, Schema.Constraint, Trees.constraint_of}
 use Rattle.olap_frozen.specs.Leaves.{leaf_instance, leaf_present, leaf_place}
 use Rattle.olap_frozen.proofs.leaves.meets.Given as goal
 

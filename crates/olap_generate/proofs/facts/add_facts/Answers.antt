@@ -1,6 +1,5 @@
 use Rattle.std.proofs.Common.{◌+◌, arith, refl}
-use Rattle.olap_generate.specs.Members.{fact_row}
-use Rattle.olap_generate.proofs.TextLemmas.{rows_more}
+use Rattle.olap_generate.{proofs.TextLemmas.rows_more, specs.Members.fact_row}
 use Rattle.olap_generate.proofs.facts.add_facts.Goals as goal
 
 pub facts-preserved : goal.facts-preserved

@@ -1,6 +1,5 @@
 -- The records so far are added.
-use Rattle.std.proofs.Common.{◌≡◌, ◌++◌, map}
-use Rattle.std.specs.List.{range_with_len}
+use Rattle.std.{proofs.Common.{◌≡◌, ◌++◌, map}, specs.List.range_with_len}
 use Rattle.olap_records.specs.Texts.{text_of_rows}
 use Rattle.olap_generate.specs.Members.{fact_row}
 use Rattle.olap_generate.proofs.facts.add_facts.Given as goal

@@ -1,10 +1,7 @@
-use Rattle.std.proofs.Common.{◌≡◌, [], ◌∷◌, map, ◌∙◌}
-use Rattle.std.specs.List.{range_with_len}
-use Rattle.std.proofs.lemmas.Result.{IfOk-weaker}
+use Rattle.std.{proofs.Common.{◌≡◌, [], ◌∷◌, map, ◌∙◌}, proofs.lemmas.Result.IfOk-weaker, specs.List.range_with_len}
 use Rattle.olap_facts.specs.FactText.{header}
 use Rattle.olap_records.specs.Texts.{text_of_rows}
-use Rattle.olap_generate.specs.Members.{fact_row, fact_rows}
-use Rattle.olap_generate.proofs.TextLemmas.{groups_more, header_first}
+use Rattle.olap_generate.{proofs.TextLemmas.{groups_more, header_first}, specs.Members.{fact_row, fact_rows}}
 use Rattle.olap_generate.proofs.facts.fact_text.Goals as goal
 
 pub returns : goal.returns

@@ -1,12 +1,10 @@
 use Rattle.std.proofs.Common.{ℕ, ap, subst}
-use Rattle.olap_base.specs.Refusing.{IsFor}
-use Rattle.olap_base.specs.Views.{View}
+use Rattle.olap_base.specs.{Refusing.IsFor, Views.View}
 use Rattle.olap_nav.specs.Plans.{Serves}
 use Rattle.olap_schema.specs.Schemas.{schema_of}
-use Rattle.olap_view.specs.Seen.{view_of, views_of}
-use Rattle.olap_view.specs.Stores.{chosen}
-use Rattle.olap_generate.specs.Location.{region}
+use Rattle.olap_view.specs.{Seen.{view_of, views_of}, Stores.chosen}
 use Rattle.olap_generate.proofs.StoredLemmas.{city_serves, few_rows, region_there, regions_fit, table, views_direct}
+use Rattle.olap_generate.specs.Location.{region}
 use Rattle.olap_generate.proofs.generating.answer.Goals as goal
 
 pub answer-requires-clause-target : goal.answer-requires-clause-target

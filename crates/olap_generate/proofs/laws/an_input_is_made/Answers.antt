@@ -1,6 +1,4 @@
-use Rattle.olap_generate.proofs.InputLemmas.{input_is_made}
-use Rattle.olap_generate.proofs.Location.{location_schema}
-use Rattle.olap_generate.proofs.Made.{made, made_facts}
+use Rattle.olap_generate.proofs.{InputLemmas.input_is_made, Location.location_schema, Made.{made, made_facts}}
 use Rattle.olap_generate.proofs.laws.an_input_is_made.Goals as goal
 
 pub returns : goal.returns

@@ -1,6 +1,5 @@
 -- No count passes `most_count`, and there are few rows.
-use Rattle.std.proofs.Common.{ap, arith, sym, ◌+◌, ◌∙◌, ℕ, get_or}
-use Rattle.std.proofs.lemmas.List.Sums.{sum_by_more}
+use Rattle.std.proofs.{Common.{ap, arith, sym, ◌+◌, ◌∙◌, ℕ, get_or}, lemmas.List.Sums.sum_by_more}
 use Rattle.olap_view.specs.declared.views.Row.{Row}
 use Rattle.olap_generate.proofs.LineLemmas.{next_count, no_row}
 use Rattle.olap_generate.proofs.lines.count.Goals as goal

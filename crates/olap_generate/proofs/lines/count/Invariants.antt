@@ -1,6 +1,5 @@
 -- The counts so far, each of which is at most `most_count`.
-use Rattle.std.proofs.Common.{◌≡◌, ◌*◌, ◌≤◌, take}
-use Rattle.std.specs.Prelude.{sum_by}
+use Rattle.std.{proofs.Common.{◌≡◌, ◌*◌, ◌≤◌, take}, specs.Prelude.sum_by}
 use Rattle.olap_base.specs.Limits.{most_count}
 use Rattle.olap_view.specs.declared.views.Row.{Row}
 use Rattle.olap_generate.proofs.lines.count.Given as goal

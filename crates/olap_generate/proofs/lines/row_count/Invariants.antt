@@ -1,6 +1,5 @@
 -- The rows so far. A view has fewer than 2 ^ 58 rows: its list lies in memory.
-use Rattle.std.proofs.Common.{◌≡◌, ◌*◌, ◌^◌, ◌≤◌, length, take}
-use Rattle.std.specs.Prelude.{sum_by}
+use Rattle.std.{proofs.Common.{◌≡◌, ◌*◌, ◌^◌, ◌≤◌, length, take}, specs.Prelude.sum_by}
 use Rattle.olap_view.specs.declared.views.View.{View}
 use Rattle.olap_generate.proofs.lines.row_count.Given as goal
 

@@ -1,10 +1,9 @@
 -- No sum passes `most_sum`, and there are few rows.
-use Rattle.std.proofs.Common.{◌≡◌, ap, arith, get_or, pos, sym, to_z, of_z, ◌+ℤ◌, ◌∙◌, ℤ}
-use mir.Syntax.{w128}
-use Rattle.std.proofs.lemmas.Int.{ints}
+use Rattle.std.proofs.{Common.{◌≡◌, ap, arith, get_or, pos, sym, to_z, of_z, ◌+ℤ◌, ◌∙◌, ℤ}, lemmas.Int.ints}
 use Rattle.std.proofs.lemmas.List.Sums.{fold_more}
 use Rattle.olap_view.specs.declared.views.Row.{Row}
 use Rattle.olap_generate.proofs.LineLemmas.{next_sum, no_row}
+use mir.Syntax.{w128}
 use Rattle.olap_generate.proofs.lines.sum.Goals as goal
 
 pub overflow_add-sum : goal.overflow_add-sum

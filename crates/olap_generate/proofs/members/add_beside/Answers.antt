@@ -1,6 +1,5 @@
 use Rattle.std.proofs.Common.{arith, ◌∙◌}
-use Rattle.olap_generate.specs.Members.{named_row, numbered, row}
-use Rattle.olap_generate.proofs.TextLemmas.{rows_more, same_row}
+use Rattle.olap_generate.{proofs.TextLemmas.{rows_more, same_row}, specs.Members.{named_row, numbered, row}}
 use Rattle.olap_generate.proofs.members.add_beside.Goals as goal
 
 pub members-preserved : goal.members-preserved

@@ -1,6 +1,5 @@
 use Rattle.std.proofs.Common.{ℕ, ◌%◌, ◌==◌, List, codes, if◌then◌else◌, arith, ap, ◌∙◌}
-use Rattle.olap_generate.specs.Members.{named_row, city_row}
-use Rattle.olap_generate.proofs.TextLemmas.{rows_more, same_row}
+use Rattle.olap_generate.{proofs.TextLemmas.{rows_more, same_row}, specs.Members.{named_row, city_row}}
 use Rattle.olap_generate.proofs.members.add_cities.Goals as goal
 
 pub cities-preserved : goal.cities-preserved

@@ -1,6 +1,5 @@
 use Rattle.std.proofs.Common.{ℕ, ◌+◌, codes, arith, ap, ◌∙◌}
-use Rattle.olap_generate.specs.Members.{named_row, numbered, store_row}
-use Rattle.olap_generate.proofs.TextLemmas.{rows_more, same_row}
+use Rattle.olap_generate.{proofs.TextLemmas.{rows_more, same_row}, specs.Members.{named_row, numbered, store_row}}
 use Rattle.olap_generate.proofs.members.add_stores.Goals as goal
 
 pub stores-preserved : goal.stores-preserved

@@ -1,5 +1,4 @@
-use Rattle.std.proofs.Common.{◌≡◌, ◌∙◌}
-use Rattle.std.proofs.lemmas.Result.{IfOk-weaker}
+use Rattle.std.proofs.{Common.{◌≡◌, ◌∙◌}, lemmas.Result.IfOk-weaker}
 use Rattle.olap_records.specs.Texts.{text_of_rows}
 use Rattle.olap_generate.specs.Members.{member_rows}
 use Rattle.olap_generate.proofs.members.member_text.Goals as goal

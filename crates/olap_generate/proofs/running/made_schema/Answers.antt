@@ -1,8 +1,6 @@
 use Rattle.std.proofs.Common.{subst}
-use Rattle.olap_schema_text.specs.Judging.{schema_read}
-use Rattle.olap_schema_text.specs.Kinds.{IsFaultOf}
-use Rattle.olap_generate.specs.Location.{location_text}
-use Rattle.olap_generate.proofs.MadeLemmas.{schema_faultless}
+use Rattle.olap_schema_text.specs.{Judging.schema_read, Kinds.IsFaultOf}
+use Rattle.olap_generate.{proofs.MadeLemmas.schema_faultless, specs.Location.location_text}
 use Rattle.olap_generate.proofs.running.made_schema.Goals as goal
 
 pub unreachable-requires : goal.unreachable-requires

@@ -1,11 +1,8 @@
-use Rattle.std.proofs.Common.{length, subst, sym}
-use Rattle.std.specs.Prelude.{All, ◌<◌}
-use Rattle.olap_base.specs.Instance.{Instance}
-use Rattle.olap_base.specs.Refusing.{IsRefusedBy}
+use Rattle.std.{proofs.Common.{length, subst, sym}, specs.Prelude.{All, ◌<◌}}
+use Rattle.olap_base.specs.{Instance.Instance, Refusing.IsRefusedBy}
 use Rattle.olap_records.specs.Records.{records_of}
 use Rattle.olap_schema.specs.Schemas.{schema_of}
-use Rattle.olap_view.specs.Seen.{each_view_of, views_of}
-use Rattle.olap_view.specs.StoreText.{store_read}
+use Rattle.olap_view.specs.{Seen.{each_view_of, views_of}, StoreText.store_read}
 use Rattle.olap_generate.proofs.StoredLemmas.{store_faultless, store_made, views_categories, views_members}
 use Rattle.olap_generate.proofs.running.made_store.Goals as goal
 

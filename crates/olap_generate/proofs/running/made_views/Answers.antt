@@ -1,6 +1,5 @@
 use Rattle.std.proofs.Common.{subst}
-use Rattle.olap_base.specs.Limits.{most_facts}
-use Rattle.olap_base.specs.Refusing.{IsRefusedBy}
+use Rattle.olap_base.specs.{Limits.most_facts, Refusing.IsRefusedBy}
 use Rattle.olap_facts.specs.FactText.{facts_read_within}
 use Rattle.olap_records.specs.Records.{records_of}
 use Rattle.olap_schema.specs.Schemas.{schema_of}

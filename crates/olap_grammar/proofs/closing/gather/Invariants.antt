@@ -1,9 +1,6 @@
 -- The parts so far, with what is left on the stack.
 use Rattle.std.proofs.Common.{◌≡◌, length}
-use Rattle.olap_grammar.specs.Clip.{clipped}
-use Rattle.olap_grammar.specs.Frames.{frames}
-use Rattle.olap_grammar.specs.Machine.{list_closed}
-use Rattle.olap_grammar.specs.Parts.{parts_of}
+use Rattle.olap_grammar.specs.{Clip.clipped, Frames.frames, Machine.list_closed, Parts.parts_of}
 use Rattle.olap_grammar.proofs.closing.gather.Given as goal
 
 abbrev pub invariant-parts : goal.invariant-parts

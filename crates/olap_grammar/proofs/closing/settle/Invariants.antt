@@ -1,9 +1,6 @@
 -- What is closed so far, with what is left on the stack.
 use Rattle.std.proofs.Common.{◌≡◌, length}
-use Rattle.olap_grammar.specs.Clip.{clipped}
-use Rattle.olap_grammar.specs.Frames.{frames}
-use Rattle.olap_grammar.specs.Machine.{settled}
-use Rattle.olap_grammar.specs.Parts.{part_of}
+use Rattle.olap_grammar.specs.{Clip.clipped, Frames.frames, Machine.settled, Parts.part_of}
 use Rattle.olap_grammar.proofs.closing.settle.Given as goal
 
 abbrev pub invariant-frames : goal.invariant-frames

@@ -1,13 +1,9 @@
 -- Out of memory is the one refusal.
-use Rattle.std.proofs.Common.{ℕ, List, Result, Ok, Err}
-use Rattle.std.specs.Prelude.{IfErr, IsErr, IsErrAnd, OnOk}
-use Rattle.olap_base.specs.Refusing.{IsForMemory}
-use Rattle.olap_grammar.specs.Cutter.{CutsTo}
-use Rattle.olap_grammar.specs.Keeping.{Going, Kept}
-use Rattle.olap_grammar.specs.declared.cutting.Begun.{Begun}
-use Rattle.olap_base.specs.declared.refusals.Refusal.{Refusal}
-use Rattle.olap_base.specs.declared.refusals.Refusal.TheVariants as refusal
+use Rattle.std.{proofs.Common.{ℕ, List, Result, Ok, Err}, specs.Prelude.{IfErr, IsErr, IsErrAnd, OnOk}}
+use Rattle.olap_base.specs.{Refusing.IsForMemory, declared.refusals.Refusal.Refusal}
+use Rattle.olap_grammar.specs.{Cutter.CutsTo, Keeping.{Going, Kept}, declared.cutting.Begun.Begun}
 use Rattle.olap_grammar.specs.declared.refusals.NoTokens.{NoTokens}
+use Rattle.olap_base.specs.declared.refusals.Refusal.TheVariants as refusal
 use Rattle.olap_grammar.proofs.cutting.add.Goals as goal
 
 -- it lets the cutter go anywhere

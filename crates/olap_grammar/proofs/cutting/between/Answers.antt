@@ -1,8 +1,6 @@
 use Rattle.std.proofs.Common.{◌≡◌, ◌⊎◌, ℕ, inl, inr, refl, sym}
-use Rattle.olap_grammar.specs.Cutter.{kept_of}
+use Rattle.olap_grammar.specs.{Cutter.kept_of, Keeping.Kept, declared.tokens.Version.Version}
 use Rattle.olap_grammar.specs.Keeping as keeping
-use Rattle.olap_grammar.specs.Keeping.{Kept}
-use Rattle.olap_grammar.specs.declared.tokens.Version.{Version}
 use Rattle.olap_grammar.proofs.cutting.between.Goals as goal
 
 -- a tab or a space begins nothing
@@ -12,8 +10,7 @@ blank v k b (inr e) = rw e refl
 
 pub returns-then-is_word_byte : goal.returns-then-is_word_byte
 returns-then-is_word_byte c =
-    let h = rw c.clear.ensures.items at (c.push.ensures (kept_of c.args.tokens.now)) in
-    rw (sym c.if-is_word_byte.ensures) h
+    rw (sym c.if-is_word_byte.ensures) (rw c.clear.ensures.items at (c.push.ensures (kept_of c.args.tokens.now)))
 
 pub returns-in-32 : goal.returns-in-32
 returns-in-32 c = blank _ _ c.args.byte c.in-32.is

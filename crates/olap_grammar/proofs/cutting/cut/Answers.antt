@@ -1,9 +1,6 @@
-use Rattle.std.proofs.Common.{◌∙◌, ap, refl}
-use Rattle.std.specs.List.{fold}
-use Rattle.olap_grammar.specs.Cutter.{kept_of}
+use Rattle.std.{proofs.Common.{◌∙◌, ap, refl}, specs.List.fold}
+use Rattle.olap_grammar.{proofs.CutterLemmas.cut_fails, proofs.RoomLemmas.still_room, specs.Cutter.kept_of}
 use Rattle.olap_grammar.specs.Keeping.{kept_step}
-use Rattle.olap_grammar.proofs.CutterLemmas.{cut_fails}
-use Rattle.olap_grammar.proofs.RoomLemmas.{still_room}
 use Rattle.olap_grammar.proofs.cutting.cut.Goals as goal
 
 pub bytes-preserved : goal.bytes-preserved

@@ -1,9 +1,6 @@
 -- The state after the bytes so far goes on as the whole does, and has no more brackets than bytes.
-use Rattle.std.proofs.Common.{◌≡◌, ◌≤◌, ◌+◌, length}
-use Rattle.std.specs.List.{fold}
-use Rattle.olap_grammar.specs.Keeping.{kept_step, Between}
-use Rattle.olap_grammar.specs.Cutter.{cut_of, kept_of}
-use Rattle.olap_grammar.specs.Tallying.{brackets}
+use Rattle.std.{proofs.Common.{◌≡◌, ◌≤◌, ◌+◌, length}, specs.List.fold}
+use Rattle.olap_grammar.specs.{Cutter.{cut_of, kept_of}, Keeping.{kept_step, Between}, Tallying.brackets}
 use Rattle.olap_grammar.proofs.cutting.cut.Given as goal
 
 abbrev pub invariant-bytes : goal.invariant-bytes

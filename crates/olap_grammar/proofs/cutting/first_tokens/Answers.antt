@@ -1,11 +1,8 @@
 -- Nothing is kept before the first byte.
 use Rattle.std.proofs.Common.{◌≡◌, ℕ, List, [], false, refl}
-use Rattle.olap_grammar.specs.Cutter.{kept_of}
-use Rattle.olap_grammar.specs.Keeping.{nothing_kept}
-use Rattle.olap_grammar.specs.Tallying.{nothing_tallied}
-use Rattle.olap_grammar.specs.declared.tallying.Tally.{Tally}
+use Rattle.olap_grammar.{proofs.KeepingLemmas.{fails, found, same-most}, specs.Cutter.kept_of}
+use Rattle.olap_grammar.specs.{Keeping.nothing_kept, Tallying.nothing_tallied, declared.tallying.Tally.Tally}
 use Rattle.olap_grammar.specs.declared.tokens.Token.{Token}
-use Rattle.olap_grammar.proofs.KeepingLemmas.{fails, found, same-most}
 use Rattle.olap_grammar.proofs.cutting.first_tokens.Goals as goal
 
 begun : (most : ℕ) (ts : List Token) (y : Tally) → ts ≡ [] → y ≡ nothing_tallied

@@ -1,5 +1,4 @@
-use Rattle.olap_grammar.proofs.CutComplete.{cut_is_found}
-use Rattle.olap_grammar.proofs.CutSound.{found_is_cut}
+use Rattle.olap_grammar.proofs.{CutComplete.cut_is_found, CutSound.found_is_cut}
 use Rattle.olap_grammar.proofs.laws.tokens_are_found_as_cut.Goals as goal
 
 pub returns : goal.returns

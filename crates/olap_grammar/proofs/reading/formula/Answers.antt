@@ -1,13 +1,7 @@
-use Rattle.std.proofs.Common.{◌≡◌, ◌∙◌, sym, List}
-use Rattle.std.specs.Option.{option_map}
-use Rattle.olap_grammar.specs.Clip.{clip, clipped}
-use Rattle.olap_grammar.specs.Machine.{formula_read, the_formula}
-use Rattle.olap_grammar.specs.Reader.{leaves_of}
-use Rattle.olap_grammar.specs.Words.{atoms_of}
-use Rattle.olap_grammar.specs.declared.tokens.Token.{Token}
-use Rattle.olap_grammar.specs.declared.tokens.Version.{Version}
-use Rattle.olap_grammar.proofs.Hom.{reads_clipped}
-use Rattle.olap_grammar.proofs.LeafLemmas.{atoms_are_leaves, not_deep, refused, too_deep}
+use Rattle.std.{proofs.Common.{◌≡◌, ◌∙◌, sym, List}, specs.Option.option_map}
+use Rattle.olap_grammar.proofs.{Hom.reads_clipped, LeafLemmas.{atoms_are_leaves, not_deep, refused, too_deep}}
+use Rattle.olap_grammar.specs.{Clip.{clip, clipped}, Machine.{formula_read, the_formula}, Reader.leaves_of}
+use Rattle.olap_grammar.specs.{Words.atoms_of, declared.tokens.Token.Token, declared.tokens.Version.Version}
 use Rattle.olap_grammar.proofs.reading.formula.Goals as goal
 
 -- the reader that builds no deeper tree reads along

@@ -1,10 +1,6 @@
 -- The state after the tokens so far goes on as the whole does.
-use Rattle.std.proofs.Common.{◌≡◌, length, []}
-use Rattle.std.specs.List.{fold}
-use Rattle.olap_grammar.specs.Clip.{clipped}
-use Rattle.olap_grammar.specs.Frames.{frames}
-use Rattle.olap_grammar.specs.Machine.{step, Wants}
-use Rattle.olap_grammar.specs.Parts.{part_of}
+use Rattle.std.{proofs.Common.{◌≡◌, length, []}, specs.List.fold}
+use Rattle.olap_grammar.specs.{Clip.clipped, Frames.frames, Machine.{step, Wants}, Parts.part_of}
 use Rattle.olap_grammar.specs.Reader.{leaves_of, state_of}
 use Rattle.olap_grammar.proofs.reading.read_tokens.Given as goal
 

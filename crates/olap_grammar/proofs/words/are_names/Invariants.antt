@@ -1,8 +1,6 @@
 -- The parts so far are names.
-use Rattle.std.proofs.Common.{◌≡◌}
-use Rattle.std.specs.List.{list_all}
-use Rattle.olap_base.proofs.PiecesLeft.{size_left}
-use Rattle.olap_base.specs.Reaching.{is_category_name}
+use Rattle.std.{proofs.Common.◌≡◌, specs.List.list_all}
+use Rattle.olap_base.{proofs.PiecesLeft.size_left, specs.Reaching.is_category_name}
 use Rattle.olap_grammar.specs.Words.{pieces_behind, pieces_of}
 use Rattle.olap_grammar.proofs.words.are_names.Given as goal
 

@@ -1,15 +1,13 @@
 -- A part ends at the first mark, or with the word.
 use Rattle.std.proofs.Common.{◌==◌, ◌+◌, ◌∙◌, sym}
-use Rattle.olap_base.proofs.ListLemmas.{rest_is}
+use Rattle.olap_base.proofs.{ListLemmas.rest_is, PiecesLeft.{split-none, split-some}}
 use Rattle.olap_grammar.specs.Words.{pieces_of}
-use Rattle.olap_base.proofs.PiecesLeft.{split-none, split-some}
 use Rattle.olap_grammar.proofs.words.first_piece.Goals as goal
 
 pub returns-in-Some-clause-pieces : goal.returns-in-Some-clause-pieces
 unfolding pieces_of
 returns-in-Some-clause-pieces c =
-    let cut = (split-some (λ b. b == c.args.mark) text end (sym c.place.ensures ∙ c.in-Some.is)).0 in
-    rw (rest_is (end + 1) text) cut
+    rw (rest_is (end + 1) text) ((split-some (λ b. b == c.args.mark) text end (sym c.place.ensures ∙ c.in-Some.is)).0)
   where
     open c use {args.text.now as text, in-Some.end}
 

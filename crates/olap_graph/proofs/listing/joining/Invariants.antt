@@ -1,7 +1,5 @@
-use Rattle.std.proofs.Common.{◌≡◌, drop, map}
-use Rattle.std.specs.List.{position_from}
-use Rattle.olap_graph.specs.Lookups.{joins}
-use Rattle.olap_graph.specs.Listing.{edge_of}
+use Rattle.std.{proofs.Common.{◌≡◌, drop, map}, specs.List.position_from}
+use Rattle.olap_graph.specs.{Listing.edge_of, Lookups.joins}
 use Rattle.olap_graph.proofs.listing.joining.Given as goal
 
 -- no edge so far has the ends sought

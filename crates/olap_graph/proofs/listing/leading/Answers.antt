@@ -1,9 +1,7 @@
 use Rattle.std.proofs.Common.{◌≢◌, get_or, refl, sym, ◌∙◌, below_more, arith}
 use Rattle.std.proofs.lemmas.List.{get_or_default, length-map}
-use Rattle.olap_graph.specs.Lookups.{edge_at}
-use Rattle.olap_graph.specs.Marking.{parents_of}
+use Rattle.olap_graph.{proofs.TableLemmas.{nowhere, parent_read}, specs.Lookups.edge_at, specs.Marking.parents_of}
 use Rattle.olap_graph.specs.Tables.{drawn}
-use Rattle.olap_graph.proofs.TableLemmas.{nowhere, parent_read}
 use Rattle.olap_graph.proofs.listing.leading.Goals as goal
 
 pub loop-e-preserved : goal.loop-e-preserved

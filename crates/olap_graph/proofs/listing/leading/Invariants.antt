@@ -1,6 +1,5 @@
 use Rattle.std.proofs.Common.{◌≢◌, ◌<◌, ℕ, get_or}
-use Rattle.olap_graph.specs.Tables.{drawn}
-use Rattle.olap_graph.specs.Marking.{parents_of}
+use Rattle.olap_graph.specs.{Marking.parents_of, Tables.drawn}
 use Rattle.olap_graph.proofs.listing.leading.Given as goal
 
 -- no edge so far leads to the parent

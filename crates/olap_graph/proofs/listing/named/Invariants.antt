@@ -1,6 +1,4 @@
-use Rattle.std.proofs.Common.{◌≡◌, drop}
-use Rattle.std.specs.List.{position_from}
-use Rattle.std.specs.Str.{bytes_eq}
+use Rattle.std.{proofs.Common.{◌≡◌, drop}, specs.List.position_from, specs.Str.bytes_eq}
 use Rattle.olap_graph.proofs.listing.named.Given as goal
 
 -- no name so far is the one sought

@@ -1,6 +1,5 @@
 use Rattle.std.proofs.Common.{length, arith}
-use Rattle.olap_graph.specs.Rows.{Has}
-use Rattle.olap_graph.proofs.RowLemmas.{through_start, through_more, through_end}
+use Rattle.olap_graph.{proofs.RowLemmas.{through_start, through_more, through_end}, specs.Rows.Has}
 use Rattle.olap_graph.proofs.reaching.close.Goals as goal
 
 pub through-init : goal.through-init

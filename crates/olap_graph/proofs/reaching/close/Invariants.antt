@@ -1,6 +1,5 @@
 use Rattle.std.proofs.Common.{length}
-use Rattle.olap_graph.specs.Rows.{Has}
-use Rattle.olap_graph.proofs.RowLemmas.{IsThrough}
+use Rattle.olap_graph.{proofs.RowLemmas.IsThrough, specs.Rows.Has}
 use Rattle.olap_graph.proofs.reaching.close.Given as goal
 
 -- the sets have those to which steps by way of the categories so far lead

@@ -1,6 +1,5 @@
 use Rattle.std.proofs.Common.{◌≡◌, length}
-use Rattle.olap_graph.specs.Rows.{AreDrawn}
-use Rattle.olap_graph.specs.Tables.{drawn}
+use Rattle.olap_graph.specs.{Rows.AreDrawn, Tables.drawn}
 use Rattle.olap_graph.proofs.reaching.draw.Given as goal
 
 -- the edges so far are drawn

@@ -1,5 +1,4 @@
-use Rattle.std.proofs.Common.{◌∙◌, arith}
-use Rattle.std.proofs.Math.ListN.{length-set}
+use Rattle.std.proofs.{Common.{◌∙◌, arith}, Math.ListN.length-set}
 use Rattle.olap_graph.proofs.RowLemmas.{own_more}
 use Rattle.olap_graph.proofs.reaching.isolate.Goals as goal
 

@@ -1,6 +1,5 @@
 use Rattle.std.proofs.Common.{length, inl, refl, subst, sym, ◌∙◌}
-use Rattle.olap_graph.specs.Tables.{LiesWithin, drawn}
-use Rattle.olap_graph.proofs.RowLemmas.{reached_by_closure}
+use Rattle.olap_graph.{proofs.RowLemmas.reached_by_closure, specs.Tables.{LiesWithin, drawn}}
 use Rattle.olap_graph.proofs.reaching.reach.Goals as goal
 
 pub draw-requires-clause-within : goal.draw-requires-clause-within

@@ -1,7 +1,6 @@
 use Rattle.std.proofs.Common.{ap, ◌∙◌, arith}
+use Rattle.olap_graph.{proofs.RowLemmas.row_read, specs.Rows.row}
 use Rattle.std.specs.FinSet as set
-use Rattle.olap_graph.proofs.RowLemmas.{row_read}
-use Rattle.olap_graph.specs.Rows.{row}
 use Rattle.olap_graph.proofs.reaching.row_has.Goals as goal
 
 pub returns : goal.returns

@@ -1,11 +1,8 @@
 use Rattle.std.proofs.Common.{◌≡◌, ◌≢◌, ◌↔◌, ◌<◌, ℕ, zero, suc, List, [], ◌∷◌, Bool, get_or, get_or-set_other, set, subst, length, false, true, length-set, refl, sym, ap, ◌∙◌, arith}
-use Rattle.std.proofs.Math.ListN.{replicate}
-use Rattle.std.proofs.lemmas.List.{get_or-replicate, length-map}
+use Rattle.std.proofs.{Math.ListN.replicate, lemmas.List.{get_or-replicate, length-map}}
 use Rattle.olap_base.specs.Graph.{Edge, Graph}
-use Rattle.olap_graph.specs.Listing.{edge_of}
-use Rattle.olap_graph.specs.Lookups.{edge_at}
-use Rattle.olap_graph.specs.Tables.{IsMarked, drawn}
 use Rattle.olap_graph.proofs.TableLemmas.{edge_at-drawn, has_edge_at, bottoms_step, bottoms_done}
+use Rattle.olap_graph.specs.{Listing.edge_of, Lookups.edge_at, Tables.{IsMarked, drawn}}
 use Rattle.olap_graph.proofs.tables.bottoms.Goals as goal
 
 -- the mark of `All` is taken away

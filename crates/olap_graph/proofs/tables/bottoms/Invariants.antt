@@ -1,6 +1,5 @@
 use Rattle.std.proofs.Common.{◌≡◌, ◌≢◌, ◌↔◌, ◌<◌, ℕ, length}
-use Rattle.olap_graph.specs.Lookups.{edge_at}
-use Rattle.olap_graph.specs.Tables.{drawn, IsMarked}
+use Rattle.olap_graph.specs.{Lookups.edge_at, Tables.{drawn, IsMarked}}
 use Rattle.olap_graph.proofs.tables.bottoms.Given as goal
 
 -- marked are the categories but `All` that are the parent of no edge so far

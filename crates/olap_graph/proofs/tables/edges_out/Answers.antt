@@ -1,28 +1,18 @@
-use Rattle.std.proofs.Common.{◌≡◌, ◌+◌, ◌==◌, List, length, map, refl, ap, sym, subst, ◌∙◌, arith}
-use Rattle.std.proofs.lemmas.List.{length-map}
-use Rattle.std.specs.Prelude.{filter}
-use Rattle.std.specs.List.{range_with_len}
+use Rattle.std.proofs.{Common.{◌≡◌, length, map, refl, ap, ◌∙◌, arith}, lemmas.List.length-map}
 use Rattle.olap_base.specs.declared.ids.EdgeId.{EdgeId}
-use Rattle.olap_graph.specs.Listing.{edge_of}
-use Rattle.olap_graph.specs.Lookups.{edge_at}
-use Rattle.olap_graph.specs.Tables.{drawn}
 use Rattle.olap_graph.proofs.TableLemmas.{out_push, out_skip}
+use Rattle.olap_graph.{proofs.tables.edges_out.Goals.{then-edges-i+in_ok-push, else-edges-i}, specs.Listing.edge_of}
+use Rattle.olap_graph.specs.Tables.{drawn}
 use Rattle.olap_graph.proofs.tables.edges_out.Goals as goal
-use Rattle.olap_graph.proofs.tables.edges_out.Goals.{then-edges-i+in_ok-push, else-edges-i}
 
 pub loop-i-preserved : goal.loop-i-preserved
-loop-i-preserved c =
-    let Goal : List EdgeId → Type 0 =
-    λ es. map (λ e. e.0) es ≡ filter (λ j. (edge_at (drawn ends) j).child == x) (range_with_len 0 (i + 1)) in
-    elim c.if-edges-i.branch [
-      | then-edges-i+in_ok-push w ↦
-          let e : EdgeId = record { 0 = i } in
-          out_push ends x i out c.if-edges-i.out.items e c.loop-i-test.true w.if-edges-i.true refl
-          (ap (λ v. v.items) w.out-is ∙ w.in_ok-push.ensures.items) c.loop-i.invariant
-      | else-edges-i w ↦
-          subst Goal (sym (ap (λ v. v.items) w.out-is))
-          (out_skip ends x i out c.loop-i-test.true w.if-edges-i.false c.loop-i.invariant)
-    ]
+loop-i-preserved c = elim c.if-edges-i.branch [
+  | then-edges-i+in_ok-push w ↦
+      out_push ends x i out c.if-edges-i.out.items (record { 0 = i }) c.loop-i-test.true w.if-edges-i.true refl
+      (ap (λ v. v.items) w.out-is ∙ w.in_ok-push.ensures.items) c.loop-i.invariant
+  | else-edges-i w ↦
+      rw (ap (λ v. v.items) w.out-is) (out_skip ends x i out c.loop-i-test.true w.if-edges-i.false c.loop-i.invariant)
+]
   where
     open c use {args.edges.now as ends, args.category as x, loop-i.i, loop-i.out.items as out}
 
@@ -34,6 +24,5 @@ returns c =
     let ends = c.args.edges.now in
     let all : c.loop-i.i ≡ length (drawn ends).edges = let l = length-map ends edge_of in let h = c.loop-i-test.false in
     let e = c.loop-i.auto in omega arith in
-    ap (map (λ (e : EdgeId). e.0)) c.from_vec.ensures
-    ∙ subst (λ n. map (λ e. e.0) c.loop-i.out.items
-    ≡ filter (λ j. (edge_at (drawn ends) j).child == c.args.category) (range_with_len 0 n)) all c.loop-i.invariant
+    let m = rw all at c.loop-i.invariant in
+    ap (map (λ (e : EdgeId). e.0)) c.from_vec.ensures ∙ m

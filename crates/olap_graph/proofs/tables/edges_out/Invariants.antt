@@ -1,8 +1,5 @@
-use Rattle.std.proofs.Common.{◌≡◌, map, ◌==◌}
-use Rattle.std.specs.Prelude.{filter}
-use Rattle.std.specs.List.{range_with_len}
-use Rattle.olap_graph.specs.Lookups.{edge_at}
-use Rattle.olap_graph.specs.Tables.{drawn}
+use Rattle.std.{proofs.Common.{◌≡◌, map, ◌==◌}, specs.List.range_with_len, specs.Prelude.filter}
+use Rattle.olap_graph.specs.{Lookups.edge_at, Tables.drawn}
 use Rattle.olap_graph.proofs.tables.edges_out.Given as goal
 
 -- the edges out of the category so far

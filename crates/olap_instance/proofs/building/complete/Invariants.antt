@@ -1,7 +1,5 @@
 use Rattle.std.proofs.Common.{◌≡◌, map, take}
-use Rattle.olap_instance.specs.DraftInside.{parents_told}
-use Rattle.olap_instance.specs.Drafts.{places_of}
-use Rattle.olap_instance.specs.Passes.{parents_in}
+use Rattle.olap_instance.specs.{DraftInside.parents_told, Drafts.places_of, Passes.parents_in}
 use Rattle.olap_instance.proofs.building.complete.Given as goal
 
 abbrev pub invariant-lists : goal.invariant-lists

@@ -1,6 +1,5 @@
 use Rattle.std.proofs.Common.{rules}
-use Rattle.olap_instance.specs.DraftInside.{number_of}
-use Rattle.olap_instance.proofs.Among.{among, same-parent}
+use Rattle.olap_instance.{proofs.Among.{among, same-parent}, specs.DraftInside.number_of}
 use Rattle.olap_instance.proofs.building.is_among.Goals as goal
 
 pub returns : goal.returns

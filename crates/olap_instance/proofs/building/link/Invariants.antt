@@ -1,8 +1,6 @@
 use Rattle.std.proofs.Common.{◌≡◌, ◌++◌, ◌∷◌, [], List, map, take}
 use Rattle.olap_base.specs.declared.ids.MemberId.{MemberId}
-use Rattle.olap_instance.specs.DraftInside.{number_of}
-use Rattle.olap_instance.specs.Drafts.{places_of}
-use Rattle.olap_instance.specs.Passes.{numbers_of}
+use Rattle.olap_instance.specs.{DraftInside.number_of, Drafts.places_of, Passes.numbers_of}
 use Rattle.olap_instance.proofs.building.link.Given as goal
 
 abbrev pub invariant-parents : goal.invariant-parents

@@ -1,9 +1,7 @@
 use Rattle.std.proofs.Common.{◌≡◌, ◌<◌, ℕ, List, None, codes, length, map}
-use Rattle.olap_base.specs.Limits.{most_members}
-use Rattle.olap_base.specs.Naming.{place_of}
+use Rattle.olap_base.specs.{Limits.most_members, Naming.place_of}
 use Rattle.olap_records.proofs.Seeing.{HasSeen}
-use Rattle.olap_instance.specs.InstanceText.{member_fault, member_read, parents_field}
-use Rattle.olap_instance.specs.Passes.{ids_in}
+use Rattle.olap_instance.specs.{InstanceText.{member_fault, member_read, parents_field}, Passes.ids_in}
 use Rattle.olap_instance.proofs.entering.enter_rows.Given as goal
 
 abbrev pub invariant-rows : goal.invariant-rows

@@ -1,6 +1,5 @@
 -- The number has the bytes so far.
-use Rattle.std.proofs.Common.{◌≡◌, take}
-use Rattle.std.specs.List.{fold}
+use Rattle.std.{proofs.Common.{◌≡◌, take}, specs.List.fold}
 use Rattle.olap_instance.specs.Hashing.{with_byte}
 use Rattle.olap_instance.proofs.hashing.with_rest.Given as goal
 

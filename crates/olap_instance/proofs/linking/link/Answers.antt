@@ -2,12 +2,11 @@
 use Rattle.std.proofs.Common.{◌≡◌, ◌+◌, ◌++◌, ◌∷◌, ◌∙◌, [], ap, refl, rules, arith}
 use Rattle.std.proofs.lemmas.List.{length-set, map-append}
 use Rattle.olap_records.proofs.Seeing.{see-more, see-none}
+use Rattle.olap_instance.proofs.{LinkingLemmas.parents-more, PiecesPassed.{passed-all, places-more}}
+use Rattle.olap_instance.proofs.Stamps.{below-higher, below-more, stamped-more, stamped-none}
 use Rattle.olap_instance.specs.InstanceText.{piece_fault, pieces_of}
 use Rattle.olap_instance.specs.Passes.{AreBelow, ids_in, numbers_of, pieces_left}
 use Rattle.olap_base.proofs.PiecesLeft.{smaller}
-use Rattle.olap_instance.proofs.LinkingLemmas.{parents-more}
-use Rattle.olap_instance.proofs.PiecesPassed.{passed-all, places-more}
-use Rattle.olap_instance.proofs.Stamps.{below-higher, below-more, stamped-more, stamped-none}
 use Rattle.olap_instance.proofs.linking.link.Goals as goal
 
 pub pieces-smaller : goal.pieces-smaller

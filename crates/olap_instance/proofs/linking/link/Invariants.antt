@@ -1,11 +1,9 @@
 -- The pieces so far name members, whose stamps are set.
 use Rattle.std.proofs.Common.{◌≡◌, ◌+◌, ◌++◌, ◌∷◌, [], List, ℕ, Some, length, map}
-use Rattle.olap_base.specs.Naming.{place_of}
-use Rattle.olap_base.specs.declared.ids.MemberId.{MemberId}
+use Rattle.olap_base.{proofs.PiecesLeft.size_left, specs.Naming.place_of, specs.declared.ids.MemberId.MemberId}
 use Rattle.olap_records.proofs.Seeing.{HasSeen}
 use Rattle.olap_instance.specs.InstanceText.{piece_fault, pieces_of}
 use Rattle.olap_instance.specs.Passes.{AreBelow, AreStamped, ids_in, numbers_of, pieces_left}
-use Rattle.olap_base.proofs.PiecesLeft.{size_left}
 use Rattle.olap_instance.proofs.linking.link.Given as goal
 
 abbrev pub invariant-pieces : goal.invariant-pieces

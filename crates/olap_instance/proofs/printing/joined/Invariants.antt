@@ -1,7 +1,5 @@
-use Rattle.std.proofs.Common.{◌≡◌, map, take}
-use Rattle.std.specs.List.{join_with_byte}
-use Rattle.olap_base.specs.Bytes.{semicolon}
-use Rattle.olap_base.specs.Instance.{member_at}
+use Rattle.std.{proofs.Common.{◌≡◌, map, take}, specs.List.join_with_byte}
+use Rattle.olap_base.specs.{Bytes.semicolon, Instance.member_at}
 use Rattle.olap_instance.proofs.printing.joined.Given as goal
 
 abbrev pub invariant-members : goal.invariant-members

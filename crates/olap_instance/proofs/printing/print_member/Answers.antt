@@ -1,15 +1,11 @@
-use Rattle.std.proofs.Common.{◌∙◌, ap, length}
-use Rattle.std.specs.List.{join_with_byte}
-use Rattle.olap_base.specs.Bytes.{semicolon}
-use Rattle.olap_base.specs.Instance.{member_at, parents_of}
+use Rattle.std.{proofs.Common.{◌∙◌, ap}, specs.List.join_with_byte}
+use Rattle.olap_base.specs.{Bytes.semicolon, Instance.member_at}
 use Rattle.olap_graph.specs.Lookups.{name_of_category}
 use Rattle.olap_instance.proofs.PrintingLemmas.{inside-all, parents-named, row-same, same-fields}
 use Rattle.olap_instance.proofs.printing.print_member.Goals as goal
 
 pub joined-requires : goal.joined-requires
-joined-requires c =
-    inside-all (length c.args.instance.now) c.parents.result.now (parents_of c.args.instance.now c.args.m.0)
-    c.parents.ensures.list c.parents.ensures.places
+joined-requires c = search inside-all
 
 pub returns-clause-text : goal.returns-clause-text
 returns-clause-text c =

@@ -1,7 +1,5 @@
 use Rattle.std.proofs.Common.{◌<◌, length, arith}
-use Rattle.olap_instance.specs.InstanceText.{header}
-use Rattle.olap_instance.specs.Printing.{member_fields}
-use Rattle.olap_instance.proofs.PrintingLemmas.{rows-more}
+use Rattle.olap_instance.{proofs.PrintingLemmas.rows-more, specs.InstanceText.header, specs.Printing.member_fields}
 use Rattle.olap_instance.proofs.printing.printed.Goals as goal
 
 pub others-preserved : goal.others-preserved

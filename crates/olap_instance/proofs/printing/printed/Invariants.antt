@@ -1,7 +1,6 @@
 use Rattle.std.proofs.Common.{◌≡◌, ◌∷◌, map, take}
 use Rattle.olap_records.specs.Texts.{text_of_rows}
-use Rattle.olap_instance.specs.InstanceText.{header}
-use Rattle.olap_instance.specs.Printing.{member_fields}
+use Rattle.olap_instance.specs.{InstanceText.header, Printing.member_fields}
 use Rattle.olap_instance.proofs.printing.printed.Given as goal
 
 abbrev pub invariant-others : goal.invariant-others

@@ -1,11 +1,8 @@
 use Rattle.std.proofs.Common.{[], Ok, drop, sym, ap, refl, rules}
 use Rattle.olap_records.specs.Records.{records_of}
-use Rattle.olap_instance.specs.InstanceText.{instance_read}
-use Rattle.olap_instance.specs.Passes.{ids_in, parents_in}
+use Rattle.olap_instance.proofs.{LinkingLemmas.parents-more, Refusing.refused-second, Soundness.{ids-whole, is-read}}
+use Rattle.olap_instance.specs.{InstanceText.instance_read, Passes.{ids_in, parents_in}}
 use Rattle.olap_base.specs.Refusing.{IsRefusedBy}
-use Rattle.olap_instance.proofs.LinkingLemmas.{parents-more}
-use Rattle.olap_instance.proofs.Refusing.{refused-second}
-use Rattle.olap_instance.proofs.Soundness.{ids-whole, is-read}
 use Rattle.olap_instance.proofs.reading.read_parts.Goals as goal
 
 pub returns-in_err-link_all-clause-read : goal.returns-in_err-link_all-clause-read

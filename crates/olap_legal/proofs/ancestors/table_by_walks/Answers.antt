@@ -1,9 +1,7 @@
 -- A row more, or the first member without one.
 use Rattle.std.proofs.Common.{◌≡◌, ◌<◌, length, ap, sym, subst, ◌∙◌, arith}
-use Rattle.olap_legal.specs.Rows.{IsBounded, IsRise}
-use Rattle.olap_legal.specs.Tables.{IsTable}
-use Rattle.olap_legal.proofs.JoiningLemmas.{row_fits}
-use Rattle.olap_legal.proofs.TableLemmas.{table_start, table_step, first_split}
+use Rattle.olap_legal.proofs.{JoiningLemmas.row_fits, TableLemmas.{table_start, table_step, first_split}}
+use Rattle.olap_legal.specs.Rows.{IsBounded}
 use Rattle.olap_legal.proofs.ancestors.table_by_walks.Goals as goal
 
 pub members-init : goal.members-init
@@ -32,25 +30,20 @@ put-requires-clause-row c =
 
 pub put-requires-clause-fits : goal.put-requires-clause-fits
 put-requires-clause-fits c =
-    let count = c.members-x-end.ensures.count in
-    let inside : x < length i = omega (arith, count, c.members-test.true) in
-    let whole = c.in_ok-rise.ensures.whole c.if-not-branch.false in
-    let rise = subst (λ k. IsRise i k x c.rise.new.row.items) v.row whole in
-    row_fits v.table.laid inside (subst (λ l. IsRise i n x l) (sym c.deref.ensures.value) rise)
+    let inside : x < length i = omega (arith, c.members-x-end.ensures.count, c.members-test.true) in
+    row_fits v.table.laid inside
+    (rw c.deref.ensures.value (rw v.row at c.in_ok-rise.ensures.whole c.if-not-branch.false))
   where
-    open c use {args.instance.now as i, args.categories as n, members.x, members.invariant as v}
+    open c use {args.instance.now as i, members.x, members.invariant as v}
 
 pub members-preserved : goal.members-preserved
 members-preserved c =
-    let count = c.members-x-end.ensures.count in
-    let inside : x < length i = omega (arith, count, c.members-test.true) in
-    let whole = c.in_ok-rise.ensures.whole c.if-not-branch.false in
-    let rise = subst (λ k. IsRise i k x c.rise.new.row.items) v.row whole in
-    let row = subst (λ l. IsRise i n x l) (sym c.deref.ensures.value) rise in
+    let inside : x < length i = omega (arith, c.members-x-end.ensures.count, c.members-test.true) in
+    let rise = rw v.row at c.in_ok-rise.ensures.whole c.if-not-branch.false in
     record {
-      table = table_step i n x c.members.table c.put.new.self c.deref.result.now c.requires.bounded inside v.table row
-          put.laid put.here put.others;
-      row = let s = rise.same_length in let o = c.rise.new.row.ok in omega arith;
+      table = table_step i n x c.members.table c.put.new.self c.deref.result.now c.requires.bounded inside v.table
+          (rw c.deref.ensures.value rise) put.laid put.here put.others;
+      row = omega (arith, rise.same_length, c.rise.new.row.ok);
     }
   where
     open c use {args.instance.now as i, args.categories as n, members.x, members.invariant as v, put.ensures as put}
@@ -65,7 +58,7 @@ returns-then-not-branch-clause-err c =
 
 pub returns-clause-ok : goal.returns-clause-ok
 returns-clause-ok c =
-    let i = c.args.instance.now in
     let count = c.members-x-end.ensures.count in
-    let all : c.members.x ≡ length i = omega (arith, count, c.members-test.false, c.members.auto.x-end) in
-    subst (λ k. IsTable i c.args.categories k c.members.table) all c.members.invariant.table
+    let all : c.members.x ≡ length c.args.instance.now =
+    omega (arith, count, c.members-test.false, c.members.auto.x-end) in
+    rw all at c.members.invariant.table

@@ -1,6 +1,5 @@
 -- The rows of the members so far.
-use Rattle.std.proofs.Common.{◌≡◌}
-use Rattle.std.specs.Prelude.{vec_len}
+use Rattle.std.{proofs.Common.◌≡◌, specs.Prelude.vec_len}
 use Rattle.olap_legal.specs.Tables.{IsTable}
 use Rattle.olap_legal.proofs.ancestors.table_by_walks.Given as goal
 

@@ -1,7 +1,6 @@
 -- A listed member waits for those above it, or gets its row.
 use Rattle.std.proofs.Common.{arith}
-use Rattle.olap_legal.proofs.JoiningLemmas.{listed_rest}
-use Rattle.olap_legal.proofs.ParentLemmas.{taken, taken_fewer}
+use Rattle.olap_legal.proofs.{JoiningLemmas.listed_rest, ParentLemmas.{taken, taken_fewer}}
 use Rattle.olap_legal.proofs.joining.climb.Goals as goal
 
 pub is_ready-requires-clause-z : goal.is_ready-requires-clause-z

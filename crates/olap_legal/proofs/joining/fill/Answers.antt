@@ -1,6 +1,5 @@
 -- Nothing is listed or marked at first; a member is listed before those above it.
-use Rattle.std.proofs.Common.{◌<◌, false, length, ap, ◌∙◌, arith}
-use Rattle.std.proofs.lemmas.List.{length-replicate}
+use Rattle.std.proofs.{Common.{◌<◌, false, length, ap, ◌∙◌, arith}, lemmas.List.length-replicate}
 use Rattle.olap_legal.proofs.JoiningLemmas.{listed_none, listed_push}
 use Rattle.olap_legal.proofs.joining.fill.Goals as goal
 

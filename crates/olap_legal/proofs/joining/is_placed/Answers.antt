@@ -1,8 +1,6 @@
 -- Whoever stands in the place of its own category has its row.
-use Rattle.std.proofs.Common.{◌≡◌, ◌<◌, ap, sym, subst, ◌∙◌, arith}
-use Rattle.std.proofs.lemmas.Bool.Decides.{nat_tests}
-use Rattle.olap_legal.specs.Laying.{cell}
-use Rattle.olap_legal.specs.Rows.{none}
+use Rattle.std.proofs.{Common.{◌≡◌, ◌<◌, ap, sym, subst, ◌∙◌, arith}, lemmas.Bool.Decides.nat_tests}
+use Rattle.olap_legal.specs.{Laying.cell, Rows.none}
 use Rattle.olap_legal.proofs.joining.is_placed.Goals as goal
 
 pub get-requires-clause-d : goal.get-requires-clause-d

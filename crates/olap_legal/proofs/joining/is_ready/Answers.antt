@@ -1,8 +1,7 @@
 -- Parents are marked as they are listed.
 use Rattle.std.proofs.Common.{◌≡◌, ◌+◌, ◌<◌, ◌≤◌, length, subst, sym, ◌∙◌, arith}
-use Rattle.olap_legal.specs.Joining.{AreMembers, left}
 use Rattle.olap_legal.proofs.JoiningLemmas.{listed_first, listed_more, listed_push, ready_fewer, waiting_fewer}
-use Rattle.olap_legal.proofs.MarkingLemmas.{whole_marking}
+use Rattle.olap_legal.{proofs.MarkingLemmas.whole_marking, specs.Joining.{AreMembers, left}}
 use Rattle.olap_legal.proofs.joining.is_ready.Goals as goal
 
 pub returns-then-len-before-clause-seen : goal.returns-then-len-before-clause-seen

@@ -1,10 +1,9 @@
 -- A parent more, and in the end z itself.
 use Rattle.std.proofs.Common.{◌≡◌, get_or, set, replicate, subst, sym, ◌∙◌, arith}
 use Rattle.olap_base.specs.Instance.{parents_of}
-use Rattle.olap_legal.specs.Joining.{AreJoined}
-use Rattle.olap_legal.specs.Rows.{none, IsRise}
 use Rattle.olap_legal.proofs.JoiningLemmas.{joined_none, joined_more, joined_rise, row_join}
-use Rattle.olap_legal.proofs.ParentLemmas.{parent_at, parent_member, take_read}
+use Rattle.olap_legal.{proofs.ParentLemmas.{parent_at, parent_member, take_read}, specs.Joining.AreJoined}
+use Rattle.olap_legal.specs.Rows.{none, IsRise}
 use Rattle.olap_legal.proofs.joining.rise_from.Goals as goal
 
 pub parents-init : goal.parents-init
@@ -16,22 +15,19 @@ parents-init c = record {
 
 pub is_placed-requires-clause-x : goal.is_placed-requires-clause-x
 is_placed-requires-clause-x c =
+    let ids = c.parents-p-items in
     parent_member
-    (parent_at i c.args.z ids.result.now c.parents.p-index ids.ensures.list ids.ensures.places c.parents-test.true)
-  where
-    open c use {parents-p-items as ids, args.instance.now as i}
+    (parent_at c.args.instance.now c.args.z _ _ ids.ensures.list ids.ensures.places c.parents-test.true)
 
 pub join-requires-clause-x : goal.join-requires-clause-x
 join-requires-clause-x c =
+    let ids = c.parents-p-items in
     parent_member
-    (parent_at i c.args.z ids.result.now c.parents.p-index ids.ensures.list ids.ensures.places c.parents-test.true)
-  where
-    open c use {parents-p-items as ids, args.instance.now as i}
+    (parent_at c.args.instance.now c.args.z _ _ ids.ensures.list ids.ensures.places c.parents-test.true)
 
 pub parents-preserved : goal.parents-preserved
 parents-preserved c =
-    let at = parent_at i c.args.z ids.result.now c.parents.p-index ids.ensures.list ids.ensures.places
-    c.parents-test.true in
+    let at = parent_at i c.args.z _ _ ids.ensures.list ids.ensures.places c.parents-test.true in
     let has = c.is_placed.ensures c.if-not-is_placed.false in
     let above = subst (λ y. IsRise i n y has.row) at.is has.rise in
     let j = row_join has v.size c.join.ensures.length (c.join.ensures.each c.if-not-join.false) in

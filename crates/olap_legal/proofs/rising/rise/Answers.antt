@@ -1,13 +1,10 @@
 -- The walk ends with all places filled, or at two members of one category.
 use Rattle.std.proofs.Common.{◌≡◌, [], ◌∷◌, ◌++◌, length, replicate, ap, sym, subst, ◌∙◌, arith, set}
-use Rattle.std.specs.Prelude.{vec_len}
-use Rattle.std.proofs.Math.ListN.{length-set}
-use Rattle.std.proofs.lemmas.List.{length-replicate}
+use Rattle.std.{proofs.Math.ListN.length-set, proofs.lemmas.List.length-replicate, specs.Prelude.vec_len}
 use Rattle.olap_base.specs.Instance.{category_of}
 use Rattle.olap_graph.proofs.MarkLemmas.{no_items, none_case}
-use Rattle.olap_legal.specs.Rows.{IsFrontier, IsRise, none}
-use Rattle.olap_legal.proofs.ParentLemmas.{taken, taken_fewer}
 use Rattle.olap_legal.proofs.FrontierLemmas.{frontier_start, frontier_next, frontier_splits, frontier_done}
+use Rattle.olap_legal.{proofs.ParentLemmas.{taken, taken_fewer}, specs.Rows.{IsFrontier, IsRise, none}}
 use Rattle.olap_legal.proofs.rising.rise.Goals as goal
 
 pub listed-init : goal.listed-init

@@ -1,6 +1,5 @@
 -- The places are those of the members reached so far. A place that is filled is used up.
-use Rattle.std.proofs.Common.{◌+◌, ◌≡◌, length}
-use Rattle.std.specs.Prelude.{vec_len}
+use Rattle.std.{proofs.Common.{◌+◌, ◌≡◌, length}, specs.Prelude.vec_len}
 use Rattle.olap_legal.specs.Rows.{IsFrontier, free_count}
 use Rattle.olap_legal.proofs.rising.rise.Given as goal
 

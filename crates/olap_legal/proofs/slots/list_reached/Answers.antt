@@ -1,7 +1,6 @@
 -- A category is reached, and has a slot, or has none.
-use Rattle.std.proofs.Common.{◌+◌, set, arith, refl, subst, sym, ◌∙◌, true≢false, get_or-set_other}
+use Rattle.std.proofs.Common.{◌+◌, arith, refl, sym, ◌∙◌, true≢false, get_or-set_other}
 use Rattle.olap_base.specs.Graph.{CategoryReaches}
-use Rattle.olap_legal.specs.Slots.{IsListing}
 use Rattle.olap_legal.proofs.SlotLemmas.{listing_more, listing_none, listing_skip}
 use Rattle.olap_legal.proofs.slots.list_reached.Goals as goal
 
@@ -25,13 +24,10 @@ categories-preserved c =
     let more = listing_more v.listing c.requires.few c.categories-test.true
     (omega (arith, c.requires.room, c.categories.auto.slots))
     (c.categories.auto.order ∙ c.requires.same ∙ sym c.categories.auto.slots) in
-    let at_place = subst (λ k. IsListing c.args.graph.now c.args.c c.args.categories (d + 1) (count + 1) base
-    (set slots (base + k) count) (set order (base + count) d)) (sym place.ensures) more in
     record {
-      listing = subst (λ k. IsListing c.args.graph.now c.args.c c.args.categories (d + 1) (count + 1) base
-          (set slots (base + place.result) count) (set order (base + k) d)) (sym slot.ensures) at_place;
-      slots = λ k h. get_or-set_other slots (base + place.result) k count 0 (omega (arith, h)) ∙ v.slots k h;
-      order = λ k h. get_or-set_other order (base + slot.result) k d 0 (omega (arith, h)) ∙ v.order k h;
+      listing = rw (c.from.ensures, c.from-in-categories.ensures) more;
+      slots = λ k h. get_or-set_other slots (base + c.from.result) k count 0 (omega (arith, h)) ∙ v.slots k h;
+      order = λ k h. get_or-set_other order (base + c.from-in-categories.result) k d 0 (omega (arith, h)) ∙ v.order k h;
     }
   where
     open c use {
@@ -41,6 +37,4 @@ categories-preserved c =
       categories.slots,
       categories.order,
       args.base,
-      from as place,
-      from-in-categories as slot,
     }

@@ -1,8 +1,6 @@
 -- A row more.
 use Rattle.std.proofs.Common.{◌≡◌, ◌+◌, ◌≤◌, length, ap, sym, subst, ◌∙◌, arith}
-use Rattle.olap_legal.specs.Laying.{AreStarts}
-use Rattle.olap_legal.specs.Slots.{count_of}
-use Rattle.olap_legal.proofs.LayingLemmas.{starts_more, starts_none}
+use Rattle.olap_legal.{proofs.LayingLemmas.{starts_more, starts_none}, specs.Laying.AreStarts, specs.Slots.count_of}
 use Rattle.olap_legal.proofs.tables.starts_of.Goals as goal
 
 pub members-init : goal.members-init

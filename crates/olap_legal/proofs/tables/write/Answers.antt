@@ -1,5 +1,5 @@
 -- A cell more.
-use Rattle.std.proofs.Common.{◌+◌, ◌<◌, ℕ, length, get_or, set, arith, subst, sym, ◌≡◌, ◌∙◌, get_or-set_other}
+use Rattle.std.proofs.Common.{◌+◌, ◌<◌, length, get_or, arith, ◌∙◌, get_or-set_other}
 use Rattle.olap_legal.proofs.JoiningLemmas.{write_more}
 use Rattle.olap_legal.proofs.tables.write.Goals as goal
 
@@ -8,8 +8,7 @@ places-preserved c =
     let y = get_or row c.from.result 0 in
     let room : start + k < length cells = omega (arith, c.requires.room, c.places.auto.cells, c.places-test.true) in
     record {
-      here = subst (λ d. (j : ℕ) → j < k + 1 → get_or (set cells (start + k) (get_or row d 0)) (start + j) 0
-          ≡ get_or row (get_or reached j 0) 0) (sym c.from.ensures) (write_more cells row reached start k room v.here);
+      here = rw c.from.ensures (write_more cells row reached start k room v.here);
       before = λ j h. get_or-set_other cells (start + k) j y 0 (omega (arith, h)) ∙ v.before j h;
       after = λ j h. get_or-set_other cells (start + k) j y 0 (omega (arith, h)) ∙ v.after j (omega (arith, h));
     }

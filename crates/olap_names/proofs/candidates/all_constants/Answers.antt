@@ -1,7 +1,6 @@
 use Rattle.std.proofs.Common.{◌≡◌, map, arith, subst}
 use Rattle.olap_ast.specs.Trees.{constraint_of, formula_of}
-use Rattle.olap_names.specs.Names.{atoms}
-use Rattle.olap_names.proofs.CandidateLemmas.{AreListed, listed_everywhere, listed_more}
+use Rattle.olap_names.{proofs.CandidateLemmas.{AreListed, listed_everywhere, listed_more}, specs.Names.atoms}
 use Rattle.olap_names.proofs.candidates.all_constants.Goals as goal
 
 pub categories-preserved : goal.categories-preserved

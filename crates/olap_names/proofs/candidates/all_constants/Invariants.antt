@@ -1,7 +1,6 @@
 use Rattle.std.proofs.Common.{map}
 use Rattle.olap_ast.specs.Trees.{constraint_of, formula_of}
-use Rattle.olap_names.specs.Names.{atoms}
-use Rattle.olap_names.proofs.CandidateLemmas.{AreListed}
+use Rattle.olap_names.{proofs.CandidateLemmas.AreListed, specs.Names.atoms}
 use Rattle.olap_names.proofs.candidates.all_constants.Given as goal
 
 abbrev pub invariant-categories : goal.invariant-categories

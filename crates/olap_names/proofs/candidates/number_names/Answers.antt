@@ -1,18 +1,9 @@
-use Rattle.std.proofs.Common.{◌≡◌, ◌∷◌, ◌∙◌, ◌<◌, ◌≤◌, ◌*◌, length, map, ap, sym, subst}
+use Rattle.std.proofs.{Common.{◌∙◌, ◌<◌, length, map, ap, sym, subst}, lemmas.Result.IfOk-weaker}
 use Rattle.std.specs.Prelude.{Contains}
-use Rattle.std.proofs.lemmas.Result.{IfOk-weaker}
-use Rattle.olap_ast.specs.Atoms.{numbers_on}
-use Rattle.olap_ast.specs.Pairs.{distinct_numbers}
 use Rattle.olap_ast.specs.Trees.{constraint_of, formula_of}
-use Rattle.olap_numerals.specs.Numerals.{canonical}
-use Rattle.olap_numerals.specs.Representatives.{AreNumberNames, AreRepresentatives, AreSmall}
-use Rattle.olap_names.specs.Names.{number_atoms}
-use Rattle.olap_names.proofs.NumberLemmas.{few_names, names_are, some_representative}
+use Rattle.olap_numerals.specs.{Numerals.canonical, Representatives.{AreRepresentatives, AreSmall}}
+use Rattle.olap_names.{proofs.NumberLemmas.{few_names, names_are, some_representative}, specs.Names.number_atoms}
 use Rattle.olap_names.proofs.candidates.number_names.Goals as goal
-
-pub representatives-requires : goal.representatives-requires
-representatives-requires c = λ n h.
-    c.requires n (c.in_ok-constants.ensures.sound n (subst (λ l. Contains l n) c.deref.ensures.value h))
 
 pub spelled-requires : goal.spelled-requires
 spelled-requires c =
@@ -25,8 +16,7 @@ pub returns-clause-names : goal.returns-clause-names
 returns-clause-names c =
     let all = number_atoms (map constraint_of c.args.constraints.now) (formula_of c.args.question.now) in
     let are = subst (λ l. AreRepresentatives l reps) c.deref.ensures.value c.in_ok-numbers.ensures in
-    IfOk-weaker c.spelled.result (λ p. p.0 ∷ p.1 ≡ map canonical c.deref-2.result.now)
-    (λ p. AreNumberNames (numbers_on c.args.c.0 all) p.0 p.1)
+    IfOk-weaker c.spelled.result _ _
     (λ p e. names_are c.args.c.0 all constants reps p.0 p.1 c.in_ok-constants.ensures are
     (e ∙ ap (map canonical) c.deref-2.ensures.value)) c.spelled.ensures
   where
@@ -36,8 +26,7 @@ pub returns-clause-few : goal.returns-clause-few
 returns-clause-few c =
     let all = number_atoms (map constraint_of c.args.constraints.now) (formula_of c.args.question.now) in
     let are = subst (λ l. AreRepresentatives l reps) c.deref.ensures.value c.in_ok-numbers.ensures in
-    IfOk-weaker c.spelled.result (λ p. p.0 ∷ p.1 ≡ map canonical c.deref-2.result.now)
-    (λ p. length p.1 ≤ 2 * length (distinct_numbers all))
+    IfOk-weaker c.spelled.result _ _
     (λ p e. few_names c.args.c.0 all constants reps p.0 p.1 c.in_ok-constants.ensures are
     (e ∙ ap (map canonical) c.deref-2.ensures.value)) c.spelled.ensures
   where

@@ -1,7 +1,5 @@
-use Rattle.std.proofs.Common.{◌≡◌, take, map}
-use Rattle.std.specs.Prelude.{flat_map}
-use Rattle.olap_ast.specs.Atoms.{comparisons, numbers_on}
-use Rattle.olap_ast.specs.Trees.{constraint_of}
+use Rattle.std.{proofs.Common.{◌≡◌, take, map}, specs.Prelude.flat_map}
+use Rattle.olap_ast.specs.{Atoms.{comparisons, numbers_on}, Trees.constraint_of}
 use Rattle.olap_names.proofs.candidates.numbers_of.Given as goal
 
 abbrev pub invariant-constraints : goal.invariant-constraints

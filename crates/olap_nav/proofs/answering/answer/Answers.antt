@@ -1,8 +1,8 @@
 use Rattle.std.proofs.Common.{ℕ, List, ap, sym, ◌∙◌}
 use Rattle.olap_base.specs.Views.{Row, members, rows_from_views}
 use Rattle.olap_nav.proofs.ChosenLemmas.{chosen_direct}
-use Rattle.olap_nav.proofs.answering.answer.Goals as goal
 use Rattle.olap_view.specs.Seen.{views_of}
+use Rattle.olap_nav.proofs.answering.answer.Goals as goal
 
 pub returns-clause-direct : goal.returns-clause-direct
 returns-clause-direct c = λ facts table e.

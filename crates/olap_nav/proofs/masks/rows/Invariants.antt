@@ -1,9 +1,7 @@
 -- The rows so far, and those of the views that are left. A view has fewer than 2 ^ 58 rows: its list lies in memory.
-use Rattle.std.proofs.Common.{◌≡◌, ◌+◌, ◌*◌, ◌^◌, ◌≤◌, length}
-use Rattle.std.specs.Prelude.{ℕ, sum_by}
+use Rattle.std.{proofs.Common.{◌≡◌, ◌+◌, ◌*◌, ◌^◌, ◌≤◌, length}, specs.Prelude.{ℕ, sum_by}}
 use Rattle.olap_base.specs.Views.{View}
-use Rattle.olap_nav.specs.Plans.{rows_in}
-use Rattle.olap_nav.proofs.ChosenLemmas.{left}
+use Rattle.olap_nav.{proofs.ChosenLemmas.left, specs.Plans.rows_in}
 use Rattle.olap_view.specs.Seen.{views_of}
 use Rattle.olap_nav.proofs.masks.rows.Given as goal
 

@@ -1,7 +1,6 @@
 -- The sources so far, and those of the views that are left.
 use Rattle.std.proofs.Common.{◌≡◌, ◌++◌}
-use Rattle.olap_nav.specs.Plans.{categories_of, sources_in}
-use Rattle.olap_nav.proofs.ChosenLemmas.{left}
+use Rattle.olap_nav.{proofs.ChosenLemmas.left, specs.Plans.{categories_of, sources_in}}
 use Rattle.olap_ast.specs.Trees.{numbers_of}
 use Rattle.olap_view.specs.Seen.{views_of}
 use Rattle.olap_nav.proofs.masks.sources.Given as goal

@@ -1,6 +1,5 @@
 use Rattle.std.proofs.Common.{subst}
-use Rattle.olap_nav.specs.Choices.{IsCheapest}
-use Rattle.olap_nav.proofs.ChoiceLemmas.{best_is, first_is, next_is}
+use Rattle.olap_nav.{proofs.ChoiceLemmas.{best_is, first_is, next_is}, specs.Choices.IsCheapest}
 use Rattle.olap_nav.proofs.planning.cheaper.Goals as goal
 
 pub returns-in_default : goal.returns-in_default

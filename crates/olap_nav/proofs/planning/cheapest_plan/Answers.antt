@@ -1,14 +1,11 @@
 use Rattle.std.proofs.Common.{◌≡◌, ◌≢◌, ◌<◌, ◌^◌, ℕ, ap, sym, subst, ◌∙◌, true, false, refl, length, arith}
 use Rattle.std.proofs.lemmas.List.{length-map}
 use Rattle.olap_ast.specs.Summarizable.{IsSummarizable}
-use Rattle.olap_nav.specs.Choices.{MayServe}
-use Rattle.olap_nav.specs.Patterns.{ways_in}
-use Rattle.olap_nav.specs.Plans.{Serves, sources_in}
-use Rattle.olap_nav.proofs.ChoiceLemmas.{fewer, inside, none_left}
-use Rattle.olap_nav.proofs.PatternLemmas.{serves_by_one}
-use Rattle.olap_nav.proofs.planning.cheapest_plan.Goals as goal
+use Rattle.olap_nav.proofs.{ChoiceLemmas.{fewer, inside, none_left}, PatternLemmas.serves_by_one}
+use Rattle.olap_nav.specs.{Choices.MayServe, Patterns.ways_in, Plans.{Serves, sources_in}}
 use Rattle.olap_schema.specs.Schemas.{schema_of}
 use Rattle.olap_view.specs.Seen.{view_of, views_of}
+use Rattle.olap_nav.proofs.planning.cheapest_plan.Goals as goal
 
 pub questions-preserved : goal.questions-preserved
 questions-preserved c =

@@ -1,10 +1,7 @@
 -- Whatever serves may still serve, and each question leaves fewer masks that may.
 use Rattle.std.proofs.Common.{◌≡◌, ◌≤◌, ◌^◌, ℕ, length}
-use Rattle.olap_base.specs.Graph.{category_count}
-use Rattle.olap_base.specs.Limits.{most_views}
-use Rattle.olap_nav.specs.Choices.{MayServe}
-use Rattle.olap_nav.specs.Plans.{Serves}
-use Rattle.olap_nav.proofs.ChoiceLemmas.{marks}
+use Rattle.olap_base.specs.{Graph.category_count, Limits.most_views}
+use Rattle.olap_nav.{proofs.ChoiceLemmas.marks, specs.Choices.MayServe, specs.Plans.Serves}
 use Rattle.olap_schema.specs.Schemas.{schema_of}
 use Rattle.olap_view.specs.Seen.{views_of}
 use Rattle.olap_nav.proofs.planning.cheapest_plan.Given as goal

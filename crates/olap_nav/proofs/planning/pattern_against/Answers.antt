@@ -1,12 +1,10 @@
-use Rattle.std.proofs.Common.{◌≢◌, ◌↔◌, ap, sym, subst, ◌∙◌}
-use Rattle.std.specs.Prelude.{All, AllPairs, IfOk, IsNone}
-use Rattle.olap_ast.specs.Summarizable.{IsSummarizable}
+use Rattle.std.{proofs.Common.{◌≢◌, ◌↔◌, ap, sym, subst, ◌∙◌}, specs.Prelude.{All, AllPairs, IfOk, IsNone}}
+use Rattle.olap_ast.specs.{Summarizable.IsSummarizable, Trees.numbers_of}
 use Rattle.olap_base.specs.Graph.{IsCategory}
 use Rattle.olap_nav.proofs.ChosenLemmas.{categories_all, chosen_all, chosen_differ}
-use Rattle.olap_nav.proofs.planning.pattern_against.Goals as goal
 use Rattle.olap_schema.specs.Schemas.{schema_of}
-use Rattle.olap_ast.specs.Trees.{numbers_of}
 use Rattle.olap_view.specs.Seen.{views_of}
+use Rattle.olap_nav.proofs.planning.pattern_against.Goals as goal
 
 pub pattern_of-requires-clause-sources : goal.pattern_of-requires-clause-sources
 pattern_of-requires-clause-sources c =

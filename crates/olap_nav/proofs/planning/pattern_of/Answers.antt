@@ -1,5 +1,4 @@
-use Rattle.std.proofs.Common.{◌≡◌, subst, true, false}
-use Rattle.std.specs.Prelude.{IsNone}
+use Rattle.std.{proofs.Common.{◌≡◌, subst, true, false}, specs.Prelude.IsNone}
 use Rattle.olap_nav.proofs.planning.pattern_of.Goals as goal
 
 pub returns-clause-none : goal.returns-clause-none

@@ -1,5 +1,4 @@
-use Rattle.std.proofs.Common.{ap, subst, sym, ◌∙◌}
-use Rattle.std.specs.Prelude.{All}
+use Rattle.std.{proofs.Common.{ap, subst, sym, ◌∙◌}, specs.Prelude.All}
 use Rattle.olap_base.specs.Graph.{IsCategory}
 use Rattle.olap_nav.proofs.ChosenLemmas.{categories_all, chosen_all}
 use Rattle.olap_ast.specs.Trees.{numbers_of}

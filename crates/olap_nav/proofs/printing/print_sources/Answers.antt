@@ -1,7 +1,5 @@
-use Rattle.std.proofs.Common.{ℕ, ◌<◌, subst, sym}
-use Rattle.std.proofs.lemmas.List.{get_or-map, length-map}
-use Rattle.olap_base.specs.Graph.{IsCategory}
-use Rattle.olap_base.specs.declared.ids.CatId.{CatId}
+use Rattle.std.proofs.{Common.{ℕ, ◌<◌, subst, sym}, lemmas.List.{get_or-map, length-map}}
+use Rattle.olap_base.specs.{Graph.IsCategory, declared.ids.CatId.CatId}
 use Rattle.olap_nav.proofs.printing.print_sources.Goals as goal
 
 pub name-requires : goal.name-requires

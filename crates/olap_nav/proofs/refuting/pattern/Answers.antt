@@ -1,13 +1,10 @@
 use Rattle.std.proofs.Common.{◌≡◌, ◌≤◌, ◌++◌, ◌∷◌, [], List, length, take, sym, subst, arith}
-use Rattle.std.proofs.lemmas.Grind.{common_steps}
-use Rattle.std.proofs.lemmas.List.{take_all}
+use Rattle.std.proofs.lemmas.{Grind.common_steps, List.take_all}
+use Rattle.olap_nav.proofs.{ChosenLemmas.taken_more, FoundLemmas.pattern_is, PatternLemmas.ways_more}
 use Rattle.olap_nav.specs.Patterns.{AreWays, found_instance, found_root}
-use Rattle.olap_nav.proofs.ChosenLemmas.{taken_more}
-use Rattle.olap_nav.proofs.FoundLemmas.{pattern_is}
-use Rattle.olap_nav.proofs.PatternLemmas.{ways_more}
-use Rattle.olap_nav.proofs.refuting.pattern.Goals as goal
 use Rattle.olap_schema.specs.Schemas.{schema_of}
 use Rattle.olap_view.specs.Seen.{each_view_of, view_of, views_of}
+use Rattle.olap_nav.proofs.refuting.pattern.Goals as goal
 use Rattle.olap_view.specs.declared.views.View as told
 
 pub views-preserved : goal.views-preserved

@@ -1,15 +1,10 @@
-use Rattle.std.proofs.Common.{◌↔◌, map, sym, subst}
-use Rattle.std.specs.Prelude.{IsTrue}
-use Rattle.olap_ast.specs.Formula.{Formula.Via}
-use Rattle.olap_ast.specs.Frozen.{AreCandidates, IsFrozen}
-use Rattle.olap_ast.specs.Schema.{Schema}
-use Rattle.olap_ast.specs.Trees.{constraint_of}
+use Rattle.std.{proofs.Common.{◌↔◌, map, sym, subst}, specs.Prelude.IsTrue}
+use Rattle.olap_ast.specs.{Formula.Formula.Via, Frozen.{AreCandidates, IsFrozen}, Schema.Schema, Trees.constraint_of}
 use Rattle.olap_frozen.specs.LeastFound.{frozen_of}
-use Rattle.olap_names.specs.Names.{candidates_of}
+use Rattle.olap_names.{proofs.WholeLemmas.whole_is, specs.Names.candidates_of}
 use Rattle.olap_nav.proofs.FoundLemmas.{candidates_for, way_is}
-use Rattle.olap_nav.proofs.refuting.reaches_by.Goals as goal
 use Rattle.olap_schema.specs.Schemas.{schema_of}
-use Rattle.olap_names.proofs.WholeLemmas.{whole_is}
+use Rattle.olap_nav.proofs.refuting.reaches_by.Goals as goal
 
 pub is_frozen-is_way-requires-clause-candidates : goal.is_frozen-is_way-requires-clause-candidates
 is_frozen-is_way-requires-clause-candidates c =

@@ -1,7 +1,6 @@
 -- The masks so far are judged, and the others stand.
 use Rattle.std.proofs.Common.{◌≡◌, ◌≢◌, ◌<◌, ◌≤◌, ◌↔◌, ℕ, false, get_or, length}
-use Rattle.olap_nav.specs.Choices.{MayServe}
-use Rattle.olap_nav.specs.Patterns.{ways_in}
+use Rattle.olap_nav.specs.{Choices.MayServe, Patterns.ways_in}
 use Rattle.olap_nav.proofs.refuting.refute.Given as goal
 
 abbrev pub invariant-masks : goal.invariant-masks

@@ -2,8 +2,7 @@ use Rattle.std.proofs.Common.{◌∙◌, refl, subst, sym, true≢false}
 use Rattle.olap_ast.specs.Trees.{numbers_of}
 use Rattle.olap_base.specs.Graph.{Graph, IsBottom}
 use Rattle.olap_schema.specs.Schemas.{schema_of}
-use Rattle.olap_needs.specs.Needs.{IsNeeded}
-use Rattle.olap_needs.proofs.ListingLemmas.{added, none_added}
+use Rattle.olap_needs.{proofs.ListingLemmas.{added, none_added}, specs.Needs.IsNeeded}
 use Rattle.olap_needs.proofs.needing.add.Goals as goal
 
 pub returns-then-not-is_bottom : goal.returns-then-not-is_bottom

@@ -1,11 +1,8 @@
-use Rattle.std.proofs.Common.{◌∙◌, ap, sym, subst}
-use Rattle.std.specs.Prelude.{◌↔◌, IfOk, IsTrue}
-use Rattle.olap_ast.specs.Atoms.{comparisons, equalities}
-use Rattle.olap_ast.specs.Questions.{IsImplied}
-use Rattle.olap_ast.specs.Trees.{formula_of, numbers_of}
+use Rattle.std.{proofs.Common.{◌∙◌, ap, sym, subst}, specs.Prelude.{◌↔◌, IfOk, IsTrue}}
+use Rattle.olap_ast.proofs.SourceLemmas.{no_more_constants, question_at, question_free, question_numberless}
+use Rattle.olap_ast.specs.{Atoms.{comparisons, equalities}, Questions.IsImplied, Trees.{formula_of, numbers_of}}
 use Rattle.olap_ast.specs.Valid.{IsFormulaAt}
 use Rattle.olap_schema.specs.Schemas.{schema_of}
-use Rattle.olap_ast.proofs.SourceLemmas.{no_more_constants, question_at, question_free, question_numberless}
 use Rattle.olap_needs.proofs.needing.is_nowhere_met.Goals as goal
 
 pub is_implied-requires-clause-formula : goal.is_implied-requires-clause-formula

@@ -1,6 +1,5 @@
 -- The nodes of the constraints so far.
-use Rattle.std.proofs.Common.{◌≡◌, take}
-use Rattle.std.specs.Prelude.{sum_by}
+use Rattle.std.{proofs.Common.{◌≡◌, take}, specs.Prelude.sum_by}
 use Rattle.olap_needs.proofs.RoomLemmas.{stored_nodes}
 use Rattle.olap_needs.proofs.room.count.Given as goal
 

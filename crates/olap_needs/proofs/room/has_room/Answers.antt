@@ -1,10 +1,6 @@
 use Rattle.std.proofs.Common.{◌≡◌, ◌∙◌, ◌+◌, ◌*◌, ◌<◌, ◌≤◌, length, ap, arith, subst, sym}
-use Rattle.std.specs.Prelude.{sum_by}
-use Rattle.std.proofs.lemmas.Bool.{false≢true, le-leb, leb-true}
-use Rattle.std.proofs.lemmas.List.{length-map}
-use Rattle.olap_ast.specs.Schema.{Constraint}
-use Rattle.olap_ast.specs.Trees.{constraint_of}
-use Rattle.olap_ast.specs.Valid.{node_count}
+use Rattle.std.{proofs.lemmas.Bool.{false≢true, le-leb, leb-true}, proofs.lemmas.List.length-map, specs.Prelude.sum_by}
+use Rattle.olap_ast.specs.{Schema.Constraint, Trees.constraint_of, Valid.node_count}
 use Rattle.olap_base.specs.Limits.{most_constraints, most_nodes, most_schema_nodes}
 use Rattle.olap_schema.specs.Schemas.{schema_of}
 use Rattle.olap_needs.proofs.RoomLemmas.{room_exactly}

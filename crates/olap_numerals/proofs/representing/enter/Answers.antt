@@ -1,8 +1,6 @@
-use Rattle.std.proofs.Common.{rules, ◌≡◌, ◌↔◌, ◌⊎◌, ◌++◌, ◌∷◌, [], pos, sym, subst, arith, ◌+ℤ◌}
-use Rattle.std.proofs.lemmas.Int.{ints}
+use Rattle.std.proofs.{Common.{rules, ◌≡◌, ◌↔◌, ◌⊎◌, ◌++◌, ◌∷◌, [], pos, sym, subst, arith, ◌+ℤ◌}, lemmas.Int.ints}
 use Rattle.std.specs.Prelude.{Contains}
-use Rattle.olap_numerals.specs.Representatives.{IsUpTo}
-use Rattle.olap_numerals.proofs.EnteringLemmas.{entered_two}
+use Rattle.olap_numerals.{proofs.EnteringLemmas.entered_two, specs.Representatives.IsUpTo}
 use Rattle.olap_numerals.proofs.representing.enter.Goals as goal
 
 pub returns-in_ok-push-2 : goal.returns-in_ok-push-2

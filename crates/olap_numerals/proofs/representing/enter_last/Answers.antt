@@ -1,5 +1,4 @@
-use Rattle.std.proofs.Common.{rules, ◌≡◌, ◌++◌, ◌∷◌, [], negsuc, arith, ◌+ℤ◌}
-use Rattle.std.proofs.lemmas.Int.{ints}
+use Rattle.std.proofs.{Common.{rules, ◌≡◌, ◌++◌, ◌∷◌, [], negsuc, arith, ◌+ℤ◌}, lemmas.Int.ints}
 use Rattle.olap_numerals.proofs.EnteringLemmas.{entered_less}
 use Rattle.olap_numerals.proofs.representing.enter_last.Goals as goal
 

@@ -1,5 +1,4 @@
-use Rattle.std.proofs.Common.{◌≡◌, fold, take}
-use Rattle.std.specs.Int.{int_min}
+use Rattle.std.{proofs.Common.{◌≡◌, fold, take}, specs.Int.int_min}
 use Rattle.olap_numerals.proofs.representing.least_of.Given as goal
 
 abbrev pub invariant-numbers : goal.invariant-numbers

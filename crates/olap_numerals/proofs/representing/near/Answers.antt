@@ -1,25 +1,19 @@
-use Rattle.std.proofs.Common.{rules, ◌≡◌, ◌∙◌, ◌↔◌, ◌⊎◌, ◌++◌, ◌+◌, ◌∷◌, [], pos, take, take-suc, get_or, sym, subst, ap, inl, inr, arith, suc}
-use Rattle.std.specs.Prelude.{Contains}
-use Rattle.std.proofs.lemmas.List.{take_all}
+use Rattle.std.proofs.Common.{rules, ◌≡◌, ◌∙◌, ◌↔◌, ◌⊎◌, ◌+◌, ◌∷◌, [], pos, take, take-suc, get_or, sym, subst, ap, arith, suc}
+use Rattle.std.{proofs.lemmas.List.take_all, specs.Prelude.Contains}
+use Rattle.olap_numerals.proofs.EnteringLemmas.{least_small, name_cases, one_more, up_to_push}
 use Rattle.olap_numerals.specs.Representatives.{IsLastNear, IsUpTo}
-use Rattle.olap_numerals.proofs.EnteringLemmas.{least_small, name_cases, up_to_push}
 use Rattle.olap_numerals.proofs.representing.near.Goals as goal
 
 pub constants-preserved : goal.constants-preserved
 constants-preserved c = λ a.
     let n = get_or cs i (pos 0) in
     let next : i + 1 ≡ suc i = omega arith in
-    let more : take (i + 1) cs ≡ take i cs ++ n ∷ [] =
-    ap (λ k. take k cs) next ∙ take-suc cs i (pos 0) (omega arith) in
+    let more = ap (λ k. take k cs) next ∙ take-suc cs i (pos 0) (omega arith) in
     let entered : Contains c.enter.new.numbers.items a ↔ (Contains c.constants.numbers.items a ⊎ IsUpTo (n ∷ []) a) =
     subst (λ m. Contains c.enter.new.numbers.items a ↔ (Contains c.constants.numbers.items a ⊎ IsUpTo (m ∷ []) a))
     (search rules) (c.in_ok-enter.ensures a) in
-    let before = c.constants.invariant a in
-    let both = up_to_push (take i cs) n a in
-    subst (λ l. Contains c.enter.new.numbers.items a ↔ IsUpTo l a) (sym more) (
-      λ x. both.0 (elim (entered.0 x) [ inl y ↦ inl (before.0 y) | inr y ↦ inr y ]),
-      λ u. entered.1 (elim (both.1 u) [ inl y ↦ inl (before.1 y) | inr y ↦ inr y ]),
-    )
+    subst (λ l. Contains c.enter.new.numbers.items a ↔ IsUpTo l a) (sym more)
+    (one_more entered (c.constants.invariant a) (up_to_push (take i cs) n a))
   where
     open c use {args.constants.now as cs, constants.n-index as i}
 
@@ -33,7 +27,4 @@ returns c = λ a.
     let before = subst (λ l. Contains c.constants.numbers.items a ↔ IsUpTo l a) all (c.constants.invariant a) in
     let entered = subst (λ l. Contains c.enter_last.new.numbers.items a
     ↔ (Contains c.constants.numbers.items a ⊎ IsLastNear l a)) c.least.ensures (c.in_ok-enter_last.ensures a) in
-    let both = name_cases cs a in (
-      λ x. both.0 (elim (entered.0 x) [ inl y ↦ inl (before.0 y) | inr y ↦ inr y ]),
-      λ u. entered.1 (elim (both.1 u) [ inl y ↦ inl (before.1 y) | inr y ↦ inr y ]),
-    )
+    one_more entered before (name_cases cs a)

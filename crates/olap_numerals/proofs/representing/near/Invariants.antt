@@ -1,5 +1,4 @@
-use Rattle.std.proofs.Common.{◌↔◌, ℤ, take}
-use Rattle.std.specs.Prelude.{Contains}
+use Rattle.std.{proofs.Common.{◌↔◌, ℤ, take}, specs.Prelude.Contains}
 use Rattle.olap_numerals.specs.Representatives.{IsUpTo}
 use Rattle.olap_numerals.proofs.representing.near.Given as goal
 

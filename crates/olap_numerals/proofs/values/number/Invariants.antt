@@ -1,6 +1,5 @@
 -- The number is that of the digits so far.
-use Rattle.std.proofs.Common.{◌≡◌, ◌<◌, ◌≤◌, ◌^◌, ℕ, get_or, length, take}
-use Rattle.std.specs.Int.{IsInRange}
+use Rattle.std.{proofs.Common.{◌≡◌, ◌<◌, ◌≤◌, ◌^◌, ℕ, get_or, length, take}, specs.Int.IsInRange}
 use Rattle.std.specs.Str.Parse.{digits_value}
 use Rattle.olap_numerals.proofs.values.number.Given as goal
 

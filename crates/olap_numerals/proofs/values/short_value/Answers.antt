@@ -1,5 +1,4 @@
-use Rattle.std.proofs.Common.{◌≡◌, subst}
-use Rattle.std.specs.Str.Parse.{IsNumeral, digits_value}
+use Rattle.std.{proofs.Common.{◌≡◌, subst}, specs.Str.Parse.{IsNumeral, digits_value}}
 use Rattle.olap_numerals.proofs.Digits.{value-minus, value-plus}
 use Rattle.olap_numerals.proofs.values.short_value.Goals as goal
 

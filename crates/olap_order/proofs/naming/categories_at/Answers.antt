@@ -1,18 +1,11 @@
 use Rattle.std.proofs.Common.{◌≡◌, ◌+◌, ◌<◌, List, length, get_or, [], ◌∷◌, false, ap, subst, sym, ◌∙◌, Err}
-use Rattle.std.proofs.lemmas.List.{length-map, map-append}
-use Rattle.std.specs.List.{list_any}
-use Rattle.std.specs.Prelude.{◌==◌}
+use Rattle.std.{proofs.lemmas.List.{length-map, map-append}, specs.List.list_any, specs.Prelude.◌==◌}
 use Rattle.std.specs.String.{string_bytes}
-use Rattle.olap_base.specs.declared.ids.CatId.{CatId}
-use Rattle.olap_base.proofs.ListLemmas.{AllPairs-from_Distinct}
+use Rattle.olap_base.{proofs.ListLemmas.AllPairs-from_Distinct, specs.declared.ids.CatId.CatId}
 use Rattle.olap_schema.specs.Schemas.{schema_of}
-use Rattle.olap_order.specs.Judged.{Replies}
-use Rattle.olap_order.specs.Order.{Done}
-use Rattle.olap_order.specs.Behind.{another_category}
-use Rattle.olap_order.specs.Taken.{NoAnswer}
-use Rattle.olap_order.specs.Words.{texts}
+use Rattle.olap_order.{proofs.SourceLemmas.{ends_at, plain_ends, read_more, word_is}, specs.Behind.another_category}
+use Rattle.olap_order.specs.{Judged.Replies, Order.Done, Taken.NoAnswer, Words.texts}
 use Rattle.olap_ast.specs.Trees.{numbers_of}
-use Rattle.olap_order.proofs.SourceLemmas.{ends_at, plain_ends, read_more, word_is}
 use Rattle.olap_order.proofs.naming.categories_at.Goals as goal
 
 pub returns-in_err-category-clause-step : goal.returns-in_err-category-clause-step

@@ -1,7 +1,6 @@
 use Rattle.olap_schema.specs.Schemas.{schema_of}
-use Rattle.olap_order.specs.Words.{texts}
+use Rattle.olap_order.{proofs.SourceLemmas.IsReadTo, specs.Words.texts}
 use Rattle.olap_ast.specs.Trees.{numbers_of}
-use Rattle.olap_order.proofs.SourceLemmas.{IsReadTo}
 use Rattle.olap_order.proofs.naming.categories_at.Given as goal
 
 -- this many words are read

@@ -1,5 +1,4 @@
-use Rattle.std.proofs.Common.{length, ◌-◌, ◌≤◌, take, IsTrue}
-use Rattle.std.specs.Io.KnownBytes.{Appends}
+use Rattle.std.{proofs.Common.{length, ◌-◌, ◌≤◌, take, IsTrue}, specs.Io.KnownBytes.Appends}
 use Rattle.olap_outside.proofs.emitting.emit.Given as goal
 
 -- what is done so far is written, the count hasn't fallen, and a sink that was sure to take all takes the rest

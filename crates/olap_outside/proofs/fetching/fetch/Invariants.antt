@@ -1,6 +1,5 @@
 use Rattle.std.proofs.Common.{◌≡◌, ◌+◌, ◌≤◌, true, length, is_some}
-use Rattle.olap_outside.specs.Files.{Asks}
-use Rattle.olap_outside.proofs.Reading.{SoFar}
+use Rattle.olap_outside.{proofs.Reading.SoFar, specs.Files.Asks}
 use Rattle.olap_outside.proofs.fetching.fetch.Given as goal
 
 -- what was taken are the bytes so far, and they stand at the front of the content

@@ -1,8 +1,7 @@
 -- More bytes stand in the piece.
-use Rattle.std.proofs.Common.{◌-◌, ◌∙◌, ap, arith, length, take}
-use Rattle.std.specs.Prelude.{is_ok}
-use borrow.Rule.Slice.PartMut.{same_len_mid}
+use Rattle.std.{proofs.Common.{◌-◌, ◌∙◌, ap, arith, length, take}, specs.Prelude.is_ok}
 use Rattle.olap_outside.proofs.FillingLemmas.{consumes-more, filled, rest-size}
+use borrow.Rule.Slice.PartMut.{same_len_mid}
 use Rattle.olap_outside.proofs.filling.fill.Goals as goal
 
 pub fills-preserved : goal.fills-preserved

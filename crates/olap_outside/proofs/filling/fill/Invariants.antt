@@ -1,6 +1,5 @@
 -- This many bytes were taken, and they stand in the piece.
-use Rattle.std.proofs.Common.{◌≡◌, ◌<◌, ◌≤◌, ◌+◌, ◌-◌, ◌^◌, true, length, take}
-use Rattle.std.specs.Io.KnownBytes.{Consumes}
+use Rattle.std.{proofs.Common.{◌≡◌, ◌<◌, ◌≤◌, ◌+◌, ◌-◌, ◌^◌, true, length, take}, specs.Io.KnownBytes.Consumes}
 use Rattle.olap_outside.specs.Pieces.{IsKept}
 use Rattle.olap_outside.proofs.filling.fill.Given as goal
 

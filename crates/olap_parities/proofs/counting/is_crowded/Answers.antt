@@ -1,8 +1,6 @@
 -- There are more clauses than sets.
 use Rattle.std.proofs.Common.{List, subst, arith}
-use Rattle.olap_parities.specs.declared.entries.Entry.{Entry}
-use Rattle.olap_parities.specs.Entries.{AreAlone}
-use Rattle.olap_parities.proofs.EntryLemmas.{crowded}
+use Rattle.olap_parities.{proofs.EntryLemmas.crowded, specs.Entries.AreAlone, specs.declared.entries.Entry.Entry}
 use Rattle.olap_parities.proofs.counting.is_crowded.Goals as goal
 
 pub returns : goal.returns

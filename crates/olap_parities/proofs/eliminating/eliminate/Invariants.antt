@@ -1,6 +1,5 @@
 -- The rows add up to nothing where they did.
-use Rattle.std.proofs.Common.{ℕ, Bool}
-use Rattle.std.specs.Prelude.{All}
+use Rattle.std.{proofs.Common.{ℕ, Bool}, specs.Prelude.All}
 use Rattle.olap_parities.specs.Rows.{IsZero}
 use Rattle.olap_parities.proofs.eliminating.eliminate.Given as goal
 

@@ -1,7 +1,5 @@
 -- One literal more, and all of them.
-use Rattle.std.proofs.Common.{sym, rules}
-use Rattle.std.proofs.lemmas.List.{take_all}
-use Rattle.std.proofs.lemmas.List.Elements.{All-more, All-same}
+use Rattle.std.proofs.{Common.{sym, rules}, lemmas.List.take_all, lemmas.List.Elements.{All-more, All-same}}
 use Rattle.olap_parities.specs.Entries.{IsAlone}
 use Rattle.olap_parities.proofs.entries.are_alone.Goals as goal
 

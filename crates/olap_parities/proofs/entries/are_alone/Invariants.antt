@@ -1,9 +1,7 @@
 -- The literals so far are alone.
-use Rattle.std.proofs.Common.{ℕ, Bool, take}
-use Rattle.std.specs.Prelude.{All}
+use Rattle.std.{proofs.Common.{ℕ, Bool, take}, specs.Prelude.All}
 use Rattle.olap_pool.specs.Pools.{AreTrue}
-use Rattle.olap_parities.specs.Known.{Knows}
-use Rattle.olap_parities.specs.Entries.{IsAlone}
+use Rattle.olap_parities.specs.{Entries.IsAlone, Known.Knows}
 use Rattle.olap_parities.proofs.entries.are_alone.Given as goal
 
 abbrev pub invariant-entries : goal.invariant-entries

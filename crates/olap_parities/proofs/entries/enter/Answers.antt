@@ -1,6 +1,5 @@
 -- One literal more, and all of them.
-use Rattle.std.proofs.Common.{rules}
-use Rattle.std.proofs.lemmas.List.Elements.{All-more}
+use Rattle.std.proofs.{Common.rules, lemmas.List.Elements.All-more}
 use Rattle.olap_parities.proofs.EntryLemmas.{IsEntered, entered_more, entered_all}
 use Rattle.olap_parities.proofs.entries.enter.Goals as goal
 

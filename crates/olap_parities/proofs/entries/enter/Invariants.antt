@@ -1,8 +1,6 @@
 -- The literals so far are entered.
-use Rattle.std.proofs.Common.{take}
-use Rattle.std.specs.Prelude.{All, Contains}
-use Rattle.olap_parities.specs.declared.entries.Entry.{Entry}
-use Rattle.olap_parities.proofs.EntryLemmas.{IsEntered}
+use Rattle.std.{proofs.Common.take, specs.Prelude.{All, Contains}}
+use Rattle.olap_parities.{proofs.EntryLemmas.IsEntered, specs.declared.entries.Entry.Entry}
 use Rattle.olap_parities.proofs.entries.enter.Given as goal
 
 abbrev pub invariant-lits : goal.invariant-lits

@@ -1,7 +1,6 @@
 -- One clause more.
 use Rattle.std.proofs.Common.{below_more}
-use Rattle.olap_parities.specs.Entries.{Covers}
-use Rattle.olap_parities.proofs.EntryLemmas.{covers_more}
+use Rattle.olap_parities.{proofs.EntryLemmas.covers_more, specs.Entries.Covers}
 use Rattle.olap_parities.proofs.entries.enter_all.Goals as goal
 
 pub ids-preserved : goal.ids-preserved

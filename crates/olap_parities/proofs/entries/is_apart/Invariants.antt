@@ -1,8 +1,6 @@
 -- The literals so far don't clash.
-use Rattle.std.proofs.Common.{ℕ, Bool, take}
-use Rattle.std.specs.Prelude.{All}
-use Rattle.olap_parities.specs.Known.{Knows}
-use Rattle.olap_parities.specs.Entries.{IsApart}
+use Rattle.std.{proofs.Common.{ℕ, Bool, take}, specs.Prelude.All}
+use Rattle.olap_parities.specs.{Entries.IsApart, Known.Knows}
 use Rattle.olap_parities.proofs.entries.is_apart.Given as goal
 
 abbrev pub invariant-entries : goal.invariant-entries

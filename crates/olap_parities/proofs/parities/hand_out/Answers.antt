@@ -1,8 +1,6 @@
 -- Three parts were taken out of the row, and nothing is left.
 use Rattle.std.proofs.Common.{refl, ap, ◌∙◌}
-use Rattle.olap_parities.specs.Sums.{xor}
-use Rattle.olap_parities.specs.Columns.{column_value, part_value}
-use Rattle.olap_parities.proofs.ParityLemmas.{parts_left}
+use Rattle.olap_parities.{proofs.ParityLemmas.parts_left, specs.Columns.{column_value, part_value}, specs.Sums.xor}
 use Rattle.olap_parities.proofs.parities.hand_out.Goals as goal
 
 pub returns-then-is_empty-clause-none : goal.returns-then-is_empty-clause-none

@@ -1,7 +1,6 @@
 -- A row that adds up to nothing nowhere.
 use Rattle.std.proofs.lemmas.List.Elements.{All-get_or}
-use Rattle.olap_parities.specs.Columns.{column_value}
-use Rattle.olap_parities.specs.Rows.{IsZero}
+use Rattle.olap_parities.specs.{Columns.column_value, Rows.IsZero}
 use Rattle.olap_parities.proofs.parities.hand_out_all.Goals as goal
 
 pub returns-then-not-hand_out-clause-none : goal.returns-then-not-hand_out-clause-none

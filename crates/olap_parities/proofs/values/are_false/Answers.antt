@@ -1,6 +1,5 @@
 -- One literal more, and all of them.
-use Rattle.std.proofs.Common.{rules}
-use Rattle.std.proofs.lemmas.List.Elements.{All-more}
+use Rattle.std.proofs.{Common.rules, lemmas.List.Elements.All-more}
 use Rattle.olap_parities.proofs.KnownLemmas.{IsFalse, none_true}
 use Rattle.olap_parities.proofs.values.are_false.Goals as goal
 

@@ -1,6 +1,5 @@
 -- The literals so far are known false.
-use Rattle.std.proofs.Common.{take}
-use Rattle.std.specs.Prelude.{All}
+use Rattle.std.{proofs.Common.take, specs.Prelude.All}
 use Rattle.olap_parities.proofs.KnownLemmas.{IsFalse}
 use Rattle.olap_parities.proofs.values.are_false.Given as goal
 

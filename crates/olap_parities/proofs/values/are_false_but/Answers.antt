@@ -1,10 +1,9 @@
 -- One literal more, and all of them.
-use Rattle.std.proofs.Common.{◌≡◌, get_or, inl, inr, rules, false}
-use Rattle.std.proofs.lemmas.List.Elements.{All-more}
+use Rattle.std.proofs.{Common.{◌≡◌, get_or, inl, inr, rules, false}, lemmas.List.Elements.All-more}
 use Rattle.olap_pool.specs.declared.literals.Lit.{Lit}
 use Rattle.olap_parities.proofs.KnownLemmas.{IsFalseBut, one_true}
-use Rattle.olap_parities.proofs.values.are_false_but.Goals as goal
 use Rattle.olap_parities.proofs.values.are_false_but.Goals.{else-ne-via-then-ne+else-not-is_false, else-ne-via-else-ne}
+use Rattle.olap_parities.proofs.values.are_false_but.Goals as goal
 
 pub lits-preserved : goal.lits-preserved
 lits-preserved c =

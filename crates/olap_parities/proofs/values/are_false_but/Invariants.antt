@@ -1,6 +1,5 @@
 -- The literals so far are known false, or are this one.
-use Rattle.std.proofs.Common.{take}
-use Rattle.std.specs.Prelude.{All}
+use Rattle.std.{proofs.Common.take, specs.Prelude.All}
 use Rattle.olap_parities.proofs.KnownLemmas.{IsFalseBut}
 use Rattle.olap_parities.proofs.values.are_false_but.Given as goal
 

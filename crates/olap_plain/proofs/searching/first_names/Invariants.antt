@@ -1,7 +1,6 @@
 use Rattle.std.proofs.Common.{map}
 use Rattle.olap_ast.specs.Trees.{constraint_of, formula_of}
-use Rattle.olap_names.specs.Walks.{limit}
-use Rattle.olap_names.proofs.OrderLemmas.{left}
+use Rattle.olap_names.{proofs.OrderLemmas.left, specs.Walks.limit}
 use Rattle.olap_plain.proofs.SearchLemmas.{IsWalking}
 use Rattle.olap_plain.proofs.searching.first_names.Given as goal
 

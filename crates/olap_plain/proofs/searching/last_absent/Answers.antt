@@ -1,10 +1,8 @@
 use Rattle.std.proofs.Common.{◌+◌, sym, subst, arith}
-use Rattle.olap_names.specs.Walks.{IsLastOpen}
-use Rattle.olap_names.proofs.WalkLemmas.{last_open_here, last_open_more}
-use Rattle.olap_plain.specs.Searching.{code_of}
+use Rattle.olap_names.{proofs.WalkLemmas.{last_open_here, last_open_more}, specs.Walks.IsLastOpen}
 use Rattle.olap_plain.proofs.SearchLemmas.{full_at, open_at}
+use Rattle.olap_plain.{proofs.searching.last_absent.Goals.{then-not-edges-e, else-not-edges-e}, specs.Searching.code_of}
 use Rattle.olap_plain.proofs.searching.last_absent.Goals as goal
-use Rattle.olap_plain.proofs.searching.last_absent.Goals.{then-not-edges-e, else-not-edges-e}
 
 pub edges-preserved : goal.edges-preserved
 edges-preserved c =

@@ -1,10 +1,8 @@
 use Rattle.std.proofs.Common.{◌≡◌, length, map}
 use Rattle.olap_ast.specs.Trees.{constraint_of, formula_of}
 use Rattle.olap_base.specs.Graph.{category_count}
-use Rattle.olap_names.specs.Names.{candidates_of, with_graph}
-use Rattle.olap_names.proofs.OrderLemmas.{left}
-use Rattle.olap_plain.specs.Searching.{code_of}
-use Rattle.olap_plain.proofs.SearchLemmas.{NoneEarlier}
+use Rattle.olap_names.{proofs.OrderLemmas.left, specs.Names.{candidates_of, with_graph}}
+use Rattle.olap_plain.{proofs.SearchLemmas.NoneEarlier, specs.Searching.code_of}
 use Rattle.olap_plain.proofs.searching.least.Given as goal
 
 abbrev pub invariant-edges : goal.invariant-edges

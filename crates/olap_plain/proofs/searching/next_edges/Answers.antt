@@ -1,8 +1,6 @@
-use Rattle.std.proofs.Common.{true, length, ◌∙◌}
-use Rattle.std.proofs.lemmas.List.{length-set}
+use Rattle.std.proofs.{Common.{true, length, ◌∙◌}, lemmas.List.length-set}
 use Rattle.olap_names.proofs.WalkLemmas.{step_next, full_last}
-use Rattle.olap_plain.specs.Searching.{code_of}
-use Rattle.olap_plain.proofs.SearchLemmas.{bits_step, code_assigned}
+use Rattle.olap_plain.{proofs.SearchLemmas.{bits_step, code_assigned}, specs.Searching.code_of}
 use Rattle.olap_plain.proofs.searching.next_edges.Goals as goal
 
 pub returns-in-Some-clause-next : goal.returns-in-Some-clause-next

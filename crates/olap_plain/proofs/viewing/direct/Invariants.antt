@@ -1,8 +1,5 @@
-use Rattle.std.proofs.Common.{◌≡◌}
-use Rattle.std.specs.Prelude.{filter_map, filter, ◌==◌}
-use Rattle.std.specs.List.{range_with_len}
-use Rattle.olap_base.specs.Instance.{category_of}
-use Rattle.olap_base.specs.Views.{members, row_at, total_of_facts}
+use Rattle.std.{proofs.Common.◌≡◌, specs.List.range_with_len, specs.Prelude.{filter_map, filter, ◌==◌}}
+use Rattle.olap_base.specs.{Instance.category_of, Views.{members, row_at, total_of_facts}}
 use Rattle.olap_plain.specs.Plain.{instance_of, facts_of, rows_of}
 use Rattle.olap_plain.proofs.viewing.direct.Given as goal
 

@@ -1,7 +1,5 @@
-use Rattle.std.proofs.Common.{sym, length}
-use Rattle.std.proofs.lemmas.List.{length-map}
-use Rattle.olap_plain.specs.Plain.{instance_of, member_of}
-use Rattle.olap_plain.proofs.PlainLemmas.{reaches_by_through}
+use Rattle.std.proofs.{Common.{sym, length}, lemmas.List.length-map}
+use Rattle.olap_plain.{proofs.PlainLemmas.reaches_by_through, specs.Plain.{instance_of, member_of}}
 use Rattle.olap_plain.proofs.viewing.reaches.Goals as goal
 
 pub returns : goal.returns

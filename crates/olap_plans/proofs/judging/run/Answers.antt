@@ -1,9 +1,7 @@
 -- What comes of `generate`, which opens no file.
 use Rattle.std.proofs.Common.{sym, subst}
-use Rattle.olap_order.specs.Judged.{Judged}
-use Rattle.olap_order.proofs.Stepping.{answered}
-use Rattle.olap_plans.specs.Questions.{IsAnswer}
-use Rattle.olap_plans.specs.Seen.{seen}
+use Rattle.olap_order.{proofs.Stepping.answered, specs.Judged.Judged}
+use Rattle.olap_plans.specs.{Questions.IsAnswer, Seen.seen}
 use Rattle.olap_plans.proofs.judging.run.Goals as goal
 
 pub returns-in-Generate : goal.returns-in-Generate

@@ -1,7 +1,6 @@
 -- The name is one of those of the family, and the words after it one by one are those by their numbers.
 use Rattle.std.proofs.Common.{ap, sym, ◌∙◌}
-use Rattle.olap_order.specs.Words.{texts}
-use Rattle.olap_order.proofs.BehindLemmas.{four_is, two_is}
+use Rattle.olap_order.{proofs.BehindLemmas.{four_is, two_is}, specs.Words.texts}
 use Rattle.olap_plans.specs.Commands.{answer_order, generate_order, order_named}
 use Rattle.olap_plans.proofs.words.parse.Goals as goal
 

@@ -1,10 +1,7 @@
 -- The place stays as it is while tables are made.
-use Rattle.std.proofs.Common.{◌≡◌, subst, sym}
-use Rattle.std.specs.Prelude.{IfOk}
-use Rattle.olap_proof.specs.Advancing.{Advances}
-use Rattle.olap_proof.specs.Branches.{IsBranch}
+use Rattle.std.{proofs.Common.{◌≡◌, subst, sym}, specs.Prelude.IfOk}
+use Rattle.olap_proof.{proofs.WithinLemmas.branch_within, specs.Advancing.Advances, specs.Branches.IsBranch}
 use Rattle.olap_proof.specs.Places.{Place}
-use Rattle.olap_proof.proofs.WithinLemmas.{branch_within}
 use Rattle.olap_proof.proofs.advancing.advance.Goals as goal
 
 pub prepare-requires : goal.prepare-requires

@@ -1,11 +1,7 @@
 use Rattle.std.proofs.Common.{List, [], refl, subst}
-use Rattle.olap_proof.specs.Advancing.{StepsAt}
-use Rattle.olap_proof.specs.Asking.{names_in, question_in, schema_in}
-use Rattle.olap_proof.specs.Branches.{GoesOn}
-use Rattle.olap_proof.specs.Certificates.{Open}
-use Rattle.olap_proof.specs.Doing.{leaves_open}
-use Rattle.olap_proof.specs.Reading.{meaning}
-use Rattle.olap_proof.proofs.BranchLemmas.{branch_split}
+use Rattle.olap_proof.{proofs.BranchLemmas.branch_split, specs.Advancing.StepsAt}
+use Rattle.olap_proof.specs.{Asking.{names_in, question_in, schema_in}, Branches.GoesOn, Certificates.Open}
+use Rattle.olap_proof.specs.{Doing.leaves_open, Reading.meaning}
 use Rattle.olap_proof.proofs.advancing.follow.Goals as goal
 
 pub returns-in-Some : goal.returns-in-Some

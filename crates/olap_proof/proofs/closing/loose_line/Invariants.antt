@@ -1,7 +1,6 @@
 -- None so far closes the place.
 use Rattle.std.proofs.Common.{◌<◌, ℕ}
-use Rattle.olap_proof.specs.ClosedHere.{IsOpenHere}
-use Rattle.olap_proof.specs.Lines.Line.{Loose}
+use Rattle.olap_proof.specs.{ClosedHere.IsOpenHere, Lines.Line.Loose}
 use Rattle.olap_proof.proofs.closing.loose_line.Given as goal
 
 abbrev pub invariant-edges : goal.invariant-edges

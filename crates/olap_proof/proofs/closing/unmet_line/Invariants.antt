@@ -1,7 +1,6 @@
 -- None so far closes the place.
 use Rattle.std.proofs.Common.{◌<◌, ℕ}
-use Rattle.olap_proof.specs.ClosedHere.{IsOpenHere}
-use Rattle.olap_proof.specs.Lines.Line.{Unmet}
+use Rattle.olap_proof.specs.{ClosedHere.IsOpenHere, Lines.Line.Unmet}
 use Rattle.olap_proof.proofs.closing.unmet_line.Given as goal
 
 abbrev pub invariant-constraints : goal.invariant-constraints

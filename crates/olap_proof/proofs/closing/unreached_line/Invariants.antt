@@ -1,7 +1,6 @@
 -- None so far closes the place.
 use Rattle.std.proofs.Common.{◌<◌, ℕ}
-use Rattle.olap_proof.specs.ClosedHere.{IsOpenHere}
-use Rattle.olap_proof.specs.Lines.Line.{Unreached}
+use Rattle.olap_proof.specs.{ClosedHere.IsOpenHere, Lines.Line.Unreached}
 use Rattle.olap_proof.proofs.closing.unreached_line.Given as goal
 
 abbrev pub invariant-categories : goal.invariant-categories

@@ -1,10 +1,8 @@
-use Rattle.std.proofs.Common.{◌≡◌, ◌∙◌, ◌<◌, ◌^◌, ℕ, List, true, false, subst, sym}
-use Rattle.std.proofs.lemmas.List.{length-map}
+use Rattle.std.proofs.{Common.{◌≡◌, ◌∙◌, ◌<◌, ◌^◌, ℕ, List, true, false, subst, sym}, lemmas.List.length-map}
 use Rattle.olap_ast.specs.Trees.{constraint_of, formula_of}
 use Rattle.olap_names.specs.Names.{candidates_of}
-use Rattle.olap_proof.specs.DoneHere.{StepsHere, open_after, schema_at}
-use Rattle.olap_proof.specs.Reading.{meaning}
 use Rattle.olap_proof.proofs.DoingLemmas.{does_once, does_step, step_does}
+use Rattle.olap_proof.specs.{DoneHere.{StepsHere, open_after, schema_at}, Reading.meaning}
 use Rattle.olap_proof.proofs.doing.effective_line.Goals as goal
 
 pub returns-in_err-line-clause-none : goal.returns-in_err-line-clause-none

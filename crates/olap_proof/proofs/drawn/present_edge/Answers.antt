@@ -1,6 +1,5 @@
 use Rattle.std.proofs.Common.{refl, sym}
-use Rattle.olap_proof.proofs.DrawnLemmas.{drawn_edge}
-use Rattle.olap_proof.proofs.SeenLemmas.{decisions_within, present_seen}
+use Rattle.olap_proof.proofs.{DrawnLemmas.drawn_edge, SeenLemmas.{decisions_within, present_seen}}
 use Rattle.olap_proof.proofs.drawn.present_edge.Goals as goal
 
 pub returns-in_err-first-clause-none : goal.returns-in_err-first-clause-none

@@ -1,36 +1,22 @@
 -- Below each split the place is one of the schema's, with less to decide; the lines so far close what was split.
-use Rattle.std.proofs.Common.{refl, ◌≡◌, ◌≢◌, ℕ, None, ◌<◌, ◌≤◌, ◌+◌, [], ◌∷◌, ◌++◌, length, map, ap, subst, ◌∙◌, arith, true, false}
-use Rattle.std.specs.List.{range_with_len}
+use Rattle.std.proofs.Common.{refl, ◌≡◌, ◌≢◌, ℕ, None, ◌<◌, ◌+◌, length, ap, subst, ◌∙◌, arith, true, false}
 use Rattle.std.proofs.lemmas.Result.{on_ok_weaker}
-use Rattle.olap_proof.specs.Asking.{IsUnnamed, names_in, question_in, schema_in}
-use Rattle.olap_proof.specs.Certificates.{Open.At, with_edge, with_name}
-use Rattle.olap_base.specs.Graph.{IsDeclared}
-use Rattle.olap_proof.specs.Lines.{line_text}
-use Rattle.olap_proof.specs.Places.{Place, index_of}
-use Rattle.olap_proof.specs.Reading.{meaning}
-use Rattle.olap_proof.specs.Trees.{Adds}
 use Rattle.olap_proof.proofs.TreeTextLemmas.{adds_leaf, adds_names, edge_below, edge_written, left, name_below, name_written, none_left}
+use Rattle.olap_proof.specs.{Asking.{names_in, question_in, schema_in}, Certificates.{with_edge, with_name}}
+use Rattle.olap_proof.specs.{Places.{Place, index_of}, Reading.meaning}
+use Rattle.olap_base.specs.Graph.{IsDeclared}
 use Rattle.olap_proof.proofs.growing.+grow.Goals as goal
 
 pub returns-in-Some-clause-tree : goal.returns-in-Some-clause-tree
 returns-in-Some-clause-tree t c =
-    let a = c.args.asked.now in
-    let h = c.in-Some.ensures.some in
-    let l = meaning c.in-Some.line in
-    let old = c.args.out.now.items in
-    let new = c.push_bounded.new.out.items in
-    on_ok_weaker c.push_bounded.result
-    (λ (e : new ≡ old ++ (line_text a.graph.now l ++ 10 ∷ [])).
-    adds_leaf c.args.form (schema_in a) (question_in a) (names_in a) c.args.case.now l old new h.0 h.1 e)
-    c.push_bounded.ensures
+    on_ok_weaker c.push_bounded.result (adds_leaf c.args.form (schema_in a) (question_in a) (names_in a) c.args.case.now
+    (meaning c.in-Some.line) c.args.out.now.items c.push_bounded.new.out.items c.in-Some.ensures.some.0
+    c.in-Some.ensures.some.1) c.push_bounded.ensures
+  where
+    open c use {args.asked.now as a}
 
 pub returns-in-Some-clause-same : goal.returns-in-Some-clause-same
-returns-in-Some-clause-same t c =
-    let l = meaning c.in-Some.line in
-    let old = c.args.out.now.items in
-    let new = c.push_bounded.new.out.items in
-    on_ok_weaker c.push_bounded.result
-    (λ (e : new ≡ old ++ (line_text c.args.asked.now.graph.now l ++ 10 ∷ [])). refl) c.push_bounded.ensures
+returns-in-Some-clause-same t c = on_ok_weaker c.push_bounded.result (λ e. refl) c.push_bounded.ensures
 
 pub grow-requires : goal.grow-requires
 grow-requires t c =
@@ -59,41 +45,35 @@ grow-grown-requires t c =
 
 pub returns-in-Some-next_edge-clause-tree : goal.returns-in-Some-next_edge-clause-tree
 returns-in-Some-next_edge-clause-tree t c =
-    let a = c.args.asked.now in
-    let p = c.args.case.now in
-    let e = c.in-Some-next_edge.edge.0 in
     let first = c.decide.ensures ∙ ap (λ x. with_edge x e false) c.next_edge.ensures.same in
     let back = c.undecide.ensures p e false (c.in_ok-grow.ensures.same ∙ first) in
     let second = c.decide-in-Some-next_edge.ensures ∙ ap (λ x. with_edge x e true) back in
-    on_ok_weaker c.grow-grown.result
-    (λ (tree : Adds c.args.form (schema_in a) (question_in a) (names_in a) (At c.decide-in-Some-next_edge.new.self ∷ [])
-    c.grow.new.out.items c.grow-grown.new.out.items).
-    edge_written c.args.form (schema_in a) (question_in a) (names_in a) p c.decide.new.self
-    c.decide-in-Some-next_edge.new.self e c.args.out.now.items
+    on_ok_weaker c.grow-grown.result (edge_written c.args.form (schema_in a) (question_in a) (names_in a) p
+    c.decide.new.self c.decide-in-Some-next_edge.new.self e c.args.out.now.items
     c.push_bounded-in-Some-next_edge.new.out.items c.grow.new.out.items c.grow-grown.new.out.items
-    c.in-Some-next_edge.ensures.some c.in_ok-push_bounded.ensures first second c.in_ok-grow.ensures.tree tree)
+    c.in-Some-next_edge.ensures.some c.in_ok-push_bounded.ensures first second c.in_ok-grow.ensures.tree)
     c.grow-grown.ensures.tree
+  where
+    open c use {args.asked.now as a, args.case.now as p, in-Some-next_edge.edge.0 as e}
 
 pub returns-in-Some-next_edge-clause-same : goal.returns-in-Some-next_edge-clause-same
 returns-in-Some-next_edge-clause-same t c =
-    let p = c.args.case.now in
-    let e = c.in-Some-next_edge.edge.0 in
     let first = c.decide.ensures ∙ ap (λ x. with_edge x e false) c.next_edge.ensures.same in
     let back = c.undecide.ensures p e false (c.in_ok-grow.ensures.same ∙ first) in
     let second = c.decide-in-Some-next_edge.ensures ∙ ap (λ x. with_edge x e true) back in
-    on_ok_weaker c.grow-grown.result
-    (λ (same : c.grow-grown.new.case ≡ c.decide-in-Some-next_edge.new.self).
+    on_ok_weaker c.grow-grown.result (λ (same : c.grow-grown.new.case ≡ c.decide-in-Some-next_edge.new.self).
     c.undecide-in-Some-next_edge.ensures p e true (same ∙ second)) c.grow-grown.ensures.same
+  where
+    open c use {args.case.now as p, in-Some-next_edge.edge.0 as e}
 
 pub grow-requires-in-names : goal.grow-requires-in-names
 grow-requires-in-names t c =
     let same = c.names.invariant.same ∙ c.next_edge.ensures.same in
     let new = c.in_ok-name.ensures ∙ ap (λ x. with_name x d.0 c.names.index) same in
-    let unnamed = subst (λ x. IsUnnamed a x d) c.next_edge.ensures.same c.in-Some-next_name.ensures.some in
-    let small : c.names.index ≤ length ((names_in a).texts d.0) =
-    omega (arith, ap length c.others.ensures.list, c.names-test.true) in
+    let unnamed = rw c.next_edge.ensures.same at c.in-Some-next_name.ensures.some in
     let below = name_below (schema_in a) (question_in a) (names_in a) p c.name.new.self d.0
-    c.names.index c.requires.place c.requires.none unnamed small new in (
+    c.names.index c.requires.place c.requires.none unnamed
+    (omega (arith, ap length c.others.ensures.list, c.names-test.true)) new in (
       subst (λ n. left c.name.new.self < n) c.decreases below.less,
       (c.requires.asked, (below.place, below.none)),
     )
@@ -119,14 +99,9 @@ returns-after-names-clause-tree t c =
     let s = schema_in a in
     let all : c.names.index ≡ length ((names_in a).texts d.0) + 1 =
     omega (arith, ap length c.others.ensures.list, c.names-test.false, c.names.auto.index-end) in
-    subst (λ x. Adds c.args.form s (question_in a) (names_in a) (At x ∷ []) c.args.out.now.items c.names.out.items)
-    c.next_edge.ensures.same
-    (adds_names c.args.form s (question_in a) (names_in a) p d.0 c.args.out.now.items
+    rw (← c.next_edge.ensures.same) (adds_names c.args.form s (question_in a) (names_in a) p d.0 c.args.out.now.items
     c.push_bounded-in-Some-next_name.new.out.items c.names.out.items c.in-Some-next_name.ensures.some.0
-    c.in-Some-next_name.ensures.some.1 c.in_ok-push_bounded-2.ensures
-    (subst (λ n. Adds c.args.form s (question_in a) (names_in a)
-    (map (λ i. At (with_name p d.0 i)) (range_with_len 0 n)) c.push_bounded-in-Some-next_name.new.out.items
-    c.names.out.items) all c.names.invariant.written))
+    c.in-Some-next_name.ensures.some.1 c.in_ok-push_bounded-2.ensures (rw all at c.names.invariant.written))
   where
     open c use {args.asked.now as a, in-Some-next_name.c as d, next_edge.new.case as p}
 

@@ -1,10 +1,7 @@
 -- What is left to decide gets less. The trees of the names so far are written.
-use Rattle.std.proofs.Common.{◌≡◌, map}
-use Rattle.std.specs.List.{range_with_len}
-use Rattle.olap_proof.specs.Asking.{names_in, question_in, schema_in}
-use Rattle.olap_proof.specs.Certificates.{Open.At, with_name}
-use Rattle.olap_proof.specs.Trees.{Adds}
-use Rattle.olap_proof.proofs.TreeTextLemmas.{left}
+use Rattle.std.{proofs.Common.{◌≡◌, map}, specs.List.range_with_len}
+use Rattle.olap_proof.{proofs.TreeTextLemmas.left, specs.Asking.{names_in, question_in, schema_in}}
+use Rattle.olap_proof.specs.{Certificates.{Open.At, with_name}, Trees.Adds}
 use Rattle.olap_proof.proofs.growing.+grow.Given as goal
 
 abbrev pub decreases-grow : goal.decreases-grow

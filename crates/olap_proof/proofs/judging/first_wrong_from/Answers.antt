@@ -1,18 +1,14 @@
-use Rattle.std.proofs.Common.{◌≡◌, ◌+◌, suc, List, ℕ, Bor, sym, ◌∷◌, ap, arith, length, refl, subst, ◌∙◌}
-use Rattle.std.specs.Prelude.{IsNone, Option}
-use Rattle.std.proofs.lemmas.List.{length-append}
-use Rattle.olap_proof.specs.Stages.{IsReached, IsStage, StepsTo, if_done, open_at}
-use Rattle.olap_proof.specs.declared.stages.Stage.{Stage}
+use Rattle.std.proofs.{Common.{◌≡◌, ◌+◌, suc, ◌∷◌, ap, arith, length, refl, ◌∙◌}, lemmas.List.length-append}
 use Rattle.olap_proof.proofs.StageLemmas.{reached_more, reached_start, right_end, wrong_after, wrong_here}
+use Rattle.olap_proof.specs.Stages.{open_at}
 use Rattle.olap_proof.proofs.judging.first_wrong_from.Goals as goal
 
 pub lines-init : goal.lines-init
 lines-init c =
     let a = c.args.asked.now in
     record {
-      reached = subst (λ (y : Stage). IsReached c.args.form a c.args.text.now c.args.text.now 0 (open_at a y))
-          (sym c.requires.start) (reached_start c.args.form a c.args.text.now);
-      stage = subst (λ (y : Stage). IsStage a y) (sym c.requires.start) tt;
+      reached = rw c.requires.start (reached_start c.args.form a c.args.text.now);
+      stage = rw c.requires.start tt;
       few = omega arith;
     }
 
@@ -21,15 +17,13 @@ returns-then-not-branch-clause-some c =
     wrong_here c.args.form a c.args.text.now c.lines.rest.now x c.in-Some.others.now c.lines.count c.lines.stage
     c.requires.asked.hierarchy c.requires.few c.lines.invariant.reached c.in-Some.ensures.some
     c.in-Some.ensures.whole
-    (subst (λ b. StepsTo c.args.form a c.lines.stage x (if_done b c.step.new.stage)) c.if-not-branch.true
-    c.in_ok-step.ensures)
+    (rw c.if-not-branch.true at c.in_ok-step.ensures)
   where
     open c use {args.asked.now as a, in-Some.line.now as x}
 
 pub lines-preserved : goal.lines-preserved
 lines-preserved c =
-    let steps = subst (λ b. StepsTo c.args.form a c.lines.stage x (if_done b later)) c.if-not-branch.false
-    c.in_ok-step.ensures in
+    let steps = rw c.if-not-branch.false at c.in_ok-step.ensures in
     let count : length c.lines.rest.now ≡ length x + suc (length others) =
     ap length c.in-Some.ensures.some ∙ length-append x (10 ∷ others) in
     record {
@@ -51,7 +45,6 @@ returns-clause-none c = λ none.
 pub returns-clause-some : goal.returns-clause-some
 returns-clause-some c =
     let a = c.args.asked.now in
-    let whole = c.next_line.ensures.none
-    (subst (λ (o : Option (Bor (List ℕ) × Bor (List ℕ))). IsNone o) (sym c.in_default.is) refl) in
+    let whole = c.next_line.ensures.none (rw c.in_default.is refl) in
     wrong_after c.args.form a c.args.text.now c.lines.rest.now c.lines.count c.lines.stage c.early_end.result
     c.lines.invariant.reached whole (c.early_end.ensures.some a)

@@ -1,13 +1,9 @@
 -- Decisions and ways lie in the graph, and their ends are all that is known.
-use Rattle.std.proofs.Common.{◌<◌, ℕ, ◌↔◌, ◌∙◌, length, ap, subst, sym}
-use Rattle.std.specs.FinSet.{empty, insert}
+use Rattle.std.{proofs.Common.{◌<◌, ℕ, ◌↔◌, ◌∙◌, length, ap, subst, sym}, specs.FinSet.{empty, insert}}
 use Rattle.olap_base.specs.Graph.{Graph}
 use Rattle.olap_bits.specs.Sets.{members}
-use Rattle.olap_proof.specs.KeptWays.{leading_way}
-use Rattle.olap_proof.specs.Seen.{TouchedByDecisions, decision_at}
-use Rattle.olap_proof.specs.Walking.{IsIn}
-use Rattle.olap_proof.proofs.SeenLemmas.{decisions_within}
-use Rattle.olap_proof.proofs.TouchingLemmas.{known_is}
+use Rattle.olap_proof.{proofs.SeenLemmas.decisions_within, proofs.TouchingLemmas.known_is, specs.KeptWays.leading_way}
+use Rattle.olap_proof.specs.{Seen.{TouchedByDecisions, decision_at}, Walking.IsIn}
 use Rattle.olap_proof.proofs.knowing.known_at.Goals as goal
 
 pub touch_decisions-requires : goal.touch_decisions-requires

@@ -1,5 +1,4 @@
-use Rattle.std.proofs.Common.{◌∙◌, ap}
-use Rattle.std.specs.FinSet.{insert}
+use Rattle.std.{proofs.Common.{◌∙◌, ap}, specs.FinSet.insert}
 use Rattle.olap_bits.specs.Sets.{members}
 use Rattle.olap_proof.proofs.TouchingLemmas.{touched_both}
 use Rattle.olap_proof.proofs.knowing.touch.Goals as goal

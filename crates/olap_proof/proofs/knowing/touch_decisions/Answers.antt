@@ -3,9 +3,8 @@ use Rattle.std.proofs.Common.{◌≡◌, ℕ, ◌↔◌, length, subst, sym, ari
 use Rattle.olap_base.specs.Graph.{Edge}
 use Rattle.olap_bits.specs.Sets.{members}
 use Rattle.olap_graph.specs.Lookups.{edge_at}
-use Rattle.olap_proof.specs.Seen.{TouchedByDecisions, decision_at}
-use Rattle.olap_proof.specs.Walking.{IsIn, IsTouched}
 use Rattle.olap_proof.proofs.TouchingLemmas.{touched_at_first, touched_by}
+use Rattle.olap_proof.specs.{Seen.{TouchedByDecisions, decision_at}, Walking.{IsIn, IsTouched}}
 use Rattle.olap_proof.proofs.knowing.touch_decisions.Goals as goal
 
 pub decisions-init : goal.decisions-init

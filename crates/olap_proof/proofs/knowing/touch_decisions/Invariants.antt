@@ -1,8 +1,7 @@
 -- The set has the ends of the edges so far.
 use Rattle.std.proofs.Common.{ℕ, ◌↔◌}
 use Rattle.olap_bits.specs.Sets.{members}
-use Rattle.olap_proof.specs.Seen.{TouchedByDecisions}
-use Rattle.olap_proof.specs.Walking.{IsIn}
+use Rattle.olap_proof.specs.{Seen.TouchedByDecisions, Walking.IsIn}
 use Rattle.olap_proof.proofs.knowing.touch_decisions.Given as goal
 
 abbrev pub invariant-decisions : goal.invariant-decisions

@@ -1,6 +1,5 @@
 -- The category and those to which ways lead were added, or there are none.
-use Rattle.std.proofs.Common.{◌∙◌, ap, refl}
-use Rattle.std.specs.FinSet.{union}
+use Rattle.std.{proofs.Common.{◌∙◌, ap, refl}, specs.FinSet.union}
 use Rattle.olap_bits.specs.Sets.{members}
 use Rattle.olap_proof.proofs.TouchingLemmas.{touched_from_none, touched_some}
 use Rattle.olap_proof.proofs.knowing.touch_from.Goals as goal

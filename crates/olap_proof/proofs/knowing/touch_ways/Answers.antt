@@ -1,9 +1,8 @@
 -- One category more is seen.
 use Rattle.std.proofs.Common.{◌≡◌, ℕ, ◌↔◌, subst, arith}
 use Rattle.olap_bits.specs.Sets.{members}
-use Rattle.olap_proof.specs.Seen.{LeadsHere}
+use Rattle.olap_proof.{proofs.TouchingLemmas.{touched_from_first, touched_more}, specs.Seen.LeadsHere}
 use Rattle.olap_proof.specs.Walking.{IsIn, TouchedFrom}
-use Rattle.olap_proof.proofs.TouchingLemmas.{touched_from_first, touched_more}
 use Rattle.olap_proof.proofs.knowing.touch_ways.Goals as goal
 
 pub categories-init : goal.categories-init

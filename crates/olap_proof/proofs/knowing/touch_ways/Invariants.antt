@@ -1,8 +1,7 @@
 -- The set has the ends of the ways from the categories so far.
 use Rattle.std.proofs.Common.{ℕ, ◌↔◌}
 use Rattle.olap_bits.specs.Sets.{members}
-use Rattle.olap_proof.specs.Seen.{LeadsHere}
-use Rattle.olap_proof.specs.Walking.{IsIn, TouchedFrom}
+use Rattle.olap_proof.specs.{Seen.LeadsHere, Walking.{IsIn, TouchedFrom}}
 use Rattle.olap_proof.proofs.knowing.touch_ways.Given as goal
 
 abbrev pub invariant-categories : goal.invariant-categories

@@ -1,7 +1,6 @@
 use Rattle.std.proofs.Common.{◌∙◌, refl, sym, arith}
 use Rattle.olap_graph.specs.Lookups.{edges_from}
-use Rattle.olap_proof.specs.Lines.{IsNoStep}
-use Rattle.olap_proof.proofs.EdgesOutLemmas.{all_out, one_out}
+use Rattle.olap_proof.{proofs.EdgesOutLemmas.{all_out, one_out}, specs.Lines.IsNoStep}
 use Rattle.olap_proof.proofs.leaves.has_no_step.Goals as goal
 
 pub returns-then-not-is_no_step : goal.returns-then-not-is_no_step

@@ -1,7 +1,6 @@
 use Rattle.std.proofs.Common.{◌∙◌, ap, sym}
 use Rattle.olap_base.specs.Reaching.{category_reaches}
-use Rattle.olap_proof.specs.Places.{possible_graph}
-use Rattle.olap_proof.proofs.TellingLemmas.{not_reached}
+use Rattle.olap_proof.{proofs.TellingLemmas.not_reached, specs.Places.possible_graph}
 use Rattle.olap_proof.proofs.leaves.is_cut_off.Goals as goal
 
 pub returns : goal.returns

@@ -1,8 +1,7 @@
 use Rattle.std.proofs.Common.{refl}
-use Rattle.olap_graph.specs.Lookups.{edge_at}
+use Rattle.olap_graph.{proofs.TableLemmas.has_edge_at, specs.Lookups.edge_at}
 use Rattle.olap_proof.proofs.LineLemmas.{edge_spelled, edge_unspelled}
 use Rattle.olap_proof.proofs.lines.edge.Goals as goal
-use Rattle.olap_graph.proofs.TableLemmas.{has_edge_at}
 
 pub returns-in_err-child-clause-none : goal.returns-in_err-child-clause-none
 returns-in_err-child-clause-none c = λ u e l s.

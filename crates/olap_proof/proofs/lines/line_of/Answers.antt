@@ -1,11 +1,9 @@
 use Rattle.std.proofs.Common.{◌≡◌, ◌++◌, ◌∷◌, List, ℕ, Bor, None, Some, map, subst, refl, sym}
-use Rattle.std.specs.Prelude.{IfSome, IsNone, Option}
-use Rattle.std.specs.Option.{option_map}
+use Rattle.std.specs.{Option.option_map, Prelude.{IfSome, IsNone, Option}}
 use Rattle.olap_ast.specs.Trees.{constraint_of}
 use Rattle.olap_names.specs.Names.{with_graph}
-use Rattle.olap_proof.specs.Reading.{word_text}
+use Rattle.olap_proof.{proofs.ReadingLemmas.{cut_joined, line_read, word_unread}, specs.Reading.word_text}
 use Rattle.olap_proof.specs.declared.lines.Word.{Word}
-use Rattle.olap_proof.proofs.ReadingLemmas.{cut_joined, line_read, word_unread}
 use Rattle.olap_proof.proofs.lines.line_of.Goals as goal
 
 pub returns-in-Some-Some : goal.returns-in-Some-Some

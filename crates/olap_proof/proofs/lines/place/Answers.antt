@@ -1,7 +1,6 @@
-use Rattle.std.proofs.Common.{◌≡◌, suc, sym, ◌∙◌, arith}
-use Rattle.std.proofs.lemmas.Fmt.{decimal_injective}
-use Rattle.olap_proof.proofs.lines.place.Goals as goal
+use Rattle.std.proofs.{Common.{◌≡◌, suc, sym, ◌∙◌, arith}, lemmas.Fmt.decimal_injective}
 use Rattle.olap_proof.proofs.lines.place.Goals.{else-n-gt0-via-then-n-gt0+else-n-count, else-n-gt0-via-else-n-gt0}
+use Rattle.olap_proof.proofs.lines.place.Goals as goal
 
 pub returns-else-n-gt0-clause-none : goal.returns-else-n-gt0-clause-none
 returns-else-n-gt0-clause-none c = λ u m l e.

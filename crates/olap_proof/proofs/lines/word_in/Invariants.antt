@@ -1,6 +1,5 @@
 -- No word so far has these bytes.
-use Rattle.std.proofs.Common.{◌<◌, ℕ}
-use Rattle.std.specs.Prelude.{◌≢◌}
+use Rattle.std.{proofs.Common.{◌<◌, ℕ}, specs.Prelude.◌≢◌}
 use Rattle.olap_proof.specs.Reading.{word_at, word_text}
 use Rattle.olap_proof.proofs.lines.word_in.Given as goal
 

@@ -1,7 +1,6 @@
 -- No name of the category was decided so far.
 use Rattle.std.proofs.Common.{◌≡◌, length, map}
-use Rattle.olap_proof.specs.KeptParts.{naming_kept}
-use Rattle.olap_proof.specs.Places.{index_of}
+use Rattle.olap_proof.specs.{KeptParts.naming_kept, Places.index_of}
 use Rattle.olap_proof.proofs.places.index_in.Given as goal
 
 abbrev pub invariant-namings : goal.invariant-namings

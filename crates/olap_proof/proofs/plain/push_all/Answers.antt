@@ -1,11 +1,8 @@
-use Rattle.std.proofs.Common.{◌≡◌, ◌+◌, ◌-◌, ◌<◌, ◌≤◌, ◌++◌, ◌∷◌, ◌∙◌, [], List, ℕ, arith, ap, false, length, map, subst, sym, true}
-use Rattle.olap_base.specs.Graph.{category_count}
-use Rattle.olap_proof.specs.Asking.{names_in, question_in, schema_in}
-use Rattle.olap_proof.specs.Certificates.{Open.Bottom, head_text}
-use Rattle.olap_proof.specs.Trees.{Adds}
-use Rattle.olap_proof.proofs.BottomLemmas.{certified, first_bottoms, next_same, next_written}
-use Rattle.olap_proof.proofs.plain.push_all.Goals as goal
+use Rattle.std.proofs.Common.{◌≡◌, ◌-◌, ◌≤◌, ◌++◌, ◌∷◌, ◌∙◌, [], arith, ap, length}
+use Rattle.olap_proof.proofs.BottomLemmas.{certified, next_same, next_written}
 use Rattle.olap_proof.proofs.plain.push_all.Goals.{then-is_bottom+in_ok-push_tree, else-is_bottom}
+use Rattle.olap_proof.specs.{Asking.{names_in, question_in, schema_in}, Certificates.head_text}
+use Rattle.olap_proof.proofs.plain.push_all.Goals as goal
 
 pub push_tree-requires-clause-none : goal.push_tree-requires-clause-none
 push_tree-requires-clause-none c = c.requires.none c.categories.b (c.is_bottom.ensures.0 c.if-is_bottom.true)
@@ -13,23 +10,23 @@ push_tree-requires-clause-none c = c.requires.none c.categories.b (c.is_bottom.e
 pub categories-preserved : goal.categories-preserved
 categories-preserved c =
     let low : 1 ≤ b = omega (arith, c.categories.auto.b) in
-    let small : b < category_count a.graph.now =
-    omega (arith, c.categories-test.true, c.categories-b-end.ensures.count) in
-    let so : List ℕ → Type 0 = λ new. Adds c.args.form (schema_in a) (question_in a) (names_in a)
-    (map Bottom (first_bottoms a.graph.now (b + 1 - 1))) from new in
     elim c.if-is_bottom.branch [
       | then-is_bottom+in_ok-push_tree w ↦
-          subst (λ o. so o.items) (sym w.out-is)
-          (next_written c.args.form (schema_in a) (question_in a) (names_in a) b from there w.push_tree.new.out.items
-          low (c.is_bottom.ensures.0 w.if-is_bottom.true) c.categories.invariant w.in_ok-push_tree.ensures)
+          rw w.out-is (next_written f (schema_in a) (question_in a) (names_in a) b from there _ low
+          (c.is_bottom.ensures.0 w.if-is_bottom.true) c.categories.invariant w.in_ok-push_tree.ensures)
       | else-is_bottom w ↦
-          subst (λ o. so o.items) (sym w.out-is)
-          (next_same c.args.form (schema_in a) (question_in a) (names_in a) b from there low small
-          (λ h. let z : true ≡ false = sym (c.is_bottom.ensures.1 h) ∙ w.if-is_bottom.false in cc)
-          c.categories.invariant)
+          rw w.out-is (next_same f (schema_in a) (question_in a) (names_in a) b from there low
+          (omega (arith, c.categories-test.true, c.categories-b-end.ensures.count))
+          (λ h. let z = c.is_bottom.ensures.1 h in let n = w.if-is_bottom.false in cc) c.categories.invariant)
     ]
   where
-    open c use {args.asked.now as a, categories.b, categories.out.items as there, push_head.new.out.items as from}
+    open c use {
+      args.asked.now as a,
+      args.form as f,
+      categories.b,
+      categories.out.items as there,
+      push_head.new.out.items as from,
+    }
 
 pub returns : goal.returns
 returns c =

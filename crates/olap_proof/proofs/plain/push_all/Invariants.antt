@@ -1,9 +1,7 @@
 -- The trees of the bottom categories so far are written.
 use Rattle.std.proofs.Common.{◌-◌, map}
-use Rattle.olap_proof.specs.Asking.{names_in, question_in, schema_in}
-use Rattle.olap_proof.specs.Certificates.{Open.Bottom}
-use Rattle.olap_proof.specs.Trees.{Adds}
-use Rattle.olap_proof.proofs.BottomLemmas.{first_bottoms}
+use Rattle.olap_proof.{proofs.BottomLemmas.first_bottoms, specs.Asking.{names_in, question_in, schema_in}}
+use Rattle.olap_proof.specs.{Certificates.Open.Bottom, Trees.Adds}
 use Rattle.olap_proof.proofs.plain.push_all.Given as goal
 
 abbrev pub invariant-categories : goal.invariant-categories

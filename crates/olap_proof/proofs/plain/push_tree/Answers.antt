@@ -1,9 +1,8 @@
 -- The tree stands below the line above it.
 use Rattle.std.proofs.Common.{subst, sym}
 use Rattle.olap_ast.specs.Frozen.{Frozen, IsFrozen}
-use Rattle.olap_proof.specs.Asking.{names_in, question_in, schema_in}
+use Rattle.olap_proof.{proofs.TreeTextLemmas.adds_below, specs.Asking.{names_in, question_in, schema_in}}
 use Rattle.olap_proof.specs.Places.{Place}
-use Rattle.olap_proof.proofs.TreeTextLemmas.{adds_below}
 use Rattle.olap_proof.proofs.plain.push_tree.Goals as goal
 
 pub grow-requires-clause-none : goal.grow-requires-clause-none

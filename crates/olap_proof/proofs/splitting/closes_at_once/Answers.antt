@@ -1,8 +1,6 @@
 -- With one decision more it is a place of the schema.
 use Rattle.std.proofs.Common.{subst, sym}
-use Rattle.olap_proof.specs.Asking.{names_in}
-use Rattle.olap_proof.specs.Trees.{IsPlaceOf}
-use Rattle.olap_proof.proofs.TreeTextLemmas.{place_edge}
+use Rattle.olap_proof.{proofs.TreeTextLemmas.place_edge, specs.Asking.names_in, specs.Trees.IsPlaceOf}
 use Rattle.olap_proof.proofs.splitting.closes_at_once.Goals as goal
 
 pub closing_line-requires : goal.closing_line-requires

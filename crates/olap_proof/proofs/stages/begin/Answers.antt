@@ -1,12 +1,8 @@
-use Rattle.std.proofs.Common.{◌+◌, map, refl, subst, sym}
-use Rattle.std.specs.Prelude.{Some}
-use Rattle.olap_proof.specs.Asking.{names_in, question_in, schema_in}
-use Rattle.olap_proof.specs.Certificates.{Open.Bottom}
-use Rattle.olap_proof.specs.Stages.{StepsTo, bottoms_from}
-use Rattle.olap_proof.specs.declared.stages.Stage.{Stage}
+use Rattle.std.{proofs.Common.{◌+◌, map, refl, subst, sym}, specs.Prelude.Some}
+use Rattle.olap_proof.proofs.{LeadingLemmas.begun, StageLemmas.bottom_none}
+use Rattle.olap_proof.specs.{Asking.{names_in, question_in, schema_in}, Certificates.Open.Bottom}
+use Rattle.olap_proof.specs.{Stages.{StepsTo, bottoms_from}, declared.stages.Stage.Stage}
 use Rattle.olap_proof.specs.declared.stages.Stage.TheVariants as variant
-use Rattle.olap_proof.proofs.LeadingLemmas.{begun}
-use Rattle.olap_proof.proofs.StageLemmas.{bottom_none}
 use Rattle.olap_proof.proofs.stages.begin.Goals as goal
 
 pub returns-then-not-is_bottom_line : goal.returns-then-not-is_bottom_line

@@ -1,6 +1,5 @@
 use Rattle.std.proofs.Common.{◌≡◌, ◌∙◌, ◌++◌, ◌∷◌, List, ℕ, Bor, ap, codes, subst, sym, refl, true≢false}
-use Rattle.std.specs.Str.{bytes_eq}
-use Rattle.std.specs.Prelude.{Contains, IfSome, IsNone, Option}
+use Rattle.std.specs.{Prelude.{Contains, IfSome, IsNone, Option}, Str.bytes_eq}
 use Rattle.olap_proof.proofs.LeadingLemmas.{bottom_read, bottom_unread}
 use Rattle.olap_proof.proofs.stages.is_bottom_line.Goals as goal
 

@@ -1,66 +1,46 @@
 -- One decision more is drawn, if it says present.
-use Rattle.std.proofs.Common.{◌≡◌, ◌+◌, ◌<◌, ◌∙◌, length, ap, refl, subst, sym, arith}
-use Rattle.std.specs.FinSet.{insert}
-use Rattle.std.proofs.Math.ListN.{length-set}
-use Rattle.olap_base.specs.Graph.{Edge, HasEdge}
+use Rattle.std.proofs.{Common.{◌≡◌, ◌∙◌, ℕ, length, ap, refl, subst, arith}, Math.ListN.length-set}
+use Rattle.olap_base.specs.Graph.{Edge}
 use Rattle.olap_graph.specs.Lookups.{edge_at}
-use Rattle.olap_graph.proofs.RowLemmas.{row_read}
-use Rattle.olap_proof.specs.Seen.{SeenDecisions, decision_at}
-use Rattle.olap_proof.specs.Tables.{Draws}
 use Rattle.olap_proof.proofs.DrawingLemmas.{draws_edge, draws_none, draws_skip}
-use Rattle.olap_proof.proofs.tables.draw_decisions.Goals as goal
 use Rattle.olap_proof.proofs.tables.draw_decisions.Goals.{then-decision, else-decision}
+use Rattle.olap_proof.specs.{Seen.{SeenDecisions, decision_at}, Tables.Draws}
+use Rattle.olap_proof.proofs.tables.draw_decisions.Goals as goal
 
 pub decisions-init : goal.decisions-init
 decisions-init c = record {
   count = refl;
   drawn = λ g lie.
       draws_none g (SeenDecisions c.args.graph.now c.args.decisions.now 0) c.args.rows.now
-      (λ x y s. absurd (let l = s.1 in omega (arith, l)));
+      (λ x y s. omega (arith, s.1));
 }
 
 pub decisions-preserved : goal.decisions-preserved
-decisions-preserved c =
-    let e = (decision_at ds i).edge.0 in
-    elim c.if-decision.branch [
-      | then-decision w ↦
-          let k = w.from-c.result in
-          let q = w.ends.result.1.0 in
-          let from = ap (λ (x : Edge). x.child) w.ends.ensures.edge ∙ sym w.from-c.ensures in
-          let to = ap (λ (x : Edge). x.parent) w.ends.ensures.edge in
-          let there : k < length mid =
-          let a = w.from-c.ensures in
-          let h = w.ends.ensures.child in
-          let n = c.decisions.invariant.count in
-          let m = c.requires.count in omega arith in
-          record {
-            count = ap length w.rows-is ∙ length-set mid k w.with.result ∙ c.decisions.invariant.count;
-            drawn = λ g lie.
-                subst (λ rs. Draws g (SeenDecisions graph ds (i + 1)) old rs) (sym w.rows-is)
-                (draws_edge g (λ j. (decision_at ds j).present) (λ j. (edge_at graph (decision_at ds j).edge.0).child)
-                (λ j. (edge_at graph (decision_at ds j).edge.0).parent) i old mid (c.decisions.invariant.drawn g lie) k
-                q w.with.result from to there
-                (w.with.ensures ∙ ap (λ s. insert s q) (row_read mid k w.index-rows-c.result there w.index-rows-c.is))
-                (subst (λ x. HasEdge g x q) from (subst (λ y. HasEdge g (edge_at graph e).child y) to
-                (lie i c.decisions-test.true w.if-decision.true))));
-          }
-      | else-decision w ↦ record {
-        count = ap length w.rows-is ∙ c.decisions.invariant.count;
-        drawn = λ g lie.
-            subst (λ rs. Draws g (SeenDecisions graph ds (i + 1)) old rs) (sym w.rows-is)
-            (draws_skip g (λ j. (decision_at ds j).present) (λ j. (edge_at graph (decision_at ds j).edge.0).child)
-            (λ j. (edge_at graph (decision_at ds j).edge.0).parent) i old mid (c.decisions.invariant.drawn g lie)
-            w.if-decision.false);
-      }
-    ]
+decisions-preserved c = elim c.if-decision.branch [
+  | then-decision w ↦ record {
+    count = ap length w.rows-is ∙ length-set mid w.from-c.result w.with.result ∙ so.count;
+    drawn = λ g lie. draws_edge g (λ j. (decision_at ds j).present) here i old mid (so.drawn g lie) w.from-c.result _
+        w.index-rows-c.result w.with.result w.ends.ensures.edge w.from-c.ensures
+        (omega (arith, w.ends.ensures.child, so.count, c.requires.count)) w.index-rows-c.is w.with.ensures
+        (lie i c.decisions-test.true w.if-decision.true) w.rows-is;
+  }
+  | else-decision w ↦ record {
+    count = ap length w.rows-is ∙ so.count;
+    drawn = λ g lie.
+        draws_skip g (λ j. (decision_at ds j).present) here i old mid (so.drawn g lie) w.if-decision.false w.rows-is;
+  }
+]
   where
     open c use {
       args.decisions.now as ds,
-      args.graph.now as graph,
       args.rows.now as old,
       decisions.i,
+      decisions.invariant as so,
       decisions.rows as mid,
     }
+
+    here : ℕ → Edge
+    here j = edge_at c.args.graph.now (decision_at ds j).edge.0
 
 pub returns-clause-drawn : goal.returns-clause-drawn
 returns-clause-drawn c = λ g lie.

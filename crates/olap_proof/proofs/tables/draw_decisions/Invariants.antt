@@ -2,8 +2,7 @@
 use Rattle.std.proofs.Common.{◌≡◌, ℕ, ◌<◌, length, true}
 use Rattle.olap_base.specs.Graph.{Graph, HasEdge}
 use Rattle.olap_graph.specs.Lookups.{edge_at}
-use Rattle.olap_proof.specs.Seen.{SeenDecisions, decision_at}
-use Rattle.olap_proof.specs.Tables.{Draws}
+use Rattle.olap_proof.specs.{Seen.{SeenDecisions, decision_at}, Tables.Draws}
 use Rattle.olap_proof.proofs.tables.draw_decisions.Given as goal
 
 abbrev pub invariant-decisions : goal.invariant-decisions

@@ -1,13 +1,10 @@
 -- One category more is taken.
-use Rattle.std.proofs.Common.{◌≡◌, ◌<◌, ◌∙◌, length, ap, refl, subst, arith}
+use Rattle.std.proofs.{Common.{◌≡◌, ◌<◌, ◌∙◌, length, ap, refl, subst, arith}, Math.ListN.length-set}
 use Rattle.std.specs.FinSet.{union}
-use Rattle.std.proofs.Math.ListN.{length-set}
 use Rattle.olap_bits.specs.Sets.{members}
 use Rattle.olap_graph.proofs.RowLemmas.{row_read}
-use Rattle.olap_proof.specs.Seen.{LeadsHere}
-use Rattle.olap_proof.specs.Tables.{Draws}
+use Rattle.olap_proof.{proofs.DrawingLemmas.{draws_all, draws_none}, specs.Seen.LeadsHere, specs.Tables.Draws}
 use Rattle.olap_proof.specs.Walking.{SeenFrom}
-use Rattle.olap_proof.proofs.DrawingLemmas.{draws_all, draws_none}
 use Rattle.olap_proof.proofs.tables.draw_ways.Goals as goal
 
 pub categories-init : goal.categories-init
@@ -20,8 +17,7 @@ categories-init c = record {
 
 pub categories-preserved : goal.categories-preserved
 categories-preserved c =
-    let inside : i < length mid =
-    let n = c.categories.invariant.count in let l = c.categories-test.true in omega arith in
+    let inside : i < length mid = omega (arith, c.categories.invariant.count, c.categories-test.true) in
     record {
       count = length-set mid i c.union.result ∙ c.categories.invariant.count;
       drawn = λ g lie.

@@ -1,9 +1,7 @@
 -- The ways from the categories so far are drawn.
 use Rattle.std.proofs.Common.{◌≡◌, ℕ, length}
 use Rattle.olap_base.specs.Graph.{Graph, HasEdge}
-use Rattle.olap_proof.specs.Seen.{LeadsHere}
-use Rattle.olap_proof.specs.Tables.{Draws}
-use Rattle.olap_proof.specs.Walking.{SeenFrom}
+use Rattle.olap_proof.specs.{Seen.LeadsHere, Tables.Draws, Walking.SeenFrom}
 use Rattle.olap_proof.proofs.tables.draw_ways.Given as goal
 
 abbrev pub invariant-categories : goal.invariant-categories

@@ -1,10 +1,8 @@
 -- The edges that may be present are drawn, and closed.
 use Rattle.std.proofs.Common.{◌∙◌, length, subst}
 use Rattle.olap_base.specs.Graph.{Graph, category_count}
-use Rattle.olap_proof.specs.Places.{possible_graph}
-use Rattle.olap_proof.specs.Seen.{SeenPossible}
-use Rattle.olap_proof.proofs.DrawingLemmas.{closed_table, own_drawn}
-use Rattle.olap_proof.proofs.SeenLemmas.{possible_seen}
+use Rattle.olap_proof.proofs.{DrawingLemmas.{closed_table, own_drawn}, SeenLemmas.possible_seen}
+use Rattle.olap_proof.specs.{Places.possible_graph, Seen.SeenPossible}
 use Rattle.olap_proof.proofs.tables.fill_possible.Goals as goal
 
 pub close-requires-clause-own : goal.close-requires-clause-own

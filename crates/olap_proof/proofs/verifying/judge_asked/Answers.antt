@@ -1,7 +1,5 @@
-use Rattle.std.proofs.Common.{◌≡◌, ℕ, refl, subst, sym}
-use Rattle.std.specs.Prelude.{IfSome, IsNone, Option}
-use Rattle.olap_proof.specs.Asking.{names_in, question_in, schema_in}
-use Rattle.olap_proof.specs.Certificates.{IsFirstWrong}
+use Rattle.std.{proofs.Common.{◌≡◌, ℕ, refl, subst, sym}, specs.Prelude.{IfSome, IsNone, Option}}
+use Rattle.olap_proof.specs.{Asking.{names_in, question_in, schema_in}, Certificates.IsFirstWrong}
 use Rattle.olap_proof.proofs.verifying.judge_asked.Goals as goal
 
 pub returns-in-None-clause-ok : goal.returns-in-None-clause-ok

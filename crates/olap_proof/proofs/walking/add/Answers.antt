@@ -1,9 +1,7 @@
-use Rattle.std.proofs.Common.{ap, not, sym}
-use Rattle.std.specs.FinSet.{contains}
+use Rattle.std.{proofs.Common.{ap, not, sym}, proofs.lemmas.Bool.not-true, specs.FinSet.contains}
 use Rattle.olap_bits.specs.Sets.{members}
 use Rattle.olap_proof.proofs.WalkingLemmas.{added_is}
 use Rattle.olap_proof.proofs.walking.add.Goals as goal
-use Rattle.std.proofs.lemmas.Bool.{not-true}
 
 pub returns-then-not-has : goal.returns-then-not-has
 returns-then-not-has c =

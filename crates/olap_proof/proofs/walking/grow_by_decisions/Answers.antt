@@ -3,9 +3,8 @@ use Rattle.std.proofs.Common.{◌≡◌, ◌<◌, length, subst, sym, arith}
 use Rattle.olap_base.specs.Graph.{Edge, category_count}
 use Rattle.olap_bits.specs.Sets.{members}
 use Rattle.olap_graph.specs.Lookups.{edge_at}
-use Rattle.olap_proof.specs.Seen.{SeenDecisions, decision_at}
+use Rattle.olap_proof.{proofs.WalkingLemmas.grows_by, specs.Seen.{SeenDecisions, decision_at}}
 use Rattle.olap_proof.specs.Walking.{Grows, IsAdded}
-use Rattle.olap_proof.proofs.WalkingLemmas.{grows_by}
 use Rattle.olap_proof.proofs.walking.grow_by_decisions.Goals as goal
 
 pub decisions-preserved : goal.decisions-preserved

@@ -3,8 +3,7 @@ use Rattle.std.proofs.Common.{◌≡◌, ℕ, ◌<◌, length, true}
 use Rattle.olap_base.specs.Graph.{Graph, HasEdge, category_count}
 use Rattle.olap_bits.specs.Sets.{members}
 use Rattle.olap_graph.specs.Lookups.{edge_at}
-use Rattle.olap_proof.specs.Seen.{SeenDecisions, decision_at}
-use Rattle.olap_proof.specs.Walking.{Grows}
+use Rattle.olap_proof.specs.{Seen.{SeenDecisions, decision_at}, Walking.Grows}
 use Rattle.olap_proof.proofs.walking.grow_by_decisions.Given as goal
 
 abbrev pub invariant-decisions : goal.invariant-decisions

@@ -1,10 +1,8 @@
 -- One category more is taken.
 use Rattle.std.proofs.Common.{◌≡◌, subst, arith}
 use Rattle.olap_bits.specs.Sets.{members}
-use Rattle.olap_proof.specs.KeptWays.{leading_way}
-use Rattle.olap_proof.specs.Seen.{LeadsHere}
+use Rattle.olap_proof.{proofs.WalkingLemmas.grows_from, specs.KeptWays.leading_way, specs.Seen.LeadsHere}
 use Rattle.olap_proof.specs.Walking.{Grows, SeenFrom}
-use Rattle.olap_proof.proofs.WalkingLemmas.{grows_from}
 use Rattle.olap_proof.proofs.walking.grow_by_ways.Goals as goal
 
 pub categories-preserved : goal.categories-preserved

@@ -2,8 +2,7 @@
 use Rattle.std.proofs.Common.{ℕ}
 use Rattle.olap_base.specs.Graph.{Graph, HasEdge}
 use Rattle.olap_bits.specs.Sets.{members}
-use Rattle.olap_proof.specs.Seen.{LeadsHere}
-use Rattle.olap_proof.specs.Walking.{Grows, SeenFrom}
+use Rattle.olap_proof.specs.{Seen.LeadsHere, Walking.{Grows, SeenFrom}}
 use Rattle.olap_proof.proofs.walking.grow_by_ways.Given as goal
 
 abbrev pub invariant-categories : goal.invariant-categories

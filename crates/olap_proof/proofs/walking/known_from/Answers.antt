@@ -1,10 +1,9 @@
 -- Round by round the set takes in what its edges and ways lead to.
-use Rattle.std.proofs.Common.{◌+◌, ◌<◌, ◌∙◌, cond, ap, subst, sym}
-use Rattle.std.specs.FinSet.{insert}
+use Rattle.std.{proofs.Common.{◌+◌, ◌<◌, ◌∙◌, cond, ap, subst, sym}, specs.FinSet.insert}
 use Rattle.olap_base.specs.Graph.{HasEdge, category_count}
 use Rattle.olap_bits.specs.Sets.{members}
-use Rattle.olap_proof.specs.Places.{leading_graph}
 use Rattle.olap_proof.proofs.WalkingLemmas.{IsOnWay, fewer_missing, missing, walk_done, way_begins, way_goes_on}
+use Rattle.olap_proof.specs.Places.{leading_graph}
 use Rattle.olap_proof.proofs.walking.known_from.Goals as goal
 
 pub rounds-init : goal.rounds-init

@@ -1,9 +1,7 @@
 -- The least number of what is left without the set.
 use Rattle.std.proofs.Common.{Option, None, Some, ℕ, IfSome}
-use Rattle.olap_bits.specs.CatSet.{IsLeast}
-use Rattle.olap_bits.specs.Sets.{members}
-use Rattle.olap_proof.specs.Walking.{IsIn}
-use Rattle.olap_proof.proofs.WalkingLemmas.{none_left, one_left}
+use Rattle.olap_bits.specs.{CatSet.IsLeast, Sets.members}
+use Rattle.olap_proof.{proofs.WalkingLemmas.{none_left, one_left}, specs.Walking.IsIn}
 use Rattle.olap_proof.proofs.walking.lacking_category.Goals as goal
 
 pub returns-clause-some : goal.returns-clause-some

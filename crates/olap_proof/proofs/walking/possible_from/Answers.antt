@@ -1,12 +1,10 @@
 -- Round by round the set takes in what its edges lead to.
-use Rattle.std.proofs.Common.{◌+◌, ◌<◌, ◌∙◌, cond, length, ap, subst, sym}
-use Rattle.std.specs.FinSet.{insert}
+use Rattle.std.{proofs.Common.{◌+◌, ◌<◌, ◌∙◌, cond, length, ap, subst, sym}, specs.FinSet.insert}
 use Rattle.olap_base.specs.Graph.{Graph, category_count}
 use Rattle.olap_bits.specs.Sets.{members}
-use Rattle.olap_proof.specs.Places.{possible_graph}
-use Rattle.olap_proof.specs.Seen.{SeenPossible}
 use Rattle.olap_proof.proofs.SeenLemmas.{possible_seen}
 use Rattle.olap_proof.proofs.WalkingLemmas.{IsOnWay, fewer_missing, missing, walk_done, way_begins, way_goes_on}
+use Rattle.olap_proof.specs.{Places.possible_graph, Seen.SeenPossible}
 use Rattle.olap_proof.proofs.walking.possible_from.Goals as goal
 
 pub rounds-init : goal.rounds-init

@@ -2,8 +2,7 @@
 use Rattle.std.proofs.Common.{◌+◌, cond}
 use Rattle.olap_base.specs.Graph.{category_count}
 use Rattle.olap_bits.specs.Sets.{members}
-use Rattle.olap_proof.specs.Places.{possible_graph}
-use Rattle.olap_proof.proofs.WalkingLemmas.{IsOnWay, missing}
+use Rattle.olap_proof.{proofs.WalkingLemmas.{IsOnWay, missing}, specs.Places.possible_graph}
 use Rattle.olap_proof.proofs.walking.possible_from.Given as goal
 
 abbrev pub invariant-rounds : goal.invariant-rounds

@@ -1,9 +1,7 @@
 -- One set has a category more.
-use Rattle.std.proofs.Common.{◌<◌, ◌∙◌, ap, arith, length, set, subst}
-use Rattle.std.specs.FinSet.{insert}
+use Rattle.std.{proofs.Common.{◌<◌, ◌∙◌, ap, arith, length, set, subst}, specs.FinSet.insert}
 use Rattle.olap_graph.proofs.RowLemmas.{row_read}
-use Rattle.olap_proof.specs.KeptWays.{IsPut}
-use Rattle.olap_proof.proofs.KeptWayLemmas.{row_put}
+use Rattle.olap_proof.{proofs.KeptWayLemmas.row_put, specs.KeptWays.IsPut}
 use Rattle.olap_proof.proofs.ways.put.Goals as goal
 
 pub returns-clause-put : goal.returns-clause-put

@@ -1,9 +1,7 @@
 -- One set has a category less.
-use Rattle.std.proofs.Common.{◌<◌, ◌∙◌, ap, arith, length, set, subst}
-use Rattle.std.specs.FinSet.{remove}
+use Rattle.std.{proofs.Common.{◌<◌, ◌∙◌, ap, arith, length, set, subst}, specs.FinSet.remove}
 use Rattle.olap_graph.proofs.RowLemmas.{row_read}
-use Rattle.olap_proof.specs.KeptWays.{IsTakenOut}
-use Rattle.olap_proof.proofs.KeptWayLemmas.{row_out}
+use Rattle.olap_proof.{proofs.KeptWayLemmas.row_out, specs.KeptWays.IsTakenOut}
 use Rattle.olap_proof.proofs.ways.take_out.Goals as goal
 
 pub returns-clause-out : goal.returns-clause-out

@@ -1,26 +1,16 @@
 -- A text without a fault comes to the instance that it means, and one with a fault is refused.
-use Rattle.std.proofs.Common.{◌≡◌, ◌∙◌, Err, Ok, Result, ap, codes, subst}
-use Rattle.std.specs.Prelude.{MatchResult}
-use Rattle.olap_base.specs.Instance.{Instance}
-use Rattle.olap_base.specs.Limits.{most_instance_bytes}
-use Rattle.olap_base.specs.Refusing.{IsRefusedBy}
-use Rattle.olap_base.specs.declared.refusals.Fault.{Fault}
-use Rattle.olap_base.specs.declared.refusals.Refusal.{Refusal}
-use Rattle.olap_base.specs.declared.refusals.Refusal.TheVariants as refusal
+use Rattle.std.{proofs.Common.{◌≡◌, ◌∙◌, Err, Ok, Result, ap, codes, subst}, specs.Prelude.MatchResult}
+use Rattle.olap_base.specs.{Instance.Instance, Limits.most_instance_bytes, Refusing.IsRefusedBy}
+use Rattle.olap_base.specs.declared.refusals.{Fault.Fault, Refusal.Refusal}
 use Rattle.olap_check.specs.FirstViolation.{first_violation}
-use Rattle.olap_instance.specs.InstanceMeaning.{instance_meant}
-use Rattle.olap_instance.specs.InstanceText.{instance_read}
-use Rattle.olap_instance.specs.Kinds.{name_of_kind}
+use Rattle.olap_instance.{proofs.MeaningLemmas.{instance-named, meant-instance}, specs.InstanceMeaning.instance_meant}
+use Rattle.olap_instance.specs.{InstanceText.instance_read, Kinds.name_of_kind}
 use Rattle.olap_instance.specs.declared.refusals.InstanceKind.{InstanceKind}
-use Rattle.olap_instance.proofs.MeaningLemmas.{instance-named, meant-instance}
-use Rattle.olap_order.specs.Order.{and_then}
-use Rattle.olap_order.specs.Refusals.{part_text}
-use Rattle.olap_order.specs.Steps.{meaning_or_fault}
-use Rattle.olap_records.specs.Records.{records_of}
-use Rattle.olap_records.specs.Tables.{named}
+use Rattle.olap_order.specs.{Order.and_then, Refusals.part_text, Steps.meaning_or_fault}
+use Rattle.olap_records.specs.{Records.records_of, Tables.named}
 use Rattle.olap_schema.specs.Schemas.{schema_of}
-use Rattle.olap_reading.specs.Steps.{legal_or_violation}
-use Rattle.olap_reading.proofs.ReadingLemmas.{fault_told, step_told}
+use Rattle.olap_reading.{proofs.ReadingLemmas.{fault_told, step_told}, specs.Steps.legal_or_violation}
+use Rattle.olap_base.specs.declared.refusals.Refusal.TheVariants as refusal
 use Rattle.olap_reading.proofs.reading.legal_in.Goals as goal
 
 pub returns-in-Ok-clause-step : goal.returns-in-Ok-clause-step

@@ -1,18 +1,11 @@
 -- A text with a fault is refused; the views of a text are in file order.
 use Rattle.std.proofs.Common.{◌∙◌, All, Ok, ap, codes, refl, subst}
-use Rattle.olap_base.specs.Instance.{Instance}
-use Rattle.olap_base.specs.Limits.{most_store_bytes}
-use Rattle.olap_order.specs.Order.{Done}
-use Rattle.olap_order.specs.Refusals.{part_text}
-use Rattle.olap_order.specs.Steps.{meaning_or_fault}
-use Rattle.olap_records.specs.Records.{records_of}
-use Rattle.olap_records.specs.Tables.{named}
+use Rattle.olap_base.specs.{Instance.Instance, Limits.most_store_bytes}
+use Rattle.olap_order.specs.{Order.Done, Refusals.part_text, Steps.meaning_or_fault}
+use Rattle.olap_records.specs.{Records.records_of, Tables.named}
 use Rattle.olap_schema.specs.Schemas.{schema_of}
-use Rattle.olap_view.specs.Kinds.{name_of_kind}
-use Rattle.olap_view.specs.Seen.{views_of}
-use Rattle.olap_view.specs.StoreMeaning.{store_meant}
-use Rattle.olap_view.specs.Stores.{IsInFileOrder}
-use Rattle.olap_view.proofs.StoreMeaningLemmas.{meant-store, store-named}
+use Rattle.olap_view.{proofs.StoreMeaningLemmas.{meant-store, store-named}, specs.Kinds.name_of_kind}
+use Rattle.olap_view.specs.{Seen.views_of, StoreMeaning.store_meant, Stores.IsInFileOrder}
 use Rattle.olap_reading.proofs.ReadingLemmas.{fault_told, step_told}
 use Rattle.olap_reading.proofs.reading.store_in.Goals as goal
 

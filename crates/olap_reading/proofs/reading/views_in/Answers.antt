@@ -1,16 +1,13 @@
 -- The facts of a text are those in the file, and a text with a fault is refused.
 use Rattle.std.proofs.Common.{◌≡◌, ◌∙◌, Err, ap, arith, subst}
-use Rattle.olap_base.specs.Graph.{Graph}
-use Rattle.olap_base.specs.Limits.{most_facts}
+use Rattle.olap_base.specs.{Graph.Graph, Limits.most_facts}
 use Rattle.olap_facts.specs.FactText.{facts_read_within}
 use Rattle.olap_records.specs.Records.{records_of}
 use Rattle.olap_schema.specs.Schemas.{schema_of}
-use Rattle.olap_view.specs.RollingUp.{AreRolledUp}
-use Rattle.olap_view.specs.Seen.{each_view_of, ids}
-use Rattle.olap_reading.specs.Rest.{IsOfRest, IsWhyUnrolled}
+use Rattle.olap_view.specs.{RollingUp.AreRolledUp, Seen.{each_view_of, ids}}
+use Rattle.olap_reading.{proofs.RollingLemmas.{facts-out, fault-out}, specs.Rest.{IsOfRest, IsWhyUnrolled}}
 use Rattle.olap_reading.specs.declared.rolling.Unrolled.{Unrolled}
 use Rattle.olap_reading.specs.declared.rolling.Unrolled.TheVariants as unrolled
-use Rattle.olap_reading.proofs.RollingLemmas.{facts-out, fault-out}
 use Rattle.olap_reading.proofs.reading.views_in.Goals as goal
 
 pub returns-in-Ok-rolled_up-clause-step : goal.returns-in-Ok-rolled_up-clause-step

@@ -1,15 +1,11 @@
 -- A piece more, the end, and a refusal.
 use Rattle.std.proofs.Common.{◌≡◌, ◌<◌, ◌++◌, ◌∙◌, [], ℕ, List, length, take, inl, ap, arith, subst}
-use Rattle.std.specs.Prelude.{is_ok}
-use Rattle.std.proofs.lemmas.List.{length-take-le}
-use Rattle.std.proofs.lemmas.Result.{err_from_is_err_and}
-use Rattle.olap_base.specs.Limits.{most_facts}
-use Rattle.olap_base.specs.Refusing.{IsRefusedBy}
+use Rattle.std.{proofs.lemmas.List.length-take-le, proofs.lemmas.Result.err_from_is_err_and, specs.Prelude.is_ok}
+use Rattle.olap_base.specs.{Limits.most_facts, Refusing.IsRefusedBy}
 use Rattle.olap_records.specs.Standing.{records_fed, unmarked}
 use Rattle.olap_facts.specs.FactText.{facts_read_within}
 use Rattle.olap_outside.specs.Pieces.{EndsTold}
-use Rattle.olap_view.specs.RollingUp.{AreRolledUp, HasTaken}
-use Rattle.olap_view.specs.Seen.{each_view_of, ids}
+use Rattle.olap_view.specs.{RollingUp.{AreRolledUp, HasTaken}, Seen.{each_view_of, ids}}
 use Rattle.olap_reading.proofs.RollingLemmas.{below, ends-told, long-or-end, longer, mark-joined, no-memory, parts-more, told-end, told-fault}
 use Rattle.olap_reading.proofs.rolling.rolled_up.Goals as goal
 

@@ -1,15 +1,11 @@
-use Rattle.std.proofs.Common.{List, ◌++◌, ◌∙◌, ap, codes, decimal, length, map, sym, subst}
-use Rattle.std.specs.Prelude.{All, flat_map}
-use Rattle.std.proofs.lemmas.List.{length-map}
-use Rattle.std.proofs.lemmas.List.Elements.{Contains-get_or}
+use Rattle.std.proofs.{Common.{List, ◌++◌, ◌∙◌, ap, codes, decimal, length, map, sym, subst}, lemmas.List.length-map}
+use Rattle.std.{proofs.lemmas.List.Elements.Contains-get_or, specs.Prelude.{All, flat_map}}
 use Rattle.olap_ast.specs.Findings.{IsFinding}
 use Rattle.olap_base.proofs.ListLemmas.{Contains-map}
 use Rattle.olap_schema.specs.Schemas.{schema_of}
-use Rattle.olap_summ.specs.Audits.{finding_of}
-use Rattle.olap_summ.specs.declared.auditing.Finding.{Finding}
+use Rattle.olap_summ.specs.{Audits.finding_of, declared.auditing.Finding.Finding}
 use Rattle.olap_order.specs.Outputs.{line}
-use Rattle.olap_reasoning.specs.Listings.{finding_text}
-use Rattle.olap_reasoning.proofs.ListingLemmas.{findings_listed}
+use Rattle.olap_reasoning.{proofs.ListingLemmas.findings_listed, specs.Listings.finding_text}
 use Rattle.olap_reasoning.proofs.auditing.audit.Goals as goal
 
 pub listed-requires : goal.listed-requires

@@ -1,10 +1,7 @@
-use Rattle.std.proofs.Common.{sym, subst, ap, ◌∙◌}
-use Rattle.std.specs.Prelude.{All}
-use Rattle.olap_base.specs.Graph.{Graph, IsCategory}
-use Rattle.olap_base.specs.Instance.{Instance, IsMember, ReachesCategory}
+use Rattle.std.{proofs.Common.{sym, subst, ap, ◌∙◌}, specs.Prelude.All}
+use Rattle.olap_base.specs.{Graph.{Graph, IsCategory}, Instance.{Instance, IsMember, ReachesCategory}}
 use Rattle.olap_base.specs.declared.ids.CatId.{CatId}
-use Rattle.olap_cex.specs.CexText.{counterexample_text}
-use Rattle.olap_cex.specs.FoundFor.{IsFoundFor, found_instance, found_place}
+use Rattle.olap_cex.specs.{CexText.counterexample_text, FoundFor.{IsFoundFor, found_instance, found_place}}
 use Rattle.olap_frozen.specs.LeastFound.{frozen_of}
 use Rattle.olap_names.specs.Names.{candidates_of, with_graph}
 use Rattle.olap_schema.specs.Schemas.{schema_of}

@@ -1,13 +1,9 @@
-use Rattle.std.proofs.Common.{◌≤◌, subst}
-use Rattle.std.specs.Prelude.{IfSome}
-use Rattle.olap_ast.specs.Formula.{Formula.Not}
-use Rattle.olap_ast.specs.Trees.{formula_of}
-use Rattle.olap_ast.proofs.ComparedLemmas.{constants_counted}
+use Rattle.std.{proofs.Common.{◌≤◌, subst}, specs.Prelude.IfSome}
+use Rattle.olap_ast.{proofs.ComparedLemmas.constants_counted, specs.Formula.Formula.Not, specs.Trees.formula_of}
 use Rattle.olap_base.specs.Limits.{most_constants}
 use Rattle.olap_frozen.specs.LeastFound.{IsLeastFound}
 use Rattle.olap_schema.specs.Schemas.{schema_of}
-use Rattle.olap_reasoning.proofs.CertificateLemmas.{all_texts, found_for, unmet_shown}
-use Rattle.olap_reasoning.proofs.ReplyLemmas.{replies_or_memory}
+use Rattle.olap_reasoning.proofs.{CertificateLemmas.{all_texts, found_for, unmet_shown}, ReplyLemmas.replies_or_memory}
 use Rattle.olap_reasoning.proofs.implying.answered.Goals as goal
 
 pub implies-requires-clause-few : goal.implies-requires-clause-few

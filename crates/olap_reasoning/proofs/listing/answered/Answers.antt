@@ -1,14 +1,9 @@
 -- The candidates are those of the search, and its root is the root.
-use Rattle.std.proofs.Common.{◌≡◌, map, refl, sym, subst, ◌∙◌}
-use Rattle.std.specs.Prelude.{All, IfErr, IfOk}
-use Rattle.olap_ast.specs.Formula.{Formula.Truth}
-use Rattle.olap_ast.proofs.SourceLemmas.{no_more_constants}
-use Rattle.olap_base.specs.Limits.{most_frozen}
-use Rattle.olap_base.specs.Refusing.{IsFor}
-use Rattle.olap_dimsat.specs.Listed.{AreAllFrozen, AreMoreThan}
-use Rattle.olap_dimsat.specs.Searches.{candidates_in}
-use Rattle.olap_frozen.specs.LeastFound.{frozen_of}
-use Rattle.olap_frozen.specs.Leaves.{IsSized}
+use Rattle.std.{proofs.Common.{◌≡◌, map, refl, sym, subst, ◌∙◌}, specs.Prelude.{All, IfErr, IfOk}}
+use Rattle.olap_ast.{proofs.SourceLemmas.no_more_constants, specs.Formula.Formula.Truth}
+use Rattle.olap_base.specs.{Limits.most_frozen, Refusing.IsFor}
+use Rattle.olap_dimsat.specs.{Listed.{AreAllFrozen, AreMoreThan}, Searches.candidates_in}
+use Rattle.olap_frozen.specs.{LeastFound.frozen_of, Leaves.IsSized}
 use Rattle.olap_names.specs.Names.{Named, candidates_of}
 use Rattle.olap_schema.specs.Schemas.{schema_of}
 use Rattle.olap_reasoning.proofs.listing.answered.Goals as goal

@@ -1,7 +1,6 @@
 -- The line `no`, and those of the categories so far.
 use Rattle.std.proofs.Common.{◌≡◌, ◌++◌, codes, flat_map, take}
-use Rattle.olap_ast.specs.Findings.{Finding.Unsatisfiable}
-use Rattle.olap_ast.specs.Trees.{numbers_of}
+use Rattle.olap_ast.specs.{Findings.Finding.Unsatisfiable, Trees.numbers_of}
 use Rattle.olap_order.specs.Outputs.{line}
 use Rattle.olap_reasoning.specs.Listings.{finding_text}
 use Rattle.olap_reasoning.proofs.needing.emptied_lines.Given as goal

@@ -2,10 +2,8 @@ use Rattle.std.proofs.Common.{List, subst}
 use Rattle.olap_base.specs.declared.ids.CatId.{CatId}
 use Rattle.olap_schema.specs.Schemas.{schema_of}
 use Rattle.olap_ast.specs.Trees.{numbers_of}
-use Rattle.olap_order.specs.Judged.{Replies}
-use Rattle.olap_order.specs.Order.{Done}
+use Rattle.olap_order.{proofs.Stepping.{ended_unread, followed_unread}, specs.Judged.Replies, specs.Order.Done}
 use Rattle.olap_reasoning.specs.Questions.{ByNeeds, IsAnswer}
-use Rattle.olap_order.proofs.Stepping.{ended_unread, followed_unread}
 use Rattle.olap_reasoning.proofs.needing.needs.Goals as goal
 
 pub returns-in_err-target : goal.returns-in_err-target

@@ -1,16 +1,11 @@
-use Rattle.std.proofs.Common.{◌≡◌, ◌∙◌, List, length, codes, flat_map, map, true, false, true≢false, ap, subst, sym}
+use Rattle.std.proofs.{Common.{◌≡◌, ◌∙◌, List, codes, true, false, true≢false, ap, subst, sym}, lemmas.List.length-map}
 use Rattle.std.specs.Prelude.{◌==◌, All}
-use Rattle.std.proofs.lemmas.List.{length-map}
-use Rattle.olap_ast.specs.Trees.{constraint_of, numbers_of}
-use Rattle.olap_ast.specs.declared.formulas.Constraint.{Constraint}
-use Rattle.olap_base.specs.Graph.{Graph, IsCategory}
-use Rattle.olap_base.specs.declared.ids.CatId.{CatId}
-use Rattle.olap_needs.specs.Needs.{HasRoom, with_needs}
+use Rattle.olap_ast.specs.Trees.{numbers_of}
+use Rattle.olap_base.specs.{Graph.{Graph, IsCategory}, declared.ids.CatId.CatId}
 use Rattle.olap_order.proofs.Replying.{refusing}
 use Rattle.olap_schema.specs.Schemas.{schema_of}
-use Rattle.olap_schema_text.specs.Printing.{constraint_text, text_of_lines}
-use Rattle.olap_reasoning.specs.Questions.{ByNeeds}
 use Rattle.olap_reasoning.proofs.NeedsLemmas.{as_many, emptied_are_categories, emptied_text, lines_of, needs_emptied, needs_listed}
+use Rattle.olap_reasoning.specs.Questions.{ByNeeds}
 use Rattle.olap_reasoning.proofs.needing.told.Goals as goal
 
 pub emptied_lines-requires : goal.emptied_lines-requires

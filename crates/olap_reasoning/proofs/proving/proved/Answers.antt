@@ -1,13 +1,10 @@
-use Rattle.std.proofs.Common.{sym, subst, ◌∙◌}
-use Rattle.std.specs.Prelude.{◌↔◌}
-use Rattle.olap_ast.specs.Summarizable.{IsSummarizable}
+use Rattle.std.{proofs.Common.{sym, subst, ◌∙◌}, specs.Prelude.◌↔◌}
+use Rattle.olap_ast.specs.{Summarizable.IsSummarizable, Trees.numbers_of}
 use Rattle.olap_proof.specs.Verifying.{IsCertificateFor}
 use Rattle.olap_prove.specs.Proofs.{IsYes, Shows}
 use Rattle.olap_schema.specs.Schemas.{schema_of}
-use Rattle.olap_ast.specs.Trees.{numbers_of}
-use Rattle.olap_reasoning.specs.Questions.{ByProof}
 use Rattle.olap_reasoning.proofs.CertificateLemmas.{certificate_shown, difference_shown}
-use Rattle.olap_reasoning.proofs.ReplyLemmas.{replies_or_memory}
+use Rattle.olap_reasoning.{proofs.ReplyLemmas.replies_or_memory, specs.Questions.ByProof}
 use Rattle.olap_reasoning.proofs.proving.proved.Goals as goal
 
 pub returns-in-Ok-Yes : goal.returns-in-Ok-Yes

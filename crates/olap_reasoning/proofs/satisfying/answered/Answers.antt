@@ -1,10 +1,8 @@
-use Rattle.std.proofs.Common.{subst}
-use Rattle.std.specs.Prelude.{IfSome}
+use Rattle.std.{proofs.Common.subst, specs.Prelude.IfSome}
 use Rattle.olap_ast.specs.Formula.{Formula.Truth}
 use Rattle.olap_frozen.specs.LeastFound.{IsLeastFound}
 use Rattle.olap_schema.specs.Schemas.{schema_of}
-use Rattle.olap_reasoning.proofs.CertificateLemmas.{member_shown}
-use Rattle.olap_reasoning.proofs.ReplyLemmas.{replies_or_memory}
+use Rattle.olap_reasoning.proofs.{CertificateLemmas.member_shown, ReplyLemmas.replies_or_memory}
 use Rattle.olap_reasoning.proofs.satisfying.answered.Goals as goal
 
 pub returns-in-Some : goal.returns-in-Some

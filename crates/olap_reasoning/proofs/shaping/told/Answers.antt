@@ -1,25 +1,16 @@
 -- What is listed is what was found.
 use Rattle.std.proofs.Common.{◌≡◌, ◌≤◌, ◌++◌, Err, List, length, map, codes, decimal, ap, sym, subst, ◌∙◌}
-use Rattle.std.specs.Prelude.{All, IfErr, IfOk, flat_map}
-use Rattle.std.proofs.lemmas.List.{length-map}
+use Rattle.std.{proofs.lemmas.List.length-map, specs.Prelude.{All, IfErr, IfOk, flat_map}}
 use Rattle.olap_ast.specs.Formula.{Formula.Truth}
-use Rattle.olap_base.specs.Graph.{Graph}
-use Rattle.olap_base.specs.Limits.{most_frozen}
-use Rattle.olap_base.specs.Refusing.{IsFor}
-use Rattle.olap_base.specs.declared.refusals.Refusal.{Refusal}
-use Rattle.olap_base.specs.declared.refusals.Refusal.TheVariants as refusal
+use Rattle.olap_base.specs.{Graph.Graph, Limits.most_frozen, Refusing.IsFor, declared.refusals.Refusal.Refusal}
 use Rattle.olap_cex.specs.FrozenText.{frozen_text}
-use Rattle.olap_dimsat.specs.Shapes.{AreMoreShapes, AreShapes}
-use Rattle.olap_dimsat.specs.declared.searching.TooMany.{TooMany}
-use Rattle.olap_frozen.specs.LeastFound.{frozen_of}
-use Rattle.olap_frozen.specs.Leaves.{IsSized}
-use Rattle.olap_frozen.specs.declared.frozen.Frozen.{Frozen}
+use Rattle.olap_dimsat.specs.{Shapes.{AreMoreShapes, AreShapes}, declared.searching.TooMany.TooMany}
+use Rattle.olap_frozen.specs.{LeastFound.frozen_of, Leaves.IsSized, declared.frozen.Frozen.Frozen}
 use Rattle.olap_names.specs.Names.{candidates_of}
 use Rattle.olap_schema.specs.Schemas.{schema_of}
-use Rattle.olap_order.specs.Outputs.{line}
-use Rattle.olap_order.proofs.Replying.{refusing}
-use Rattle.olap_reasoning.specs.Questions.{ByShapes}
-use Rattle.olap_reasoning.proofs.ShapeLemmas.{shapes_listed}
+use Rattle.olap_order.{proofs.Replying.refusing, specs.Outputs.line}
+use Rattle.olap_reasoning.{proofs.ShapeLemmas.shapes_listed, specs.Questions.ByShapes}
+use Rattle.olap_base.specs.declared.refusals.Refusal.TheVariants as refusal
 use Rattle.olap_reasoning.proofs.shaping.told.Goals as goal
 
 pub listed-requires-clause-sized : goal.listed-requires-clause-sized

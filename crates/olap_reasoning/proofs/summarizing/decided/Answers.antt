@@ -1,11 +1,9 @@
-use Rattle.std.proofs.Common.{subst}
-use Rattle.std.specs.Prelude.{IfSome}
+use Rattle.std.{proofs.Common.subst, specs.Prelude.IfSome}
 use Rattle.olap_schema.specs.Schemas.{schema_of}
 use Rattle.olap_summ.specs.Counterexamples.{IsCounterexampleFound}
 use Rattle.olap_ast.specs.Trees.{numbers_of}
+use Rattle.olap_reasoning.proofs.{CertificateLemmas.difference_shown, ReplyLemmas.replies_or_memory}
 use Rattle.olap_reasoning.specs.Questions.{BySummarizable}
-use Rattle.olap_reasoning.proofs.CertificateLemmas.{difference_shown}
-use Rattle.olap_reasoning.proofs.ReplyLemmas.{replies_or_memory}
 use Rattle.olap_reasoning.proofs.summarizing.decided.Goals as goal
 
 pub returns-in-Ok-Some : goal.returns-in-Ok-Some

@@ -1,7 +1,6 @@
 -- The name is one of those of the family, and the words after it one by one are those by their numbers.
 use Rattle.std.proofs.Common.{ap, sym, ◌∙◌}
-use Rattle.olap_order.specs.Words.{texts}
-use Rattle.olap_order.proofs.BehindLemmas.{one_is, three_is, two_is, two_or_more_is}
+use Rattle.olap_order.{proofs.BehindLemmas.{one_is, three_is, two_is, two_or_more_is}, specs.Words.texts}
 use Rattle.olap_proof.specs.declared.forms.Form.TheVariants.{Long, Short}
 use Rattle.olap_reasoning.specs.Commands.{audit_order, category_order, format_order, implies_order, order_named, sources_order}
 use Rattle.olap_reasoning.specs.Questions.{ByFrozen, ByNeeds, ByProof, BySatisfiable, ByShapes, BySummarizable}

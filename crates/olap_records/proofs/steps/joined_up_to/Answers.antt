@@ -1,9 +1,7 @@
 -- One byte more that only joins the field.
 use Rattle.std.proofs.Common.{sym, subst, get_or}
-use Rattle.csv.specs.Machine.{Runs}
-use Rattle.csv.specs.Reading.{default_config}
-use Rattle.olap_records.specs.Places.{state_of}
-use Rattle.olap_records.proofs.RunLemmas.{between, between-more, between-none, runs-more}
+use Rattle.csv.specs.{Machine.Runs, Reading.default_config}
+use Rattle.olap_records.{proofs.RunLemmas.{between, between-more, between-none, runs-more}, specs.Places.state_of}
 use Rattle.olap_records.proofs.steps.joined_up_to.Goals as goal
 
 pub run-init : goal.run-init

@@ -1,8 +1,6 @@
 -- The bytes so far only join the field.
-use Rattle.csv.specs.Machine.{Runs}
-use Rattle.csv.specs.Reading.{default_config}
-use Rattle.olap_records.specs.Places.{state_of}
-use Rattle.olap_records.proofs.RunLemmas.{between}
+use Rattle.csv.specs.{Machine.Runs, Reading.default_config}
+use Rattle.olap_records.{proofs.RunLemmas.between, specs.Places.state_of}
 use Rattle.olap_records.proofs.steps.joined_up_to.Given as goal
 
 abbrev pub invariant-run : goal.invariant-run

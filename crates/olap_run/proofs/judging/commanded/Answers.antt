@@ -1,14 +1,7 @@
-use Rattle.std.proofs.Common.{◌<◌, arith, rules, subst, sym}
-use Rattle.std.proofs.lemmas.List.{length-map}
-use Rattle.std.specs.String.{string_bytes}
+use Rattle.std.{proofs.Common.{◌<◌, arith, rules, subst, sym}, proofs.lemmas.List.length-map, specs.String.string_bytes}
 use Rattle.olap_base.specs.Limits.{most_words}
-use Rattle.olap_order.specs.Order.{Told}
-use Rattle.olap_order.specs.Outputs.{line}
-use Rattle.olap_order.specs.Words.{texts}
-use Rattle.olap_order.specs.declared.status.Status.TheVariants.{Yes}
-use Rattle.olap_run.specs.Commands.{version}
-use Rattle.olap_run.proofs.LongWords.{too_many}
-use Rattle.olap_run.proofs.VersionLemmas.{told_judged}
+use Rattle.olap_order.specs.{Order.Told, Outputs.line, Words.texts, declared.status.Status.TheVariants.Yes}
+use Rattle.olap_run.{proofs.LongWords.too_many, proofs.VersionLemmas.told_judged, specs.Commands.version}
 use Rattle.olap_run.proofs.judging.commanded.Goals as goal
 
 pub returns-then-words-gt-MOST_WORDS-clause-none : goal.returns-then-words-gt-MOST_WORDS-clause-none

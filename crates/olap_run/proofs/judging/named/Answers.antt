@@ -1,19 +1,16 @@
-use Rattle.std.proofs.Common.{None, Some}
-use Rattle.olap_order.specs.Families.{asking}
-use Rattle.olap_order.specs.Words.{texts}
-use Rattle.olap_order.proofs.Joining.{joined, or_next, or_this}
-use Rattle.olap_cubes.specs.Commands as cubes
+use Rattle.std.{proofs.Common.{None, Some}, specs.Option.option_or}
+use Rattle.olap_order.{proofs.Joining.{joined, or_next, or_this}, specs.Families.asking, specs.Words.texts}
 use Rattle.olap_cubes.specs.Questions.{IsAnswer as IsCubesAnswer}
-use Rattle.olap_plans.specs.Commands as plans
 use Rattle.olap_plans.specs.Questions.{IsAnswer as IsPlansAnswer}
 use Rattle.olap_reasoning.specs.Questions.{IsAnswer as IsReasoningAnswer}
 use Rattle.olap_run.specs.Questions.{IsAnswer, OfCubes, OfPlans, OfReasoning, OfTotals, OfVerdicts}
+use Rattle.olap_totals.specs.Questions.{IsAnswer as IsTotalsAnswer}
+use Rattle.olap_verdicts.specs.Questions.{IsAnswer as IsVerdictsAnswer}
+use Rattle.olap_cubes.specs.Commands as cubes
+use Rattle.olap_plans.specs.Commands as plans
 use Rattle.olap_run.proofs.judging.named.Goals as goal
 use Rattle.olap_totals.specs.Commands as totals
-use Rattle.olap_totals.specs.Questions.{IsAnswer as IsTotalsAnswer}
 use Rattle.olap_verdicts.specs.Commands as verdicts
-use Rattle.olap_verdicts.specs.Questions.{IsAnswer as IsVerdictsAnswer}
-use Rattle.std.specs.Option.{option_or}
 
 pub returns-in-Some : goal.returns-in-Some
 returns-in-Some g c =

@@ -1,12 +1,7 @@
-use Rattle.std.proofs.Common.{ℕ, List, Err, length, subst, sym}
-use Rattle.std.specs.Prelude.{IsTrue}
-use Rattle.olap_run.specs.Commands.{order_of}
-use Rattle.olap_order.specs.Judged.{GivesTold, Replied}
-use Rattle.olap_run.specs.Questions.{IsAnswer}
-use Rattle.olap_order.specs.Words.{texts}
-use Rattle.olap_order.specs.declared.replies.Stop.{Stop}
+use Rattle.std.{proofs.Common.{ℕ, List, Err, length, subst, sym}, specs.Prelude.IsTrue}
+use Rattle.olap_run.{proofs.SureLemmas.written_is_told, specs.Commands.order_of, specs.Questions.IsAnswer}
+use Rattle.olap_order.specs.{Judged.{GivesTold, Replied}, Words.texts, declared.replies.Stop.Stop}
 use Rattle.olap_order.specs.declared.status.Status.TheVariants.{Refused}
-use Rattle.olap_run.proofs.SureLemmas.{written_is_told}
 use Rattle.olap_run.proofs.top.olap.Goals as goal
 
 -- the sink takes the bytes of the outcome, and these are its bytes

@@ -1,5 +1,4 @@
-use Rattle.std.proofs.Common.{sym}
-use Rattle.std.proofs.lemmas.Str.{is_utf8-from_IsUtf8}
+use Rattle.std.proofs.{Common.sym, lemmas.Str.is_utf8-from_IsUtf8}
 use Rattle.olap_schema_text.proofs.LineLemmas.{not_utf8}
 use Rattle.olap_schema_text.proofs.lines.is_text.Goals as goal
 

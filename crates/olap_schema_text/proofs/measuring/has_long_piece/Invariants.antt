@@ -1,6 +1,5 @@
 -- The names so far are short.
-use Rattle.std.proofs.Common.{◌≡◌}
-use Rattle.std.specs.List.{list_any}
+use Rattle.std.{proofs.Common.◌≡◌, specs.List.list_any}
 use Rattle.olap_base.proofs.PiecesLeft.{size_left}
 use Rattle.olap_grammar.specs.Words.{pieces_behind, pieces_of}
 use Rattle.olap_schema_text.specs.Tokens.{is_long_name}

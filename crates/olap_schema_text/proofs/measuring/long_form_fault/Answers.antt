@@ -1,7 +1,6 @@
 -- What was counted says why there is no formula.
 use Rattle.std.proofs.Common.{◌∙◌, ap, sym}
-use Rattle.olap_schema_text.specs.Parts.{has_too_many_nodes}
-use Rattle.olap_schema_text.proofs.LongLines.{bad_form, many_nodes, too_deep}
+use Rattle.olap_schema_text.{proofs.LongLines.{bad_form, many_nodes, too_deep}, specs.Parts.has_too_many_nodes}
 use Rattle.olap_schema_text.proofs.measuring.long_form_fault.Goals as goal
 
 pub returns-then-has_too_many_nodes : goal.returns-then-has_too_many_nodes

@@ -1,13 +1,10 @@
 -- Each kind of formula that has parts, or atoms.
 use Rattle.std.proofs.Common.{◌≡◌, ◌+◌, ◌++◌, ◌∙◌, map, refl, ap, sym, arith}
-use Rattle.olap_ast.specs.Atoms.{comparisons, equalities}
-use Rattle.olap_ast.specs.Pairs.{with_number, with_pair}
-use Rattle.olap_ast.specs.Trees.{formula_of, terms_of}
-use Rattle.olap_ast.specs.Valid.{node_count, node_count_of_terms}
+use Rattle.olap_ast.specs.{Atoms.{comparisons, equalities}, Pairs.{with_number, with_pair}}
+use Rattle.olap_ast.specs.{Trees.{formula_of, terms_of}, Valid.{node_count, node_count_of_terms}}
 use Rattle.olap_ast.specs.declared.formulas.Formula.{Formula}
-use Rattle.olap_schema_text.specs.Reading.{number_pair_of, pair_of}
 use Rattle.olap_schema_text.proofs.JointLemmas.{counted, joined_by, joint_comparisons, joint_equalities, joint_nodes}
-use Rattle.olap_schema_text.proofs.PairLemmas.{both_added, same_atoms}
+use Rattle.olap_schema_text.{proofs.PairLemmas.{both_added, same_atoms}, specs.Reading.{number_pair_of, pair_of}}
 use Rattle.olap_schema_text.proofs.pairing.+pairs.Goals as goal
 
 pub add_pairs-add_pairs-requires : goal.add_pairs-add_pairs-requires

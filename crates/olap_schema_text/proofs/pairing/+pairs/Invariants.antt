@@ -1,10 +1,7 @@
 -- The pairs of the parts so far are added. The measure is the size of what is gone through.
-use Rattle.std.proofs.Common.{◌≡◌, ◌≤◌, ◌+◌, ◌*◌, map}
-use Rattle.std.specs.List.{fold}
-use Rattle.olap_ast.specs.Atoms.{comparisons_of_terms, equalities_of_terms}
-use Rattle.olap_ast.specs.Pairs.{with_number, with_pair}
-use Rattle.olap_ast.specs.Trees.{formula_of, terms_of}
-use Rattle.olap_ast.specs.Valid.{node_count, node_count_of_terms}
+use Rattle.std.{proofs.Common.{◌≡◌, ◌≤◌, ◌+◌, ◌*◌, map}, specs.List.fold}
+use Rattle.olap_ast.specs.{Atoms.{comparisons_of_terms, equalities_of_terms}, Pairs.{with_number, with_pair}}
+use Rattle.olap_ast.specs.{Trees.{formula_of, terms_of}, Valid.{node_count, node_count_of_terms}}
 use Rattle.olap_schema_text.specs.Reading.{number_pair_of, pair_of}
 use Rattle.olap_schema_text.proofs.pairing.+pairs.Given as goal
 

@@ -1,5 +1,4 @@
-use Rattle.std.proofs.Common.{ap}
-use Rattle.std.proofs.lemmas.Int.{to_z-of_z}
+use Rattle.std.proofs.{Common.ap, lemmas.Int.to_z-of_z}
 use Rattle.olap_schema_text.proofs.PairLemmas.{found_number, new_number, number_atom}
 use Rattle.olap_schema_text.proofs.pairing.add_number.Goals as goal
 use mir.Syntax.{w64}

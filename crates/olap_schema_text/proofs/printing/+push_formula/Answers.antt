@@ -1,12 +1,11 @@
 -- Each kind of formula that has parts.
 use Rattle.std.proofs.Common.{◌≡◌, ◌+◌, ◌∙◌, codes, refl, ap, sym, arith}
-use Rattle.olap_ast.specs.Formula as Meaning
-use Rattle.olap_ast.specs.Trees.{formula_of, terms_of}
-use Rattle.olap_ast.specs.Valid.{node_count, node_count_of_terms}
+use Rattle.olap_ast.specs.{Trees.{formula_of, terms_of}, Valid.{node_count, node_count_of_terms}}
 use Rattle.olap_ast.specs.declared.formulas.Formula.{Formula}
-use Rattle.olap_schema_text.specs.Printing.{formula_text, joined_text, list_text}
 use Rattle.olap_schema_text.proofs.JointLemmas.{counted, joined_by, joint_nodes, joint_text}
 use Rattle.olap_schema_text.proofs.PrintLemmas.{joined_line, same_text, text_behind, three_texts}
+use Rattle.olap_schema_text.specs.Printing.{formula_text, joined_text, list_text}
+use Rattle.olap_ast.specs.Formula as Meaning
 use Rattle.olap_schema_text.proofs.printing.+push_formula.Goals as goal
 
 pub push_formula-push_formula-requires : goal.push_formula-push_formula-requires
@@ -30,9 +29,7 @@ push_formula-push_joined-requires t c =
     let j = joined_by c.args.f.now x y refl refl refl refl refl c.in-And.is in
     let n : node_count (formula_of c.args.f.now) ≡ 1 + node_count x + node_count y =
     ap node_count j.1 ∙ joint_nodes j.0 x y in
-    let left = counted (sym c.deref-in-And.ensures) in
-    let right = counted (sym c.deref-in-And-2.ensures) in
-    (omega (arith, c.decreases, n, left, right), tt)
+    (omega (arith, c.decreases, n, counted (sym c.deref-in-And.ensures), counted (sym c.deref-in-And-2.ensures)), tt)
 
 pub push_formula-returns-in-And : goal.push_formula-returns-in-And
 push_formula-returns-in-And t c =

@@ -1,7 +1,6 @@
 -- The texts of the parts so far stand after the earlier bytes. The measure is the size of what is printed.
 use Rattle.std.proofs.Common.{◌≡◌, ◌≤◌, ◌+◌, ◌*◌, ◌++◌}
-use Rattle.olap_ast.specs.Trees.{formula_of, terms_of}
-use Rattle.olap_ast.specs.Valid.{node_count, node_count_of_terms}
+use Rattle.olap_ast.specs.{Trees.{formula_of, terms_of}, Valid.{node_count, node_count_of_terms}}
 use Rattle.olap_schema_text.specs.Printing.{rest_text}
 use Rattle.olap_schema_text.proofs.printing.+push_formula.Given as goal
 

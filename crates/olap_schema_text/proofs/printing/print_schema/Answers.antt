@@ -1,7 +1,6 @@
 use Rattle.std.proofs.Common.{rules, ◌≡◌}
-use Rattle.olap_schema_text.specs.Printing.{schema_text}
+use Rattle.olap_schema_text.{proofs.BackSchema.read_back, specs.Printing.schema_text}
 use Rattle.olap_schema.specs.Schemas.{schema_of}
-use Rattle.olap_schema_text.proofs.BackSchema.{read_back}
 use Rattle.olap_schema_text.proofs.printing.print_schema.Goals as goal
 
 pub returns-clause-reads : goal.returns-clause-reads

@@ -1,8 +1,8 @@
-use Rattle.std.proofs.Common.{◌++◌, ◌+◌, ◌<◌, ◌≤◌, Bool, List, ℕ, [], false, arith, ap, slice_index_or, subst, sym, ◌∙◌}
+use Rattle.std.proofs.Common.{◌++◌, ◌+◌, ◌<◌, Bool, List, ℕ, [], false, arith, ap, slice_index_or, subst, sym, ◌∙◌}
 use Rattle.std.specs.Prelude.{zip}
 use Rattle.olap_base.specs.Graph.{is_number}
-use Rattle.olap_schema_text.specs.Printing.{category_text, ended_line}
 use Rattle.olap_schema_text.proofs.PrintLemmas.{declared_kind, declared_name, next_line, no_more, zip_at, zip_length}
+use Rattle.olap_schema_text.specs.Printing.{category_text, ended_line}
 use Rattle.olap_schema_text.proofs.printing.push_categories.Goals as goal
 
 pub categories-preserved : goal.categories-preserved
@@ -28,5 +28,4 @@ returns c =
     let g = c.args.graph.now in
     let kinds = c.categories-count.ensures.hierarchy.kinds_known in
     no_more category_text (zip g.names g.numbers) c.categories.done _ _
-    (subst (λ n. n ≤ c.categories.done) (sym (zip_length g.names g.numbers kinds))
-    (omega (arith, c.categories-test.false))) c.categories.invariant.written
+    (rw (zip_length g.names g.numbers kinds) (omega (arith, c.categories-test.false))) c.categories.invariant.written

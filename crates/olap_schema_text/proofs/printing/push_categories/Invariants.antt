@@ -1,6 +1,5 @@
 -- The lines so far stand after the earlier bytes.
-use Rattle.std.proofs.Common.{◌≡◌, ◌≤◌, ◌++◌, ◌-◌, drop, length, map}
-use Rattle.std.specs.Prelude.{zip}
+use Rattle.std.{proofs.Common.{◌≡◌, ◌≤◌, ◌++◌, ◌-◌, drop, length, map}, specs.Prelude.zip}
 use Rattle.olap_schema_text.specs.Printing.{category_text, text_of_lines}
 use Rattle.olap_schema_text.proofs.printing.push_categories.Given as goal
 

@@ -1,7 +1,6 @@
 use Rattle.std.proofs.Common.{◌≡◌, ◌∷◌, map, rules}
 use Rattle.olap_ast.specs.Trees.{constraint_of}
-use Rattle.olap_schema_text.specs.Printing.{constraint_text}
-use Rattle.olap_schema_text.proofs.PrintLemmas.{next_text}
+use Rattle.olap_schema_text.{proofs.PrintLemmas.next_text, specs.Printing.constraint_text}
 use Rattle.olap_schema_text.proofs.printing.push_constraints.Goals as goal
 
 pub constraints-preserved : goal.constraints-preserved

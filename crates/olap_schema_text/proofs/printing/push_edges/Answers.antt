@@ -1,7 +1,6 @@
 use Rattle.std.proofs.Common.{◌++◌, List, ℕ, arith, ap, sym, ◌∙◌}
 use Rattle.olap_base.specs.Graph.{Edge}
-use Rattle.olap_schema_text.specs.Printing.{edge_text, ended_line}
-use Rattle.olap_schema_text.proofs.PrintLemmas.{next_line, no_more}
+use Rattle.olap_schema_text.{proofs.PrintLemmas.{next_line, no_more}, specs.Printing.{edge_text, ended_line}}
 use Rattle.olap_schema_text.proofs.printing.push_edges.Goals as goal
 
 pub edges-preserved : goal.edges-preserved

@@ -1,10 +1,7 @@
 -- The pairs of one constraint more.
 use Rattle.std.proofs.Common.{◌≡◌, ◌∷◌, map, rules}
-use Rattle.olap_ast.specs.Atoms.{comparisons, equalities}
-use Rattle.olap_ast.specs.Pairs.{with_number, with_pair}
-use Rattle.olap_ast.specs.Trees.{formula_of}
-use Rattle.olap_schema_text.specs.Reading.{number_pair_of, pair_of}
-use Rattle.olap_schema_text.proofs.PairLemmas.{rest_added}
+use Rattle.olap_ast.specs.{Atoms.{comparisons, equalities}, Pairs.{with_number, with_pair}, Trees.formula_of}
+use Rattle.olap_schema_text.{proofs.PairLemmas.rest_added, specs.Reading.{number_pair_of, pair_of}}
 use Rattle.olap_schema_text.proofs.questions.add_of_constraints.Goals as goal
 
 pub constraints-preserved : goal.constraints-preserved

@@ -1,10 +1,6 @@
 -- The pairs of the constraints so far are added.
-use Rattle.std.proofs.Common.{◌≡◌, length, map}
-use Rattle.std.specs.Prelude.{flat_map}
-use Rattle.std.specs.List.{fold}
-use Rattle.olap_ast.specs.Atoms.{comparisons, equalities}
-use Rattle.olap_ast.specs.Pairs.{with_number, with_pair}
-use Rattle.olap_ast.specs.Trees.{constraint_of}
+use Rattle.std.{proofs.Common.{◌≡◌, length, map}, specs.List.fold, specs.Prelude.flat_map}
+use Rattle.olap_ast.specs.{Atoms.{comparisons, equalities}, Pairs.{with_number, with_pair}, Trees.constraint_of}
 use Rattle.olap_schema_text.specs.Reading.{number_pair_of, pair_of}
 use Rattle.olap_schema_text.proofs.questions.add_of_constraints.Given as goal
 

@@ -1,6 +1,5 @@
 use Rattle.std.proofs.Common.{sym, ◌∙◌}
-use Rattle.olap_schema.specs.Readable.{IsReadable}
-use Rattle.olap_schema.specs.Schemas.{schema_of}
+use Rattle.olap_schema.specs.{Readable.IsReadable, Schemas.schema_of}
 use Rattle.olap_schema_text.proofs.ValidQuestions.{asked_has_texts, asked_is_question}
 use Rattle.olap_schema_text.proofs.questions.read_formula.Goals as goal
 

@@ -1,5 +1,4 @@
-use Rattle.std.proofs.Common.{subst}
-use Rattle.std.specs.Prelude.{IfErr}
+use Rattle.std.{proofs.Common.subst, specs.Prelude.IfErr}
 use Rattle.olap_base.specs.Refusing.{IsCause}
 use Rattle.olap_graph.specs.Building.{category_refusal}
 use Rattle.olap_schema_text.proofs.reading.add_category.Goals as goal

@@ -1,8 +1,7 @@
 -- The constants are counted by the pairs.
 use Rattle.std.proofs.Common.{map, rules}
 use Rattle.olap_ast.specs.Trees.{formula_of}
-use Rattle.olap_schema_text.specs.Reading.{above_of, number_pair_of, pair_of}
-use Rattle.olap_schema_text.proofs.CountedLemmas.{added, not_added}
+use Rattle.olap_schema_text.{proofs.CountedLemmas.{added, not_added}, specs.Reading.{above_of, number_pair_of, pair_of}}
 use Rattle.olap_schema_text.proofs.reading.add_constraint.Goals as goal
 
 pub returns-in_err-add_few_pairs-clause-read : goal.returns-in_err-add_few_pairs-clause-read

@@ -1,9 +1,8 @@
 -- What is kept of a long line, and what was counted, refuse it.
 use Rattle.std.proofs.Common.{◌∙◌, ap, not}
 use Rattle.olap_grammar.specs.Cutter.{kept_of}
-use Rattle.olap_schema_text.specs.Reading.{above_of}
+use Rattle.olap_schema_text.{proofs.LongLines.{no_constraint, no_formula, unversioned}, specs.Reading.above_of}
 use Rattle.olap_schema_text.specs.Statements.{statement_of}
-use Rattle.olap_schema_text.proofs.LongLines.{no_constraint, no_formula, unversioned}
 use Rattle.olap_schema_text.proofs.reading.long_line_fault.Goals as goal
 
 pub returns-then-is_none : goal.returns-then-is_none

@@ -1,7 +1,6 @@
 -- The fault of the root or of a name, and what comes of a constraint that has none.
 use Rattle.std.proofs.Common.{rules}
-use Rattle.olap_schema_text.specs.Judging.{constraint_added}
-use Rattle.olap_schema_text.specs.Reading.{above_of}
+use Rattle.olap_schema_text.specs.{Judging.constraint_added, Reading.above_of}
 use Rattle.olap_schema_text.proofs.reading.read_constraint.Goals as goal
 
 pub returns-in_err-root-clause-read : goal.returns-in_err-root-clause-read

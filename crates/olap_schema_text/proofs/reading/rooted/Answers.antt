@@ -1,11 +1,8 @@
 -- The fault of the root.
 use Rattle.std.proofs.Common.{rules}
 use Rattle.olap_grammar.specs.Shown.{form_of}
-use Rattle.olap_schema_text.specs.Kinds.{IsRefusedAs}
-use Rattle.olap_schema_text.specs.Judging.{root_read}
-use Rattle.olap_schema_text.specs.Reading.{above_of}
+use Rattle.olap_schema_text.specs.{Judging.root_read, Kinds.IsRefusedAs, Reading.above_of, Resolving.resolved}
 use Rattle.olap_base.specs.Following.{goes_on}
-use Rattle.olap_schema_text.specs.Resolving.{resolved}
 use Rattle.olap_schema_text.proofs.reading.rooted.Goals as goal
 
 pub returns-in_err-root : goal.returns-in_err-root

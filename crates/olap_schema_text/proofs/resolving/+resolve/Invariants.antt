@@ -1,13 +1,11 @@
 -- The formulas so far, before those of the parts that are left, are the list. The measure is the size of what is gone
 -- through.
 use Rattle.std.proofs.Common.{◌≡◌, ◌≤◌, ◌+◌, ◌*◌, Ok, map}
-use Rattle.olap_ast.specs.Listing.{parts_before}
-use Rattle.olap_ast.specs.Trees.{formula_of}
+use Rattle.olap_ast.specs.{Listing.parts_before, Trees.formula_of}
 use Rattle.olap_grammar.specs.Shown.{form_of, forms_of}
-use Rattle.olap_schema_text.specs.Known.{graph_seen}
-use Rattle.olap_base.specs.Following.{goes_on}
+use Rattle.olap_schema_text.{proofs.ResolvedLemmas.{nodes_in, nodes_in_all}, specs.Known.graph_seen}
 use Rattle.olap_schema_text.specs.Resolving.{all_resolved}
-use Rattle.olap_schema_text.proofs.ResolvedLemmas.{nodes_in, nodes_in_all}
+use Rattle.olap_base.specs.Following.{goes_on}
 use Rattle.olap_schema_text.proofs.resolving.+resolve.Given as goal
 
 abbrev pub decreases-resolve : goal.decreases-resolve

@@ -1,9 +1,8 @@
 -- A name is one of a category, or it isn't.
 use Rattle.std.proofs.Common.{◌≡◌, ◌∷◌, ◌∙◌, [], ap, is_some, not, rules, sym}
 use Rattle.olap_grammar.specs.Words.{pieces_behind}
-use Rattle.olap_schema_text.specs.Known.{graph_seen}
+use Rattle.olap_schema_text.{proofs.CategoryLemmas.{known_at, none_known, unknown_at}, specs.Known.graph_seen}
 use Rattle.olap_schema_text.specs.Resolving.{categories_of}
-use Rattle.olap_schema_text.proofs.CategoryLemmas.{known_at, none_known, unknown_at}
 use Rattle.olap_schema_text.proofs.resolving.are_known.Goals as goal
 
 pub returns-then-is_none : goal.returns-then-is_none

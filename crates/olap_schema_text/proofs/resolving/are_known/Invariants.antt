@@ -2,8 +2,7 @@
 use Rattle.std.proofs.Common.{◌≡◌, is_some}
 use Rattle.olap_base.proofs.PiecesLeft.{size_left}
 use Rattle.olap_grammar.specs.Words.{pieces_behind, pieces_of}
-use Rattle.olap_schema_text.specs.Known.{graph_seen}
-use Rattle.olap_schema_text.specs.Resolving.{categories_of}
+use Rattle.olap_schema_text.specs.{Known.graph_seen, Resolving.categories_of}
 use Rattle.olap_schema_text.proofs.resolving.are_known.Given as goal
 
 abbrev pub invariant-names : goal.invariant-names

@@ -1,14 +1,10 @@
 -- The fault of a name.
-use Rattle.std.proofs.Common.{Err, Ok, rules}
-use Rattle.std.specs.Prelude.{if◌then◌else◌, codes}
-use Rattle.olap_ast.specs.Formula as meaning
+use Rattle.std.{proofs.Common.{Err, Ok, rules}, specs.Prelude.{if◌then◌else◌, codes}}
 use Rattle.olap_ast.specs.Trees.{op_of}
-use Rattle.olap_base.specs.Graph.{is_number}
+use Rattle.olap_base.specs.{Following.given, Graph.is_number}
 use Rattle.olap_numerals.specs.Numerals.{number_of}
-use Rattle.olap_schema_text.specs.Kinds.{IsRefusedAs}
-use Rattle.olap_schema_text.specs.Known.{graph_seen}
-use Rattle.olap_base.specs.Following.{given}
-use Rattle.olap_schema_text.specs.Resolving.{ends_read}
+use Rattle.olap_schema_text.specs.{Kinds.IsRefusedAs, Known.graph_seen, Resolving.ends_read}
+use Rattle.olap_ast.specs.Formula as meaning
 use Rattle.olap_schema_text.proofs.resolving.compare.Goals as goal
 
 pub returns-in_err-d : goal.returns-in_err-d

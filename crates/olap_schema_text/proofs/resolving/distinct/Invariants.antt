@@ -1,12 +1,8 @@
 -- The names so far are those of these categories, of which none comes twice.
-use Rattle.std.proofs.Common.{◌≡◌, ◌++◌, ◌∷◌, false, map}
-use Rattle.std.specs.Option.{option_map}
-use Rattle.std.specs.Prelude.{All}
-use Rattle.olap_base.proofs.PiecesLeft.{size_left}
-use Rattle.olap_base.specs.Graph.{IsCategory}
+use Rattle.std.{proofs.Common.{◌≡◌, ◌++◌, ◌∷◌, false, map}, specs.Option.option_map, specs.Prelude.All}
+use Rattle.olap_base.{proofs.PiecesLeft.size_left, specs.Graph.IsCategory}
 use Rattle.olap_grammar.specs.Words.{pieces_behind, pieces_of}
-use Rattle.olap_schema_text.specs.Known.{graph_seen}
-use Rattle.olap_schema_text.specs.Resolving.{categories_of, is_repeated}
+use Rattle.olap_schema_text.specs.{Known.graph_seen, Resolving.{categories_of, is_repeated}}
 use Rattle.olap_schema_text.proofs.resolving.distinct.Given as goal
 
 abbrev pub invariant-names : goal.invariant-names

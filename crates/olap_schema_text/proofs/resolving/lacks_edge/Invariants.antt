@@ -1,9 +1,7 @@
 -- The categories so far are joined by edges.
-use Rattle.std.proofs.Common.{◌≡◌, length, map}
-use Rattle.std.specs.Prelude.{All}
+use Rattle.std.{proofs.Common.{◌≡◌, length, map}, specs.Prelude.All}
 use Rattle.olap_base.specs.Graph.{IsCategory}
-use Rattle.olap_schema_text.specs.Known.{graph_seen}
-use Rattle.olap_schema_text.specs.Resolving.{lacks_edge}
+use Rattle.olap_schema_text.specs.{Known.graph_seen, Resolving.lacks_edge}
 use Rattle.olap_schema_text.proofs.resolving.lacks_edge.Given as goal
 
 abbrev pub invariant-categories : goal.invariant-categories

@@ -1,9 +1,7 @@
 -- The fault of a name.
 use Rattle.std.proofs.Common.{Ok, rules}
+use Rattle.olap_schema_text.specs.{Kinds.IsRefusedAs, Known.graph_seen, Resolving.ends_read}
 use Rattle.olap_ast.specs.Formula as meaning
-use Rattle.olap_schema_text.specs.Kinds.{IsRefusedAs}
-use Rattle.olap_schema_text.specs.Known.{graph_seen}
-use Rattle.olap_schema_text.specs.Resolving.{ends_read}
 use Rattle.olap_schema_text.proofs.resolving.reach.Goals as goal
 
 pub returns-in_err-last_category : goal.returns-in_err-last_category

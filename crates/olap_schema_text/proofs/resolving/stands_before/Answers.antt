@@ -1,6 +1,5 @@
 -- It isn't the root.
-use Rattle.std.proofs.Common.{◌≡◌, ◌∙◌, false, rules}
-use Rattle.std.specs.Prelude.{◌==◌}
+use Rattle.std.{proofs.Common.{◌≡◌, ◌∙◌, false, rules}, specs.Prelude.◌==◌}
 use Rattle.olap_schema_text.proofs.RepeatLemmas.{among_is}
 use Rattle.olap_schema_text.proofs.resolving.stands_before.Goals as goal
 

@@ -1,8 +1,7 @@
 use Rattle.std.proofs.Common.{Ok, ap, map, sym, ◌∙◌, ◌≡◌}
 use Rattle.olap_ast.specs.Trees.{constraint_of}
 use Rattle.olap_graph.specs.declared.refusals.NoWayToAll.{NoWayToAll}
-use Rattle.olap_schema_text.specs.Reading.{above_of}
-use Rattle.olap_schema_text.proofs.StuckLemmas.{whole_is, whole_not}
+use Rattle.olap_schema_text.{proofs.StuckLemmas.{whole_is, whole_not}, specs.Reading.above_of}
 use Rattle.olap_schema_text.proofs.texts.finish.Goals as goal
 
 pub returns-in-Ok : goal.returns-in-Ok

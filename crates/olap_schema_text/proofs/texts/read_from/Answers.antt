@@ -1,6 +1,5 @@
 use Rattle.std.proofs.Common.{◌∙◌, ap, not}
-use Rattle.olap_schema_text.specs.Reading.{above_of}
-use Rattle.olap_schema_text.proofs.ValidSchemas.{rest_is_readable}
+use Rattle.olap_schema_text.{proofs.ValidSchemas.rest_is_readable, specs.Reading.above_of}
 use Rattle.olap_schema_text.proofs.texts.read_from.Goals as goal
 
 pub finish-requires : goal.finish-requires

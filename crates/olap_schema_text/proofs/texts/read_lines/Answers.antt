@@ -1,6 +1,5 @@
 use Rattle.std.proofs.Common.{◌∙◌, sym}
-use Rattle.olap_schema_text.specs.Reading.{above_of}
-use Rattle.olap_schema_text.proofs.LineLemmas.{all_read}
+use Rattle.olap_schema_text.{proofs.LineLemmas.all_read, specs.Reading.above_of}
 use Rattle.olap_schema_text.proofs.texts.read_lines.Goals as goal
 
 pub returns : goal.returns

@@ -1,8 +1,6 @@
 -- What the lines so far say goes on with the lines that are left, and its constants are counted.
 use Rattle.std.proofs.Common.{◌≡◌, ◌≤◌, ◌+◌, Ok, length}
-use Rattle.olap_schema_text.specs.Judging.{lines_on}
-use Rattle.olap_schema_text.specs.Lines.{lines_of}
-use Rattle.olap_schema_text.specs.Reading.{IsCounted, above_of}
+use Rattle.olap_schema_text.specs.{Judging.lines_on, Lines.lines_of, Reading.{IsCounted, above_of}}
 use Rattle.olap_schema_text.proofs.texts.read_lines.Given as goal
 
 abbrev pub invariant-lines : goal.invariant-lines

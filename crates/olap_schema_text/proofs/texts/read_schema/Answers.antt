@@ -1,5 +1,4 @@
-use Rattle.olap_schema_text.specs.Reading.{above_of}
-use Rattle.olap_schema_text.proofs.ValidSchemas.{start_is_readable}
+use Rattle.olap_schema_text.{proofs.ValidSchemas.start_is_readable, specs.Reading.above_of}
 use Rattle.olap_schema_text.proofs.texts.read_schema.Goals as goal
 
 pub read_from-requires-clause-readable : goal.read_from-requires-clause-readable

@@ -1,7 +1,6 @@
 -- The question has few constants together with the schema.
 use Rattle.std.proofs.Common.{◌≤◌, subst}
-use Rattle.olap_ast.specs.Trees.{formula_of}
-use Rattle.olap_ast.proofs.ComparedLemmas.{constants_counted}
+use Rattle.olap_ast.{proofs.ComparedLemmas.constants_counted, specs.Trees.formula_of}
 use Rattle.olap_base.specs.Limits.{most_constants}
 use Rattle.olap_schema.specs.Schemas.{schema_of}
 use Rattle.olap_search_tests.proofs.comparing.searched.Goals as goal

@@ -1,11 +1,8 @@
 use Rattle.std.proofs.Common.{map, subst, sym}
-use Rattle.olap_ast.specs.Schema.{Schema}
-use Rattle.olap_ast.specs.Trees.{constraint_of, formula_of}
-use Rattle.olap_ast.specs.Valid.{IsQuestion, IsValidSchema}
+use Rattle.olap_ast.specs.{Schema.Schema, Trees.{constraint_of, formula_of}, Valid.{IsQuestion, IsValidSchema}}
 use Rattle.olap_schema.specs.Schemas.{schema_of}
-use Rattle.olap_names.proofs.NameableLemmas.{valid_named}
+use Rattle.olap_names.proofs.{NameableLemmas.valid_named, WholeLemmas.whole_is}
 use Rattle.olap_search_tests.proofs.comparing.searched_plainly.Goals as goal
-use Rattle.olap_names.proofs.WholeLemmas.{whole_is}
 
 pub new-requires-clause-named : goal.new-requires-clause-named
 new-requires-clause-named c =

@@ -1,6 +1,5 @@
 use Rattle.std.proofs.Common.{refl}
-use Rattle.olap_ast.specs.Formula.{Formula.Truth}
-use Rattle.olap_ast.proofs.SourceLemmas.{no_more_constants}
+use Rattle.olap_ast.{proofs.SourceLemmas.no_more_constants, specs.Formula.Formula.Truth}
 use Rattle.olap_schema.specs.Schemas.{schema_of}
 use Rattle.olap_search_tests.proofs.dimsat.search_at.Goals as goal
 

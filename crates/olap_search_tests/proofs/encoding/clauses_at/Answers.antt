@@ -1,15 +1,10 @@
 -- The schema's graph and constraints, as its candidates and the encoder take them.
 use Rattle.std.proofs.Common.{◌≡◌, List, map, refl, subst, sym}
 use Rattle.olap_base.specs.Graph.{Graph}
-use Rattle.olap_ast.specs.Formula.{Formula.Truth}
-use Rattle.olap_ast.specs.Schema.{Constraint, Schema}
-use Rattle.olap_ast.specs.Trees.{constraint_of}
-use Rattle.olap_ast.specs.Valid.{IsValidSchema}
-use Rattle.olap_ast.proofs.ConstantLemmas.{constant_in_constraint}
-use Rattle.olap_ast.proofs.SourceLemmas.{no_more_constants}
+use Rattle.olap_ast.proofs.{ConstantLemmas.constant_in_constraint, SourceLemmas.no_more_constants}
+use Rattle.olap_ast.specs.{Formula.Formula.Truth, Schema.{Constraint, Schema}, Trees.constraint_of, Valid.IsValidSchema}
 use Rattle.olap_encoding.proofs.SpokenLemmas.{spoken}
-use Rattle.olap_names.specs.Names.{with_graph}
-use Rattle.olap_names.proofs.NameableLemmas.{can_be_named}
+use Rattle.olap_names.{proofs.NameableLemmas.can_be_named, specs.Names.with_graph}
 use Rattle.olap_schema.specs.Schemas.{schema_of}
 use Rattle.olap_search_tests.proofs.encoding.clauses_at.Goals as goal
 

@@ -1,8 +1,7 @@
 -- The findings among the categories before are there, and each of these categories is known.
 use Rattle.std.proofs.Common.{map}
 use Rattle.olap_schema.specs.Schemas.{schema_of}
-use Rattle.olap_summ.specs.Audits.{AreFindingsBefore, finding_of, unsatisfiable}
-use Rattle.olap_summ.specs.Sights.{AreSettled, IsSeen}
+use Rattle.olap_summ.specs.{Audits.{AreFindingsBefore, finding_of, unsatisfiable}, Sights.{AreSettled, IsSeen}}
 use Rattle.olap_summ.proofs.auditing.add_unsatisfiable.Given as goal
 
 abbrev pub invariant-categories : goal.invariant-categories

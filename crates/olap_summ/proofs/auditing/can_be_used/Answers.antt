@@ -1,25 +1,18 @@
-use Rattle.std.proofs.Common.{◌≡◌, ◌∙◌, true≢false, subst, sym}
-use Rattle.std.proofs.lemmas.Result.{IfOk-weaker}
+use Rattle.std.proofs.{Common.{◌∙◌, true≢false, sym}, lemmas.Result.IfOk-weaker}
 use Rattle.olap_base.specs.Graph.{category_count}
-use Rattle.olap_ast.specs.Findings.{IsUnused}
-use Rattle.olap_graph.specs.Lookups.{edge_at}
 use Rattle.olap_schema.specs.Schemas.{schema_of}
 use Rattle.olap_summ.proofs.SightLemmas.{settled_still}
 use Rattle.olap_summ.proofs.auditing.can_be_used.Goals as goal
 
 pub returns-clause-no : goal.returns-clause-no
 returns-clause-no c =
-    let s = schema_of c.args.schema.now in
-    let at = subst (λ g. edge_at g c.args.e.0 ≡ record { child = c.ends.result.0.0; parent = c.ends.result.1.0 })
-    c.graph.ensures c.ends.ensures.edge in
-    IfOk-weaker c.is_used.result _ _ (λ b h e. subst (IsUnused s) (sym at) (h.0 e)) c.is_used.ensures.no
+    let edge = rw c.graph.ensures at c.ends.ensures.edge in
+    IfOk-weaker c.is_used.result _ _ (λ b h e. rw edge (h.0 e)) c.is_used.ensures.no
 
 pub returns-clause-yes : goal.returns-clause-yes
 returns-clause-yes c =
-    let s = schema_of c.args.schema.now in
-    let at = subst (λ g. edge_at g c.args.e.0 ≡ record { child = c.ends.result.0.0; parent = c.ends.result.1.0 })
-    c.graph.ensures c.ends.ensures.edge in
-    IfOk-weaker c.is_used.result _ _ (λ b h e u. true≢false (sym e ∙ h.1 (subst (IsUnused s) at u)))
+    let edge = rw c.graph.ensures at c.ends.ensures.edge in
+    IfOk-weaker c.is_used.result _ _ (λ b h e u. true≢false (sym e ∙ h.1 (rw edge at u)))
     c.is_used.ensures.no
 
 pub returns-clause-seen : goal.returns-clause-seen

@@ -1,11 +1,7 @@
-use Rattle.std.proofs.Common.{◌≡◌, ◌↔◌, false, refl}
-use Rattle.std.proofs.lemmas.Result.{IfOk-weaker}
-use Rattle.olap_ast.specs.Findings.{IsUnsatisfiable}
-use Rattle.olap_ast.specs.Formula.{Formula.Truth}
+use Rattle.std.proofs.{Common.{◌≡◌, ◌↔◌, false, refl}, lemmas.Result.IfOk-weaker}
+use Rattle.olap_ast.{proofs.SourceLemmas.no_more_constants, specs.Findings.IsUnsatisfiable, specs.Formula.Formula.Truth}
 use Rattle.olap_schema.specs.Schemas.{schema_of}
-use Rattle.olap_summ.specs.Answers.{IsNowhere}
-use Rattle.olap_ast.proofs.SourceLemmas.{no_more_constants}
-use Rattle.olap_summ.proofs.NowhereLemmas.{unsatisfiable_is}
+use Rattle.olap_summ.{proofs.NowhereLemmas.unsatisfiable_is, specs.Answers.IsNowhere}
 use Rattle.olap_summ.proofs.auditing.can_have_member.Goals as goal
 
 pub ask-requires-clause-few : goal.ask-requires-clause-few

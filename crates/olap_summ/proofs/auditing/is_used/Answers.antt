@@ -1,11 +1,7 @@
-use Rattle.std.proofs.Common.{◌≡◌, ◌↔◌, false, map, refl, sym, subst}
-use Rattle.std.proofs.lemmas.Result.{IfOk-weaker}
+use Rattle.std.proofs.{Common.{◌≡◌, false, map, refl}, lemmas.Result.IfOk-weaker}
 use Rattle.olap_base.specs.declared.ids.CatId.{CatId}
-use Rattle.olap_ast.specs.Formula.{Formula.Path}
-use Rattle.olap_ast.specs.Valid.{IsFormulaAt}
+use Rattle.olap_ast.{proofs.SourceLemmas.no_more_constants, specs.Formula.Formula.Path}
 use Rattle.olap_schema.specs.Schemas.{schema_of}
-use Rattle.olap_summ.specs.Answers.{IsNowhere}
-use Rattle.olap_ast.proofs.SourceLemmas.{no_more_constants}
 use Rattle.olap_summ.proofs.AuditLemmas.{edge_at_child, path_of, unused_is}
 use Rattle.olap_summ.proofs.auditing.is_used.Goals as goal
 
@@ -15,11 +11,10 @@ ask-requires-clause-root c =
 
 pub ask-requires-clause-question : goal.ask-requires-clause-question
 ask-requires-clause-question c =
-    let g = (schema_of c.args.schema.now).graph in
-    let path = path_of c.from_vec.result c.push.new.self.items c.new-path.result.items c.args.parent
-    c.from_vec.ensures c.in_ok-push.ensures.items c.new-path.ensures.items in
-    subst (λ cs. IsFormulaAt g c.args.child.0 (Path cs)) (sym path)
-    (edge_at_child g c.args.child.0 c.args.parent.0 c.constraints-valid.ensures.valid.hierarchy c.requires.edge)
+    rw (path_of c.from_vec.result c.push.new.self.items c.new-path.result.items c.args.parent
+    c.from_vec.ensures c.in_ok-push.ensures.items c.new-path.ensures.items)
+    (edge_at_child (schema_of c.args.schema.now).graph c.args.child.0 c.args.parent.0
+    c.constraints-valid.ensures.valid.hierarchy c.requires.edge)
 
 pub ask-requires-clause-few : goal.ask-requires-clause-few
 ask-requires-clause-few c =
@@ -31,9 +26,5 @@ returns-clause-no c =
     let s = schema_of c.args.schema.now in
     let path = path_of c.from_vec.result c.push.new.self.items c.new-path.result.items c.args.parent
     c.from_vec.ensures c.in_ok-push.ensures.items c.new-path.ensures.items in
-    IfOk-weaker c.ask.result _ _
-    (λ b h. unused_is s child parent (b ≡ false)
-    (subst (λ cs. b ≡ false ↔ IsNowhere s (Path cs) child) path h))
+    IfOk-weaker c.ask.result _ _ (λ b h. unused_is s c.args.child.0 c.args.parent.0 (b ≡ false) (rw path at h))
     c.ask.ensures.no
-  where
-    open c use {args.child.0 as child, args.parent.0 as parent}

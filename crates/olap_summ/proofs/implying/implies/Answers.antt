@@ -1,13 +1,7 @@
-use Rattle.std.proofs.Common.{◌↔◌, subst}
-use Rattle.std.proofs.lemmas.Result.{IfOk-weaker}
-use Rattle.std.specs.Prelude.{IfOk, IfSome, IsNone}
-use Rattle.olap_ast.specs.Formula.{Formula}
-use Rattle.olap_ast.specs.Questions.{IsImplied}
-use Rattle.olap_ast.specs.Trees.{formula_of}
-use Rattle.olap_frozen.specs.LeastFound.{IsLeastFound}
+use Rattle.std.{proofs.Common.{◌↔◌, subst}, proofs.lemmas.Result.IfOk-weaker, specs.Prelude.IsNone}
+use Rattle.olap_ast.specs.{Formula.Formula, Questions.IsImplied, Trees.formula_of}
 use Rattle.olap_schema.specs.Schemas.{schema_of}
-use Rattle.olap_summ.specs.Answers.{IsNowhere}
-use Rattle.olap_summ.proofs.NowhereLemmas.{implied_is}
+use Rattle.olap_summ.{proofs.NowhereLemmas.implied_is, specs.Answers.IsNowhere}
 use Rattle.olap_summ.proofs.implying.implies.Goals as goal
 
 pub returns-clause-none : goal.returns-clause-none
@@ -23,6 +17,4 @@ returns-clause-none c =
 
 pub returns-clause-some : goal.returns-clause-some
 returns-clause-some c =
-    let s = schema_of c.args.schema.now in
-    subst (λ (q : Formula). IfOk c.found.result (λ o. IfSome o (IsLeastFound s q c.args.root.0)))
-    c.in_ok-negated.ensures c.found.ensures.some
+    let s = schema_of c.args.schema.now in rw c.in_ok-negated.ensures at c.found.ensures.some

@@ -1,12 +1,7 @@
-use Rattle.std.proofs.Common.{◌↔◌, subst}
-use Rattle.std.proofs.lemmas.Result.{IfOk-weaker}
-use Rattle.std.specs.Prelude.{IsTrue}
-use Rattle.olap_ast.specs.Formula.{Formula}
-use Rattle.olap_ast.specs.Questions.{IsImplied}
-use Rattle.olap_ast.specs.Trees.{formula_of}
+use Rattle.std.{proofs.Common.{◌↔◌, subst}, proofs.lemmas.Result.IfOk-weaker, specs.Prelude.IsTrue}
+use Rattle.olap_ast.specs.{Formula.Formula, Questions.IsImplied, Trees.formula_of}
 use Rattle.olap_schema.specs.Schemas.{schema_of}
-use Rattle.olap_summ.specs.Answers.{IsNowhere}
-use Rattle.olap_summ.proofs.NowhereLemmas.{implied_is}
+use Rattle.olap_summ.{proofs.NowhereLemmas.implied_is, specs.Answers.IsNowhere}
 use Rattle.olap_summ.proofs.implying.is_implied.Goals as goal
 
 pub returns : goal.returns

@@ -1,7 +1,6 @@
 use Rattle.olap_ast.specs.Trees.{formula_of}
 use Rattle.olap_schema.specs.Schemas.{schema_of}
-use Rattle.olap_summ.specs.Answers.{IsNowhere}
-use Rattle.olap_summ.proofs.NowhereLemmas.{none_told}
+use Rattle.olap_summ.{proofs.NowhereLemmas.none_told, specs.Answers.IsNowhere}
 use Rattle.olap_summ.proofs.implying.is_nowhere.Goals as goal
 
 pub returns : goal.returns

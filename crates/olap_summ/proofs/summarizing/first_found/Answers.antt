@@ -1,15 +1,11 @@
-use Rattle.std.proofs.Common.{◌≤◌, ◌∙◌, ℕ, ap, sym, subst, arith}
-use Rattle.olap_ast.specs.Formula.{Formula}
-use Rattle.olap_ast.specs.Summarizable.{IsSummarizable}
-use Rattle.olap_ast.proofs.SourceLemmas.{question_kinds, until}
+use Rattle.std.proofs.Common.{◌≤◌, ◌∙◌, ap, sym, arith}
+use Rattle.olap_ast.{proofs.SourceLemmas.{question_kinds, until}, specs.Summarizable.IsSummarizable}
 use Rattle.olap_base.specs.Graph.{IsBottom, category_count}
 use Rattle.olap_frozen.specs.declared.founding.Found.{Found}
 use Rattle.olap_schema.specs.Schemas.{schema_of}
-use Rattle.olap_summ.specs.Answers.{IsNowhere}
-use Rattle.olap_summ.specs.Asking.{IsFirstFound}
-use Rattle.olap_summ.specs.Decisions.{asked_by, sources_of, target_of}
 use Rattle.olap_summ.proofs.CounterexampleLemmas.{first_shown, summarizable_is, summarizable_isnt}
-use Rattle.olap_summ.proofs.NowhereLemmas.{none_is, some_told}
+use Rattle.olap_summ.{proofs.NowhereLemmas.{none_is, some_told}, specs.Answers.IsNowhere, specs.Asking.IsFirstFound}
+use Rattle.olap_summ.specs.Decisions.{asked_by, sources_of, target_of}
 use Rattle.olap_summ.proofs.summarizing.first_found.Goals as goal
 
 pub categories-preserved : goal.categories-preserved
@@ -25,8 +21,7 @@ returns-then-is_some-clause-none c =
     (sym c.is_some.ensures ∙ c.if-is_some.true)
     (first_shown w s (asked_by q) c.categories.b c.in_ok-found.found c.in_ok-found.ensures.bottom
     c.in_ok-found.ensures.some c.categories.invariant)
-    (subst (λ (f : Formula). (found : Found) → IsFirstFound w s f found
-    → IsSummarizable s (target_of q) (sources_of q) → ⊥) (sym c.requires.asked)
+    (rw c.requires.asked
     (summarizable_isnt s (target_of q) (sources_of q) c.constraints-valid.ensures.valid.hierarchy w))
   where
     open c use {args.questions.now as q, args.wanted as w}
@@ -41,10 +36,9 @@ returns-clause-none c =
     let s = schema_of c.args.schema.now in
     let q = c.args.questions.now in
     let count = c.categories-b-end.ensures.count ∙ ap category_count c.graph.ensures in
-    let end = c.categories-test.false in
     let past : category_count s.graph ≤ c.categories.b = omega arith in
     none_is Found (IsSummarizable s (target_of q) (sources_of q))
     (summarizable_is s (target_of q) (sources_of q) c.constraints-valid.ensures.valid.hierarchy
     c.candidates_exist.ensures (question_kinds s (target_of q) (sources_of q) c.constraints-valid.ensures.valid)
-    (subst (λ (f : Formula). (b : ℕ) → IsBottom s.graph b → IsNowhere s f b) c.requires.asked
-    (λ b bottom. c.categories.invariant b (let l = bottom.0.1 in omega (arith, l, past)) bottom)))
+    (λ b bottom. rw c.requires.asked at
+    (c.categories.invariant b (let l = bottom.0.1 in omega (arith, l, past)) bottom)))

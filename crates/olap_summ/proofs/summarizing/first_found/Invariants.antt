@@ -2,8 +2,7 @@
 use Rattle.std.proofs.Common.{◌<◌, ℕ}
 use Rattle.olap_base.specs.Graph.{IsBottom}
 use Rattle.olap_schema.specs.Schemas.{schema_of}
-use Rattle.olap_summ.specs.Answers.{IsNowhere}
-use Rattle.olap_summ.specs.Decisions.{asked_by}
+use Rattle.olap_summ.specs.{Answers.IsNowhere, Decisions.asked_by}
 use Rattle.olap_summ.proofs.summarizing.first_found.Given as goal
 
 abbrev pub invariant-categories : goal.invariant-categories

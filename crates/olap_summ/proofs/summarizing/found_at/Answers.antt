@@ -1,5 +1,4 @@
-use Rattle.std.proofs.Common.{sym, subst, true≢false, ◌∙◌}
-use Rattle.std.proofs.lemmas.Result.{IfOk-weaker}
+use Rattle.std.proofs.{Common.{sym, subst, true≢false, ◌∙◌}, lemmas.Result.IfOk-weaker}
 use Rattle.olap_base.specs.Graph.{Graph, IsBottom}
 use Rattle.olap_schema.specs.Schemas.{schema_of}
 use Rattle.olap_summ.proofs.DecisionLemmas.{asked_at, asked_few}
@@ -23,6 +22,5 @@ returns-clause-none c = IfOk-weaker c.found.result _ _ (λ o h e bottom. h.0 e) 
 
 pub returns-clause-bottom : goal.returns-clause-bottom
 returns-clause-bottom c =
-    let bottom = subst (λ (g : Graph). IsBottom g c.args.root.0) c.graph.ensures
-    (c.is_bottom.ensures.0 c.if-not-is_bottom.false) in
+    let bottom = rw c.graph.ensures at (c.is_bottom.ensures.0 c.if-not-is_bottom.false) in
     IfOk-weaker c.found.result _ _ (λ o h e. bottom) c.found.ensures.none

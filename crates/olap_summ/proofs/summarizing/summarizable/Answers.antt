@@ -1,17 +1,12 @@
-use Rattle.std.proofs.Common.{◌∙◌, ◌↔◌, ap, subst}
-use Rattle.std.specs.Prelude.{IsNone}
-use Rattle.olap_ast.specs.Summarizable.{IsSummarizable, not_by_one}
+use Rattle.std.proofs.Common.{◌∙◌, ap}
+use Rattle.olap_ast.specs.Summarizable.{not_by_one}
 use Rattle.olap_schema.specs.Schemas.{schema_of}
-use Rattle.olap_summ.specs.Decisions.{asked_by, sources_of}
-use Rattle.olap_summ.proofs.CounterexampleLemmas.{least_told}
+use Rattle.olap_summ.{proofs.CounterexampleLemmas.least_told, specs.Decisions.{asked_by, sources_of}}
 use Rattle.olap_summ.proofs.summarizing.summarizable.Goals as goal
 
 pub returns-clause-none : goal.returns-clause-none
 returns-clause-none c =
-    let s = schema_of c.args.schema.now in
-    subst (λ l. IsNone found.found ↔ IsSummarizable s c.args.target.0 l) asked.sources
-    (subst (λ n. IsNone found.found ↔ IsSummarizable s n (sources_of c.in_ok-questions.questions)) asked.target
-    found.ensures.none)
+    let s = schema_of c.args.schema.now in rw asked.sources at (rw asked.target at found.ensures.none)
   where
     open c use {in_ok-questions.ensures as asked, in_ok-found as found}
 

@@ -1,10 +1,6 @@
-use Rattle.std.proofs.Common.{◌≡◌, ◌∙◌, List, map, true, false, ap, subst, sym}
-use Rattle.std.specs.Prelude.{◌==◌}
-use Rattle.olap_base.specs.Graph.{Graph}
-use Rattle.olap_base.specs.Instance.{Instance}
-use Rattle.olap_breaks.specs.Breaks.{breaks, breaks_text}
-use Rattle.olap_breaks.specs.Seen.{break_seen, ids}
-use Rattle.olap_breaks.specs.declared.finding.Break.{Break}
+use Rattle.std.{proofs.Common.{◌≡◌, ◌∙◌, List, map, true, false, ap, subst, sym}, specs.Prelude.◌==◌}
+use Rattle.olap_base.specs.{Graph.Graph, Instance.Instance}
+use Rattle.olap_breaks.specs.{Breaks.{breaks, breaks_text}, Seen.{break_seen, ids}, declared.finding.Break.Break}
 use Rattle.olap_schema.specs.Schemas.{schema_of}
 use Rattle.olap_totals.proofs.BreakingLemmas.{told_none, told_some}
 use Rattle.olap_totals.proofs.breaking.told.Goals as goal

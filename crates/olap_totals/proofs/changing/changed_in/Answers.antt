@@ -1,18 +1,15 @@
 -- A sound store stays one, and a text or a fact is refused.
 use Rattle.std.proofs.Common.{◌≡◌, ◌∙◌, Err, Ok, ap, arith, subst}
-use Rattle.olap_base.specs.Graph.{Graph}
-use Rattle.olap_base.specs.Limits.{most_facts}
+use Rattle.olap_base.specs.{Graph.Graph, Limits.most_facts}
 use Rattle.olap_facts.specs.FactText.{facts_read_within}
 use Rattle.olap_records.specs.Records.{records_of}
 use Rattle.olap_schema.specs.Schemas.{schema_of}
 use Rattle.olap_view.specs.Seen.{views_of}
-use Rattle.olap_delta.specs.Changing.{step_of}
-use Rattle.olap_delta.specs.Reading.{views_changed}
+use Rattle.olap_delta.specs.{Changing.step_of, Reading.views_changed}
 use Rattle.olap_reading.specs.Rest.{IsOfRest}
-use Rattle.olap_totals.specs.Feeding.{IsChangedBy, IsWhyUnchanged}
+use Rattle.olap_totals.{proofs.FeedingLemmas.{change_in, change_out}, specs.Feeding.{IsChangedBy, IsWhyUnchanged}}
 use Rattle.olap_totals.specs.declared.feeding.Unchanged.{Unchanged}
 use Rattle.olap_totals.specs.declared.feeding.Unchanged.TheVariants as unchanged
-use Rattle.olap_totals.proofs.FeedingLemmas.{change_in, change_out}
 use Rattle.olap_totals.proofs.changing.changed_in.Goals as goal
 
 pub returns-in-Ok-changed_by_rest-clause-sound : goal.returns-in-Ok-changed_by_rest-clause-sound

@@ -1,17 +1,12 @@
 -- A piece more, the end, and a refusal.
 use Rattle.std.proofs.Common.{◌≡◌, ◌<◌, ◌++◌, ◌∙◌, [], ℕ, List, Ok, length, take, inl, ap, arith, subst}
-use Rattle.std.specs.Prelude.{is_ok}
-use Rattle.std.proofs.lemmas.List.{length-take-le}
-use Rattle.std.proofs.lemmas.Result.{err_from_is_err_and}
-use Rattle.olap_base.specs.Limits.{most_facts}
-use Rattle.olap_base.specs.Refusing.{IsRefusedBy}
+use Rattle.std.{proofs.lemmas.List.length-take-le, proofs.lemmas.Result.err_from_is_err_and, specs.Prelude.is_ok}
+use Rattle.olap_base.specs.{Limits.most_facts, Refusing.IsRefusedBy}
 use Rattle.olap_records.specs.Standing.{records_fed, unmarked}
 use Rattle.olap_facts.specs.FactText.{facts_read_within}
 use Rattle.olap_outside.specs.Pieces.{EndsTold}
 use Rattle.olap_view.specs.Seen.{views_of}
-use Rattle.olap_delta.specs.Changing.{step_of}
-use Rattle.olap_delta.specs.Reading.{views_changed}
-use Rattle.olap_delta.specs.Taking.{HasTakenText}
+use Rattle.olap_delta.specs.{Changing.step_of, Reading.views_changed, Taking.HasTakenText}
 use Rattle.olap_reading.proofs.RollingLemmas.{below, ends-told, long-or-end, longer, mark-joined, parts-more, told-end, told-fault}
 use Rattle.olap_totals.specs.Feeding.{IsChangedBy}
 use Rattle.olap_totals.proofs.feeding.changed_by_rest.Goals as goal

@@ -1,14 +1,10 @@
 use Rattle.std.proofs.Common.{List, get_or, ap, ◌∙◌}
-use Rattle.olap_base.specs.Instance.{Instance}
-use Rattle.olap_base.specs.Views.{direct_view, members}
-use Rattle.olap_view.specs.Seen.{view_of}
-use Rattle.olap_view.specs.ViewText.{view_text}
-use Rattle.olap_view.specs.declared.views.View as told
-use Rattle.olap_order.specs.Order.{Told}
+use Rattle.olap_base.specs.{Instance.Instance, Views.{direct_view, members}}
+use Rattle.olap_view.specs.{Seen.view_of, ViewText.view_text}
+use Rattle.olap_order.{proofs.Replying.told_shown, proofs.Stepping.{answered, ended, followed}, specs.Order.Told}
 use Rattle.olap_order.specs.declared.status.Status.TheVariants.{Yes}
 use Rattle.olap_totals.proofs.ViewLemmas.{only_view}
-use Rattle.olap_order.proofs.Replying.{told_shown}
-use Rattle.olap_order.proofs.Stepping.{answered, ended, followed}
+use Rattle.olap_view.specs.declared.views.View as told
 use Rattle.olap_totals.proofs.rolling_up.view_in.Goals as goal
 
 pub returns-in_err-views : goal.returns-in_err-views

@@ -2,10 +2,8 @@ use Rattle.std.proofs.Common.{List, subst}
 use Rattle.olap_base.specs.declared.ids.CatId.{CatId}
 use Rattle.olap_schema.specs.Schemas.{schema_of}
 use Rattle.olap_view.specs.Seen.{ids}
-use Rattle.olap_order.specs.Judged.{Judged}
-use Rattle.olap_order.proofs.Stepping.{ended, followed, unread}
-use Rattle.olap_totals.specs.Questions.{IsAnswer}
-use Rattle.olap_totals.specs.Under.{store_of}
+use Rattle.olap_order.{proofs.Stepping.{ended, followed, unread}, specs.Judged.Judged}
+use Rattle.olap_totals.specs.{Questions.IsAnswer, Under.store_of}
 use Rattle.olap_totals.proofs.storing.store.Goals as goal
 
 pub returns-in_err-categories : goal.returns-in_err-categories

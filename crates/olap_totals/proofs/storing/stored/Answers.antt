@@ -1,14 +1,10 @@
-use Rattle.std.proofs.Common.{length, subst, sym}
-use Rattle.std.specs.Prelude.{ℕ, All}
-use Rattle.olap_base.specs.Graph.{IsCategory}
-use Rattle.olap_base.specs.Views.{View, direct_views, members}
+use Rattle.std.{proofs.Common.{length, subst, sym}, specs.Prelude.{ℕ, All}}
+use Rattle.olap_base.specs.{Graph.IsCategory, Views.{View, direct_views, members}}
 use Rattle.olap_schema.specs.Schemas.{schema_of}
 use Rattle.olap_view.specs.Seen.{ids}
-use Rattle.olap_order.specs.Judged.{Replies}
-use Rattle.olap_order.proofs.Stepping.{answered, ended, followed}
-use Rattle.olap_totals.specs.Commands.{store_told}
+use Rattle.olap_order.{proofs.Stepping.{answered, ended, followed}, specs.Judged.Replies}
+use Rattle.olap_totals.{proofs.ViewLemmas.{direct_categories, members_seen}, specs.Commands.store_told}
 use Rattle.olap_totals.specs.Questions.{IsAnswer}
-use Rattle.olap_totals.proofs.ViewLemmas.{direct_categories, members_seen}
 use Rattle.olap_totals.proofs.storing.stored.Goals as goal
 
 pub returns-in_err-views : goal.returns-in_err-views

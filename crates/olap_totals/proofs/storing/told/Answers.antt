@@ -1,11 +1,7 @@
-use Rattle.std.proofs.Common.{◌<◌, ◌≤◌, ℕ, List, length, le-ltb, lt-ltb, ap, subst, sym, ◌∙◌}
-use Rattle.std.specs.Prelude.{All}
-use Rattle.olap_base.specs.Graph.{Graph, IsCategory}
-use Rattle.olap_base.specs.Instance.{Instance}
-use Rattle.olap_base.specs.Limits.{most_store_bytes}
+use Rattle.std.{proofs.Common.{◌<◌, ◌≤◌, ℕ, List, length, le-ltb, lt-ltb, ap, subst, sym, ◌∙◌}, specs.Prelude.All}
+use Rattle.olap_base.specs.{Graph.{Graph, IsCategory}, Instance.Instance, Limits.most_store_bytes}
 use Rattle.olap_schema.specs.Schemas.{schema_of}
-use Rattle.olap_view.specs.Seen.{views_of}
-use Rattle.olap_view.specs.StoreText.{store_text}
+use Rattle.olap_view.specs.{Seen.views_of, StoreText.store_text}
 use Rattle.olap_totals.proofs.StoreLemmas.{long_is_refused, short_is_told}
 use Rattle.olap_totals.proofs.storing.told.Goals as goal
 

@@ -1,7 +1,5 @@
 use Rattle.olap_delta.specs.Changing.{step_named}
-use Rattle.olap_totals.specs.Seen.{under}
-use Rattle.olap_totals.specs.Under.{change_under}
-use Rattle.olap_totals.proofs.WordLemmas.{by_four_places}
+use Rattle.olap_totals.{proofs.WordLemmas.by_four_places, specs.Seen.under, specs.Under.change_under}
 use Rattle.olap_totals.proofs.words.change_command.Goals as goal
 
 pub returns-in-len4 : goal.returns-in-len4

@@ -1,10 +1,9 @@
 -- The name is one of those of the family, and the words after it one by one are those by their numbers.
 use Rattle.std.proofs.Common.{ap, sym, ◌∙◌}
-use Rattle.olap_order.specs.Words.{texts}
-use Rattle.olap_order.proofs.BehindLemmas.{four_is, three_or_more_is, two_is}
+use Rattle.olap_order.{proofs.BehindLemmas.{four_is, three_or_more_is, two_is}, specs.Words.texts}
 use Rattle.olap_delta.specs.Changes.{append, retract}
-use Rattle.olap_totals.specs.Commands.{breaks_order, change_order, check_order, order_named, rollup_order}
 use Rattle.olap_totals.proofs.WordLemmas.{store_is}
+use Rattle.olap_totals.specs.Commands.{breaks_order, change_order, check_order, order_named, rollup_order}
 use Rattle.olap_totals.proofs.words.parse.Goals as goal
 
 pub returns-in-rollup : goal.returns-in-rollup

@@ -1,6 +1,5 @@
 -- The sets are those from before and empty ones, and the room hasn't shrunk.
-use Rattle.std.proofs.Common.{◌≡◌, ◌-◌, ◌≤◌, ℕ, length}
-use Rattle.std.specs.Prelude.{vec_capacity}
+use Rattle.std.{proofs.Common.{◌≡◌, ◌-◌, ◌≤◌, ℕ, length}, specs.Prelude.vec_capacity}
 use Rattle.olap_graph.specs.Rows.{row}
 use Rattle.olap_trail.proofs.drawing.fill.Given as goal
 

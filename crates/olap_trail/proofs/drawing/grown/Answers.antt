@@ -1,9 +1,8 @@
 -- What leads to c leads on.
 use Rattle.std.proofs.Common.{◌∙◌, inl, inr, sym}
 use Rattle.olap_bits.specs.Sets.{members}
-use Rattle.olap_trail.proofs.SetLemmas.{grown_union}
+use Rattle.olap_trail.proofs.{SetLemmas.grown_union, drawing.grown.Goals.{then-x-c, else-x-c}}
 use Rattle.olap_trail.proofs.drawing.grown.Goals as goal
-use Rattle.olap_trail.proofs.drawing.grown.Goals.{then-x-c, else-x-c}
 
 pub returns-then-has : goal.returns-then-has
 returns-then-has g c =

@@ -1,6 +1,5 @@
 use Rattle.olap_order.proofs.Joining.{of_none, of_some}
-use Rattle.olap_verdicts.specs.Seen.{seen}
-use Rattle.olap_verdicts.proofs.WordLemmas.{seen_is_no_usage}
+use Rattle.olap_verdicts.{proofs.WordLemmas.seen_is_no_usage, specs.Seen.seen}
 use Rattle.olap_verdicts.proofs.judging.judge.Goals as goal
 
 pub returns-in-None : goal.returns-in-None

@@ -1,10 +1,9 @@
-use Rattle.std.proofs.Common.{◌≡◌, ◌∙◌}
-use Rattle.std.specs.Prelude.{Err}
+use Rattle.std.{proofs.Common.{◌≡◌, ◌∙◌}, specs.Prelude.Err}
 use Rattle.olap_ast.specs.Trees.{numbers_of}
-use Rattle.olap_base.specs.declared.refusals.Refusal.TheVariants as refusal
-use Rattle.olap_proof.specs.declared.verifying.VerifyFault.TheVariants as fault
 use Rattle.olap_schema.specs.Schemas.{schema_of}
 use Rattle.olap_verdicts.proofs.ReplyLemmas.{wrong_shown}
+use Rattle.olap_base.specs.declared.refusals.Refusal.TheVariants as refusal
+use Rattle.olap_proof.specs.declared.verifying.VerifyFault.TheVariants as fault
 use Rattle.olap_verdicts.proofs.verifying.told.Goals as goal
 
 pub returns-in_ok-rejected-in-Err-Kind-Rejected : goal.returns-in_ok-rejected-in-Err-Kind-Rejected

@@ -1,10 +1,8 @@
 use Rattle.std.proofs.Common.{List, ℕ, subst}
 use Rattle.olap_base.specs.declared.ids.CatId.{CatId}
 use Rattle.olap_schema.specs.Schemas.{schema_of}
-use Rattle.olap_order.specs.Judged.{Replies}
-use Rattle.olap_order.specs.Order.{Done}
+use Rattle.olap_order.{proofs.Stepping.{answered, ended, followed, unread}, specs.Judged.Replies, specs.Order.Done}
 use Rattle.olap_ast.specs.Trees.{numbers_of}
-use Rattle.olap_order.proofs.Stepping.{answered, ended, followed, unread}
 use Rattle.olap_verdicts.specs.Questions.{ByCertificate, IsAnswer}
 use Rattle.olap_verdicts.proofs.verifying.verify_for.Goals as goal
 

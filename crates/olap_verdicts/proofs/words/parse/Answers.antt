@@ -1,7 +1,6 @@
 -- The name is one of those of the family, and the words after it one by one are those by their numbers.
 use Rattle.std.proofs.Common.{ap, sym, ◌∙◌}
-use Rattle.olap_order.specs.Words.{texts}
-use Rattle.olap_order.proofs.BehindLemmas.{three_or_more_is}
+use Rattle.olap_order.{proofs.BehindLemmas.three_or_more_is, specs.Words.texts}
 use Rattle.olap_proof.specs.declared.forms.Form.TheVariants.{Long, Short}
 use Rattle.olap_verdicts.specs.Commands.{order_named, verify_order}
 use Rattle.olap_verdicts.proofs.words.parse.Goals as goal

@@ -1,7 +1,6 @@
 -- The columns of the categories so far.
 use Rattle.std.proofs.Common.{take}
-use Rattle.olap_view.specs.Columns.{AreColumns}
-use Rattle.olap_view.specs.Seen.{ids}
+use Rattle.olap_view.specs.{Columns.AreColumns, Seen.ids}
 use Rattle.olap_view.proofs.columns.columns.Given as goal
 
 abbrev pub invariant-categories : goal.invariant-categories

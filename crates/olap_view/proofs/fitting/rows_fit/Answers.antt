@@ -1,14 +1,9 @@
 -- One row more, which is within the bounds.
-use Rattle.std.proofs.Common.{◌≡◌, List, get_or, take, false, true, sym, subst, ◌∙◌, pos, refl}
-use Rattle.std.specs.Prelude.{All}
-use Rattle.std.proofs.lemmas.List.{take_all}
-use Rattle.std.proofs.lemmas.List.Elements.{All-push}
-use Rattle.olap_view.specs.Seen.{row_of, rows_of}
-use Rattle.olap_view.specs.Stores.{IsStored}
+use Rattle.std.proofs.{Common.{arith, get_or, take, false, true, sym, subst, ◌∙◌, pos}, lemmas.Bool.false≢true}
+use Rattle.std.{proofs.lemmas.List.take_all, proofs.lemmas.List.Elements.All-push, specs.Prelude.All}
+use Rattle.olap_view.{proofs.SeenLemmas.{each_row, rows_more_is}, specs.Seen.{row_of, rows_of}, specs.Stores.IsStored}
 use Rattle.olap_view.specs.declared.views.Row as told
-use Rattle.olap_view.proofs.SeenLemmas.{each_row, rows_more_is}
 use Rattle.olap_view.proofs.fitting.rows_fit.Goals as goal
-use Rattle.std.proofs.lemmas.Bool.{false≢true}
 
 nothing : told.Row
 nothing = record { member = record { 0 = 0 }; count = 0; sum = pos 0; least = pos 0; greatest = pos 0 }
@@ -34,7 +29,4 @@ rows-preserved c =
     open c use {args.rows.now as rows, rows.row-index as k}
 
 pub returns : goal.returns
-returns c =
-    let rows = c.args.rows.now in
-    let all : take c.rows.row-index rows ≡ rows = take_all c.rows.row-index rows c.rows-test.false in
-    (λ e. subst (λ (l : List told.Row). All IsStored (rows_of l)) all c.rows.invariant, λ a. refl)
+returns c = grind (arith, take_all)

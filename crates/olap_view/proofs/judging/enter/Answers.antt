@@ -1,8 +1,6 @@
 -- One record more.
-use Rattle.std.proofs.Common.{Ok, Err}
-use Rattle.std.specs.Prelude.{OnOk, Result}
-use Rattle.olap_view.specs.Seen.{summary_of}
-use Rattle.olap_view.proofs.StoreReadingLemmas.{tells-row, tells-view}
+use Rattle.std.{proofs.Common.{Ok, Err}, specs.Prelude.{OnOk, Result}}
+use Rattle.olap_view.{proofs.StoreReadingLemmas.{tells-row, tells-view}, specs.Seen.summary_of}
 use Rattle.olap_view.proofs.judging.enter.Goals as goal
 
 on_ok : {A E P Q : Type 0} (r : Result A E) → OnOk r P → (P → Q) → OnOk r Q

@@ -1,7 +1,5 @@
 -- All fields after the category are empty where those that are left are.
-use Rattle.std.proofs.Common.{◌≡◌, drop, length}
-use Rattle.std.specs.Prelude.{◌==◌}
-use Rattle.std.specs.List.{list_all}
+use Rattle.std.{proofs.Common.{◌≡◌, drop, length}, specs.List.list_all, specs.Prelude.◌==◌}
 use Rattle.olap_view.specs.StoreText.{is_beginning}
 use Rattle.olap_view.proofs.judging.is_beginning.Given as goal
 

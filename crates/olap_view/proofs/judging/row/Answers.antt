@@ -1,15 +1,11 @@
 -- A row's checks.
-use Rattle.std.proofs.Common.{◌≡◌, ◌∙◌, Bool, Option, false, true, is_some, ap, sym, arith}
+use Rattle.std.proofs.{Common.{◌≡◌, ◌∙◌, Bool, Option, false, true, is_some, ap, sym, arith}, lemmas.Grind.common_steps}
 use Rattle.std.specs.Option.{option_map}
-use Rattle.olap_base.specs.Instance.{category_of}
-use Rattle.olap_base.specs.Summaries.{Summary}
-use Rattle.olap_view.specs.Seen.{summary_of}
-use Rattle.olap_view.specs.StoredRows.{stored_at}
-use Rattle.olap_view.proofs.JudgingLemmas.{no-view, row-is, row-twice, some-seen}
+use Rattle.olap_base.{proofs.GeneralLemmas.none_from_is_some, specs.Instance.category_of, specs.Summaries.Summary}
+use Rattle.olap_view.proofs.{JudgingLemmas.{no-view, row-is, row-twice, some-seen}, ViewingLemmas.passes}
+use Rattle.olap_view.specs.{Seen.summary_of, StoredRows.stored_at}
 use Rattle.olap_view.specs.declared.summaries.Summary as told
 use Rattle.olap_view.proofs.judging.row.Goals as goal
-use Rattle.olap_view.proofs.ViewingLemmas.{passes}
-use Rattle.olap_base.proofs.GeneralLemmas.{none_from_is_some}
 
 -- whether a row of the member is there, as the table tells it
 there : (found : Option told.Summary) (stored : Option Summary) (b d : Bool) → option_map summary_of found ≡ stored
@@ -23,25 +19,10 @@ returns-then-not-is_among-clause-judged c = λ g earlier t named n.
     c.if-not-is_among.true
 
 pub returns-then-is_some-clause-judged : goal.returns-then-is_some-clause-judged
-returns-then-is_some-clause-judged c = λ g earlier t named n.
-    row-twice g c.args.instance.now earlier c.args.rows.now.row c.args.table.now t c.args.c.0 named c.is_among.result
-    (rw c.deref.ensures.value at c.is_among.ensures)
-    c.if-not-is_among.false c.in-Some.member.0
-    (rw c.field.ensures at c.in-Some.ensures.place) c.in-Some.ensures.inside
-    (passes c.category.result.0 (category_of c.args.instance.now c.in-Some.member.0) c.args.c.0 c.category.ensures
-    c.if-category-c.false) (summary_of c.in-Some-summary.summary)
-    c.in-Some-summary.ensures.read (there c.at.result (stored_at c.args.table.now c.in-Some.member.0) c.is_some.result
-    true c.at.ensures c.is_some.ensures c.if-is_some.true)
+returns-then-is_some-clause-judged c = grind (arith, common_steps, row-twice, passes, there)
 
 pub returns-clause-new : goal.returns-clause-new
-returns-clause-new c =
-    let e = c.requires.members in
-    let h = c.in-Some.ensures.inside in (
-      omega arith,
-      none_from_is_some (stored_at c.args.table.now c.in-Some.member.0)
-          (there c.at.result (stored_at c.args.table.now c.in-Some.member.0) c.is_some.result false c.at.ensures
-          c.is_some.ensures c.if-is_some.false),
-    )
+returns-clause-new c = grind (arith, none_from_is_some, there)
 
 pub returns-clause-judged : goal.returns-clause-judged
 returns-clause-judged c = λ g earlier t named n.

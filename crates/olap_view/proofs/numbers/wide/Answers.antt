@@ -1,8 +1,7 @@
 -- What std's parse gives is the number of 128 bits that the field spells.
 use Rattle.std.proofs.Common.{◌∙◌}
 use Rattle.olap_numerals.proofs.Spelling.{signed-of-text, signed-parses}
-use Rattle.olap_view.specs.NumbersInside.{is_wide}
-use Rattle.olap_view.proofs.StoredNumbersLemmas.{wide-decides}
+use Rattle.olap_view.{proofs.StoredNumbersLemmas.wide-decides, specs.NumbersInside.is_wide}
 use Rattle.olap_view.proofs.numbers.wide.Goals as goal
 use mir.Syntax.{w128}
 

@@ -1,8 +1,6 @@
 -- One row more.
-use Rattle.std.proofs.Common.{◌∙◌, map}
-use Rattle.std.specs.Option.{option_map}
-use Rattle.olap_view.specs.ViewText.{behind, fields_in}
-use Rattle.olap_view.proofs.PrintingLemmas.{row_more}
+use Rattle.std.{proofs.Common.{◌∙◌, map}, specs.Option.option_map}
+use Rattle.olap_view.{proofs.PrintingLemmas.row_more, specs.ViewText.{behind, fields_in}}
 use Rattle.olap_view.proofs.printing.print_rows.Goals as goal
 
 pub rows-preserved : goal.rows-preserved

@@ -1,9 +1,7 @@
 -- What was there, and the text of the first record and of the rows so far.
-use Rattle.std.proofs.Common.{◌≡◌, ◌∷◌, ◌++◌, map, take}
-use Rattle.std.specs.Option.{option_map}
+use Rattle.std.{proofs.Common.{◌≡◌, ◌∷◌, ◌++◌, map, take}, specs.Option.option_map}
 use Rattle.olap_records.specs.Texts.{text_of_rows}
-use Rattle.olap_view.specs.Seen.{rows_of}
-use Rattle.olap_view.specs.ViewText.{behind, fields_in}
+use Rattle.olap_view.specs.{Seen.rows_of, ViewText.{behind, fields_in}}
 use Rattle.olap_view.proofs.printing.print_rows.Given as goal
 
 abbrev pub invariant-rows : goal.invariant-rows

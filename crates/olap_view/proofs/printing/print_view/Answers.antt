@@ -1,9 +1,7 @@
 -- The printed text reads back.
 use Rattle.std.proofs.Common.{◌∙◌, ◌++◌, ℕ, List, ap}
 use Rattle.olap_records.specs.Records.{records_of}
-use Rattle.olap_view.specs.Seen.{view_of}
-use Rattle.olap_view.specs.ViewText.{view_text}
-use Rattle.olap_view.proofs.PrintingLemmas.{view-reads}
+use Rattle.olap_view.{proofs.PrintingLemmas.view-reads, specs.Seen.view_of, specs.ViewText.view_text}
 use Rattle.olap_view.proofs.printing.print_view.Goals as goal
 
 pub returns-clause-reads : goal.returns-clause-reads

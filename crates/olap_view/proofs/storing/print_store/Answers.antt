@@ -1,12 +1,8 @@
 -- The printed text reads back, and stands for the store.
-use Rattle.std.proofs.Common.{◌≡◌, ◌∙◌, Ok, Err, ap, subst, sym}
-use Rattle.std.specs.Prelude.{IfOk, OnOk, Result}
+use Rattle.std.{proofs.Common.{arith, ◌≡◌, ◌∙◌, Ok, Err, ap, subst, sym}, specs.Prelude.{IfOk, OnOk, Result}}
 use Rattle.std.specs.Result.{result_and}
 use Rattle.olap_records.specs.Records.{records_of}
-use Rattle.olap_view.specs.Seen.{views_of}
-use Rattle.olap_view.specs.StoreText.{store_read, store_text}
-use Rattle.olap_view.proofs.PrintedStoreLemmas.{printed-stores}
-use Rattle.olap_view.proofs.StoreTextLemmas.{store-reads}
+use Rattle.olap_view.{proofs.PrintedStoreLemmas.printed-stores, proofs.StoreTextLemmas.store-reads, specs.Seen.views_of}
 use Rattle.olap_view.proofs.storing.print_store.Goals as goal
 
 value_or : {B E : Type 0} → B → Result B E → B
@@ -22,22 +18,11 @@ both (Ok a) (Err d) v P Q p q e = absurd (cc)
 both (Err d) text v P Q p q e = absurd (cc)
 
 pub returns-clause-text : goal.returns-clause-text
-returns-clause-text c =
-    let printed = c.print_views-printed in
-    let text = store_text c.args.graph.now c.args.instance.now (views_of c.args.store.now) in
-    let known = both printed.result c.finish.result c.in_ok-text.text (printed.new.out.text ≡ text)
-    (λ v. v.items ≡ printed.new.out.text) printed.ensures c.finish.ensures.text c.in_ok-text.ensures in
-    c.from_vec.ensures ∙ known.1 ∙ known.0
+returns-clause-text c = grind (arith, both)
 
 pub returns-clause-reads : goal.returns-clause-reads
 returns-clause-reads c =
     ap records_of (returns-clause-text c) ∙ store-reads c.args.graph.now c.args.instance.now (views_of c.args.store.now)
 
 pub returns-clause-reads_back : goal.returns-clause-reads_back
-returns-clause-reads_back c =
-    let views = views_of c.args.store.now in
-    λ sound order. ap (store_read g i) (returns-clause-reads c)
-    ∙ printed-stores g i views c.categories.ensures.hierarchy c.members.ensures.sound sound.store sound.fit
-    sound.categories order
-  where
-    open c use {args.graph.now as g, args.instance.now as i}
+returns-clause-reads_back c = grind (arith, returns-clause-reads, printed-stores)

@@ -1,11 +1,8 @@
 -- One view more.
-use Rattle.std.proofs.Common.{ℕ, ◌≡◌, ◌<◌, ◌∙◌, List, get_or, length, subst, ap}
+use Rattle.std.{proofs.Common.{ℕ, ◌≡◌, ◌<◌, ◌∙◌, List, get_or, length, subst, ap}, specs.Prelude.All}
 use Rattle.olap_base.specs.Graph.{IsCategory}
-use Rattle.std.specs.Prelude.{All}
-use Rattle.olap_view.specs.Seen.{rows_of}
-use Rattle.olap_view.specs.StoreText.{header, records_behind, records_of_one}
-use Rattle.olap_view.proofs.StoreTextLemmas.{stored-view, told-members}
-use Rattle.olap_view.proofs.SeenLemmas.{each_view}
+use Rattle.olap_view.proofs.{SeenLemmas.each_view, StoreTextLemmas.{stored-view, told-members}}
+use Rattle.olap_view.specs.{Seen.rows_of, StoreText.{header, records_behind, records_of_one}}
 use Rattle.olap_view.specs.declared.views.View as told
 use Rattle.olap_view.proofs.storing.print_views.Goals as goal
 

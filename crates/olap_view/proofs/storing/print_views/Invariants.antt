@@ -1,8 +1,7 @@
 -- The text of the views so far.
 use Rattle.std.proofs.Common.{◌≡◌, ◌∷◌, take, flat_map}
 use Rattle.olap_records.specs.Texts.{text_of_rows}
-use Rattle.olap_view.specs.Seen.{each_view_of}
-use Rattle.olap_view.specs.StoreText.{header, records_of_one}
+use Rattle.olap_view.specs.{Seen.each_view_of, StoreText.{header, records_of_one}}
 use Rattle.olap_view.proofs.storing.print_views.Given as goal
 
 abbrev pub invariant-views : goal.invariant-views

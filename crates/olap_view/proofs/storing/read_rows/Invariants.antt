@@ -1,8 +1,7 @@
 -- The records seen so far have no fault, and the table tells them.
 use Rattle.std.proofs.Common.{◌≡◌, ◌+◌, List, length}
 use Rattle.olap_records.proofs.Seeing.{HasSeen}
-use Rattle.olap_view.specs.StoreReading.{Record, Tells}
-use Rattle.olap_view.specs.StoreText.{store_fault}
+use Rattle.olap_view.specs.{StoreReading.{Record, Tells}, StoreText.store_fault}
 use Rattle.olap_view.proofs.storing.read_rows.Given as goal
 
 abbrev pub invariant-rows : goal.invariant-rows

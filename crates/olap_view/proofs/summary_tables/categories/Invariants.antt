@@ -1,7 +1,6 @@
 -- The categories of the views so far.
 use Rattle.std.proofs.Common.{◌≡◌, take}
-use Rattle.olap_view.specs.Seen.{each_view_of, ids}
-use Rattle.olap_view.specs.SummaryTables.{categories_in}
+use Rattle.olap_view.specs.{Seen.{each_view_of, ids}, SummaryTables.categories_in}
 use Rattle.olap_view.proofs.summary_tables.categories.Given as goal
 
 abbrev pub invariant-views : goal.invariant-views

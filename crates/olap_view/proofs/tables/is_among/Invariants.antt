@@ -1,6 +1,5 @@
 -- None of the categories so far is this one.
-use Rattle.std.proofs.Common.{take}
-use Rattle.std.specs.Prelude.{Contains}
+use Rattle.std.{proofs.Common.take, specs.Prelude.Contains}
 use Rattle.olap_view.specs.Seen.{ids}
 use Rattle.olap_view.proofs.tables.is_among.Given as goal
 

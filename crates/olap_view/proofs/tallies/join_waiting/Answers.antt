@@ -1,9 +1,8 @@
 -- One member more, at which a summary waits or nothing.
 use Rattle.std.proofs.Common.{◌+◌, sym, subst}
-use Rattle.olap_view.specs.SummaryTables.{Summarized}
 use Rattle.olap_view.proofs.JoinedWaitingLemmas.{HasJoined, joined_none, joined_some}
+use Rattle.olap_view.{proofs.tallies.join_waiting.Goals.{in-Some, in_default}, specs.SummaryTables.Summarized}
 use Rattle.olap_view.proofs.tallies.join_waiting.Goals as goal
-use Rattle.olap_view.proofs.tallies.join_waiting.Goals.{in-Some, in_default}
 
 pub members-preserved : goal.members-preserved
 members-preserved c =

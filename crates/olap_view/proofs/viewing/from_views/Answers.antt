@@ -1,25 +1,17 @@
 -- One view more, whose bit is in the mask or isn't.
-use Rattle.std.proofs.Common.{◌≡◌, ◌≢◌, ◌<◌, ◌≤◌, ◌+◌, ◌*◌, ◌++◌, [], ℕ, List, length, get_or, map, take, ap, sym, subst, ◌∙◌, refl, arith, length-append}
-use Rattle.std.specs.Prelude.{All, AllPairs, Contains, IfOk}
-use Rattle.std.proofs.lemmas.List.{length-map, take_all}
-use Rattle.std.proofs.lemmas.List.Elements.{All-append, All-nil}
-use Rattle.olap_base.specs.Instance.{Instance}
-use Rattle.olap_base.specs.Limits.{most_members}
-use Rattle.olap_base.specs.Views.{Row, members, row_at, rows_from_views}
-use Rattle.olap_base.proofs.ListLemmas.{contains_head}
-use Rattle.olap_view.specs.Merging.{AreMerged, total_of_rows}
-use Rattle.olap_view.specs.Seen.{each_view_of, row_of, rows_of, view_of, views_of}
-use Rattle.olap_view.specs.Stores.{Fits, IsStored, chosen}
-use Rattle.olap_view.specs.SummaryTables.{stands_at, view_at}
+use Rattle.std.proofs.Common.{rules, ◌≡◌, ◌≢◌, ◌<◌, ◌≤◌, ◌+◌, ◌*◌, ◌++◌, [], ℕ, List, length, get_or, map, take, ap, sym, subst, ◌∙◌, refl, arith, length-append}
+use Rattle.std.proofs.lemmas.List.{length-map, take_all, Elements.{All-append, All-nil}}
+use Rattle.std.specs.Prelude.{All, AllPairs, Contains}
+use Rattle.olap_base.{proofs.GeneralLemmas.if_ok, proofs.ListLemmas.contains_head, specs.Instance.Instance}
+use Rattle.olap_base.specs.{Limits.most_members, Views.{Row, members, row_at, rows_from_views}}
+use Rattle.olap_view.proofs.{MergingLemmas.merged_start, SeenLemmas.{each_row, each_view}}
+use Rattle.olap_view.proofs.StoresLemmas.{few_rows, rows_chosen, rows_chosen_more, rows_chosen_same}
+use Rattle.olap_view.proofs.{ViewingLemmas.rows_same, viewing.from_views.Goals.{then-has_bit, else-has_bit}}
+use Rattle.olap_view.specs.{Merging.{AreMerged, total_of_rows}, Seen.{each_view_of, row_of, rows_of, view_of, views_of}}
+use Rattle.olap_view.specs.{Stores.{Fits, IsStored, chosen}, SummaryTables.{stands_at, view_at}}
 use Rattle.olap_view.specs.declared.views.Row as row
 use Rattle.olap_view.specs.declared.views.View as told
-use Rattle.olap_view.proofs.SeenLemmas.{each_row, each_view}
-use Rattle.olap_view.proofs.MergingLemmas.{merged_start}
-use Rattle.olap_view.proofs.StoresLemmas.{few_rows, rows_chosen, rows_chosen_more, rows_chosen_same}
-use Rattle.olap_view.proofs.ViewingLemmas.{rows_same}
 use Rattle.olap_view.proofs.viewing.from_views.Goals as goal
-use Rattle.olap_view.proofs.viewing.from_views.Goals.{then-has_bit, else-has_bit}
-use Rattle.olap_base.proofs.GeneralLemmas.{if_ok}
 
 module _ (views read : List told.View) (k : ℕ) (v : told.View) (same : read ≡ views) where
   inside : k < length read → k < length views
@@ -45,25 +37,10 @@ short i views k v rows h e differ inside few q =
     omega arith
 
 pub views-init : goal.views-init
-views-init c = record {
-  instance = c.in_ok-table.ensures.instance;
-  categories = c.in_ok-table.ensures.categories;
-  merged = merged_start c.in_ok-table.table c.in_ok-table.ensures.empty;
-  few = omega arith;
-  stored = All-nil IsStored;
-}
+views-init c = grind (arith, merged_start, All-nil)
 
 pub join_rows-requires-clause-few : goal.join_rows-requires-clause-few
-join_rows-requires-clause-few c =
-    record {
-      rows = rows_chosen (each_view_of (take c.views.k views)) c.args.mask;
-      few = let n = length-map views view_of in let f = c.requires.store.few in let t = c.views-test.true in
-          let s = ap length c.items-view-items.ensures in let q = inv.few in omega arith;
-      stored = inv.stored;
-      merged = inv.merged;
-    }
-  where
-    open c use {args.store.now.views, views.invariant as inv}
+join_rows-requires-clause-few c = grind (arith, rows_chosen, length-map)
 
 pub join_rows-requires-clause-at_members : goal.join_rows-requires-clause-at_members
 join_rows-requires-clause-at_members c = λ k d h.
@@ -87,13 +64,7 @@ join_rows-requires-clause-stored c =
     open c use {args.store.now.views, view-item.result as v, items-view-items.ensures as same}
 
 pub join_rows-requires-clause-short : goal.join_rows-requires-clause-short
-join_rows-requires-clause-short c =
-    short c.args.legal.now views c.views.k v c.items.result.now
-    (inside views c.items-view-items.result.now c.views.k v same c.views-test.true)
-    (here views c.items-view-items.result.now c.views.k v same c.view-item.is) c.requires.store.members
-    c.requires.at_members (rw c.in_ok-table.ensures.instance at c.in_ok-table.ensures.few) c.items.ensures
-  where
-    open c use {args.store.now.views, view-item.result as v, items-view-items.ensures as same}
+join_rows-requires-clause-short c = grind (arith, short)
 
 pub views-preserved : goal.views-preserved
 views-preserved c =
@@ -147,15 +118,10 @@ views-preserved c =
     }
 
 pub view-requires : goal.view-requires
-view-requires c = record {
-  among = subst (λ (l : List ℕ). Contains l c.args.c.0) (sym c.views.invariant.categories)
-      (contains_head c.args.c.0 []);
-}
+view-requires c = grind (arith, contains_head)
 
 pub returns-clause-members : goal.returns-clause-members
-returns-clause-members c =
-    subst (λ (i : Instance). IfOk c.view.result (λ v. All (λ r. r.member.0 < length i) v.rows))
-    c.views.invariant.instance c.view.ensures.members
+returns-clause-members c = search rules
 
 pub returns-clause-view : goal.returns-clause-view
 returns-clause-view c =

@@ -1,11 +1,8 @@
 -- The rows of the chosen views so far are joined.
-use Rattle.std.proofs.Common.{◌≡◌, ◌≤◌, ◌*◌, ◌∷◌, [], length, take}
-use Rattle.std.specs.Prelude.{All}
+use Rattle.std.{proofs.Common.{◌≡◌, ◌≤◌, ◌*◌, ◌∷◌, [], length, take}, specs.Prelude.All}
 use Rattle.olap_base.specs.Limits.{most_members}
-use Rattle.olap_view.specs.Merging.{AreMerged}
-use Rattle.olap_view.specs.Seen.{each_view_of}
+use Rattle.olap_view.{proofs.StoresLemmas.rows_chosen, specs.Merging.AreMerged, specs.Seen.each_view_of}
 use Rattle.olap_view.specs.Stores.{IsStored}
-use Rattle.olap_view.proofs.StoresLemmas.{rows_chosen}
 use Rattle.olap_view.proofs.viewing.from_views.Given as goal
 
 abbrev pub invariant-views : goal.invariant-views

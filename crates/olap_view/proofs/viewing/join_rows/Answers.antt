@@ -1,21 +1,12 @@
 -- One row more.
-use Rattle.std.proofs.Common.{◌≤◌, ◌<◌, ◌*◌, ◌++◌, ◌∷◌, [], List, length, get_or, take, ap, sym, subst, ◌∙◌, arith, pos, append_assoc, length-append}
-use Rattle.std.specs.Prelude.{ℕ, All}
-use Rattle.std.proofs.lemmas.List.Elements.{All-append, All-take}
-use Rattle.olap_base.specs.Instance.{Instance}
-use Rattle.olap_base.specs.Limits.{most_members, most_views}
-use Rattle.olap_base.specs.Reaching.{reaches}
-use Rattle.olap_base.specs.Summaries.{◌⊕◌}
-use Rattle.olap_base.specs.Views.{Row}
-use Rattle.olap_view.specs.Bounds.{IsJoinable}
-use Rattle.olap_view.specs.Merging.{AreMerged}
-use Rattle.olap_view.specs.Seen.{row_of, rows_of}
-use Rattle.olap_view.specs.Stores.{IsStored}
-use Rattle.olap_view.specs.SummaryTables.{stands_at}
+use Rattle.std.proofs.Common.{◌≤◌, ◌*◌, ◌++◌, ◌∷◌, [], List, length, get_or, take, ap, sym, subst, ◌∙◌, arith, pos, append_assoc, length-append}
+use Rattle.std.{proofs.lemmas.List.Elements.{All-append, All-take}, specs.Prelude.{ℕ, All}}
+use Rattle.olap_base.specs.{Limits.{most_members, most_views}, Reaching.reaches, Summaries.◌⊕◌, Views.Row}
+use Rattle.olap_view.proofs.MergingLemmas.{holds_room, merged_more, stored_small}
+use Rattle.olap_view.{proofs.SeenLemmas.{each_row, rows_more_is, rows_of_taken, rows_taken}, specs.Bounds.IsJoinable}
+use Rattle.olap_view.specs.{Merging.AreMerged, Seen.{row_of, rows_of}, Stores.IsStored, SummaryTables.stands_at}
 use Rattle.olap_view.specs.Tables.{when}
 use Rattle.olap_view.specs.declared.views.Row as told
-use Rattle.olap_view.proofs.MergingLemmas.{holds_room, merged_more, stored_small}
-use Rattle.olap_view.proofs.SeenLemmas.{each_row, rows_more_is, rows_of_taken, rows_taken}
 use Rattle.olap_view.proofs.viewing.join_rows.Goals as goal
 
 nothing : told.Row
@@ -23,11 +14,7 @@ nothing = record { member = record { 0 = 0 }; count = 0; sum = pos 0; least = po
 
 pub join-requires-clause-member : goal.join-requires-clause-member
 unfolding nothing
-join-requires-clause-member c =
-    subst (λ (i : Instance). (get_or rows k nothing).member.0 < length i) (sym c.rows.invariant.instance)
-    (c.requires.at_members k nothing c.rows-test.true)
-  where
-    open c use {args.rows.now as rows, rows.row-index as k}
+join-requires-clause-member c = grind (arith, nothing)
 
 pub join-requires-clause-this : goal.join-requires-clause-this
 unfolding nothing

@@ -1,8 +1,7 @@
 -- The rows so far are joined.
 use Rattle.std.proofs.Common.{◌≡◌, ℕ, ◌++◌, List, take}
 use Rattle.olap_base.specs.Views.{Row}
-use Rattle.olap_view.specs.Merging.{AreMerged}
-use Rattle.olap_view.specs.Seen.{rows_of}
+use Rattle.olap_view.specs.{Merging.AreMerged, Seen.rows_of}
 use Rattle.olap_view.proofs.viewing.join_rows.Given as goal
 
 abbrev pub invariant-rows : goal.invariant-rows

@@ -1,7 +1,6 @@
 -- The first word that isn't 0 has the least number.
 use Rattle.std.proofs.Common.{refl, rules}
-use Rattle.olap_bits.proofs.FirstLemmas.{least_of, not_empty}
-use Rattle.olap_bits.proofs.CatSetLemmas.{all_zeros}
+use Rattle.olap_bits.proofs.{CatSetLemmas.all_zeros, FirstLemmas.{least_of, not_empty}}
 use Rattle.olap_bits.proofs.sets.CatSet.first.Goals as goal
 
 pub returns-then-self-k-ne0-clause-none : goal.returns-then-self-k-ne0-clause-none

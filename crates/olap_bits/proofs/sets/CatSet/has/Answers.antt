@@ -1,6 +1,5 @@
 -- A number is in the set exactly if its bit is 1.
-use Rattle.std.proofs.Common.{rules, length, ◌∙◌, ◌≤◌, ◌/◌}
-use Rattle.std.proofs.lemmas.Bool.{le-ltb}
+use Rattle.std.proofs.{Common.{rules, length, ◌∙◌, ◌≤◌, ◌/◌}, lemmas.Bool.le-ltb}
 use Rattle.olap_bits.proofs.CatSetLemmas.{has_one, has_none}
 use Rattle.olap_bits.proofs.sets.CatSet.has.Goals as goal
 

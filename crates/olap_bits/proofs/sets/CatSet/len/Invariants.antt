@@ -1,6 +1,5 @@
 -- The numbers of the words so far are counted.
-use Rattle.std.proofs.Common.{◌≡◌, ◌*◌}
-use Rattle.std.specs.FinSet.{len}
+use Rattle.std.{proofs.Common.{◌≡◌, ◌*◌}, specs.FinSet.len}
 use Rattle.olap_bits.specs.CatSet.{numbers_below}
 use Rattle.olap_bits.proofs.sets.CatSet.len.Given as goal
 

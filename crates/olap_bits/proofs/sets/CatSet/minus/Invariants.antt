@@ -1,6 +1,5 @@
 -- The words so far are joined, and the others are the set's own.
-use Rattle.std.specs.Int.{bit_not, w64}
-use Rattle.std.specs.Prelude.{bit_and}
+use Rattle.std.specs.{Int.{bit_not, w64}, Prelude.bit_and}
 use Rattle.olap_bits.proofs.JoiningLemmas.{IsJoined}
 use Rattle.olap_bits.proofs.sets.CatSet.minus.Given as goal
 

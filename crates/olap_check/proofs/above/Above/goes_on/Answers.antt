@@ -1,11 +1,8 @@
 -- Ways by the row.
-use Rattle.std.proofs.Common.{◌↔◌, subst, sym}
-use Rattle.std.specs.Prelude.{IsTrue}
-use Rattle.olap_check.specs.Seen.{GoesOn}
-use Rattle.olap_check.proofs.AboveLemmas.{via_by_row}
-use Rattle.olap_check.proofs.WayLemmas.{edge_by_row}
-use Rattle.olap_check.proofs.above.Above.goes_on.Goals as goal
+use Rattle.std.{proofs.Common.{◌↔◌, subst, sym}, specs.Prelude.IsTrue}
+use Rattle.olap_check.{proofs.AboveLemmas.via_by_row, proofs.WayLemmas.edge_by_row, specs.Seen.GoesOn}
 use Rattle.olap_base.proofs.GeneralLemmas.{iff_trans}
+use Rattle.olap_check.proofs.above.Above.goes_on.Goals as goal
 
 pub returns-in-Reaches : goal.returns-in-Reaches
 returns-in-Reaches c =

@@ -1,13 +1,10 @@
 -- What is asked, by the row.
-use Rattle.std.proofs.Common.{◌↔◌, rules, subst, sym, w64}
-use Rattle.std.proofs.lemmas.Int.{to_z-of_z}
-use mir.Val.{SFits}
-use Rattle.std.specs.Prelude.{IsTrue}
-use Rattle.olap_check.specs.Seen.{IsSo}
+use Rattle.std.{proofs.Common.{◌↔◌, rules, subst, sym, w64}, proofs.lemmas.Int.to_z-of_z, specs.Prelude.IsTrue}
+use Rattle.olap_check.{proofs.AboveLemmas.{named_by_row, numbered_by_row}, specs.Seen.IsSo}
 use Rattle.olap_ast.specs.Trees.{op_of}
-use Rattle.olap_check.proofs.AboveLemmas.{named_by_row, numbered_by_row}
-use Rattle.olap_check.proofs.above.Above.is_so.Goals as goal
 use Rattle.olap_base.proofs.GeneralLemmas.{iff_trans}
+use mir.Val.{SFits}
+use Rattle.olap_check.proofs.above.Above.is_so.Goals as goal
 
 pub returns-in-GoesOn : goal.returns-in-GoesOn
 returns-in-GoesOn c =

@@ -1,10 +1,8 @@
 -- The parts so far are counted. The measure is the size of the formula, and of the list.
 use Rattle.std.proofs.Common.{◌≤◌, ◌+◌, ◌*◌}
-use Rattle.olap_ast.specs.Trees.{formula_of, terms_of}
-use Rattle.olap_ast.specs.Valid.{node_count, node_count_of_terms}
+use Rattle.olap_ast.specs.{Trees.{formula_of, terms_of}, Valid.{node_count, node_count_of_terms}}
 use Rattle.olap_bits.specs.Sets.{members}
-use Rattle.olap_check.specs.Seen.{IsSeen}
-use Rattle.olap_check.proofs.BlockLemmas.{IsCounted}
+use Rattle.olap_check.{proofs.BlockLemmas.IsCounted, specs.Seen.IsSeen}
 use Rattle.olap_check.proofs.blocks.Block.+holding.Given as goal
 
 abbrev pub decreases-holding : goal.decreases-holding

@@ -1,8 +1,7 @@
 -- At each place the path goes on from the category reached so far, or is no longer there.
 use Rattle.std.proofs.Common.{drop}
 use Rattle.olap_bits.specs.Sets.{members}
-use Rattle.olap_check.specs.Seen.{IsSeen}
-use Rattle.olap_check.proofs.WayLemmas.{IsAlong}
+use Rattle.olap_check.{proofs.WayLemmas.IsAlong, specs.Seen.IsSeen}
 use Rattle.olap_eval.proofs.ShapeLemmas.{numbers}
 use Rattle.olap_check.proofs.blocks.Block.along.Given as goal
 

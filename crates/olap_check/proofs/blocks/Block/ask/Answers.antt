@@ -1,7 +1,6 @@
 -- What was asked now is kept.
 use Rattle.olap_bits.specs.Sets.{members}
-use Rattle.olap_check.specs.Seen.{IsSo}
-use Rattle.olap_check.proofs.WayLemmas.{kept_from}
+use Rattle.olap_check.{proofs.WayLemmas.kept_from, specs.Seen.IsSo}
 use Rattle.olap_check.proofs.blocks.Block.ask.Goals as goal
 
 pub returns-clause-seen : goal.returns-clause-seen

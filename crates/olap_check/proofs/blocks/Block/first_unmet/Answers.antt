@@ -1,9 +1,7 @@
 -- The first of the places that are left over.
-use Rattle.std.proofs.Common.{length, refl, subst, sym, arith, ◌∙◌}
-use Rattle.std.specs.FinSet.{difference}
+use Rattle.std.{proofs.Common.{length, refl, subst, sym, arith, ◌∙◌}, specs.FinSet.difference}
 use Rattle.olap_ast.specs.Trees.{formula_of}
-use Rattle.olap_bits.specs.CatSet.{IsLeast}
-use Rattle.olap_bits.specs.Sets.{members}
+use Rattle.olap_bits.specs.{CatSet.IsLeast, Sets.members}
 use Rattle.olap_check.proofs.BlockLemmas.{first_left, has_all, none_left, none_past}
 use Rattle.olap_check.proofs.blocks.Block.first_unmet.Goals as goal
 

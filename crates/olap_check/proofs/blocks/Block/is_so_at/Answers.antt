@@ -1,7 +1,6 @@
 -- The member of a place, with the row that the table has of it.
 use Rattle.std.proofs.Common.{get_or}
-use Rattle.olap_check.specs.Above.{IsAbove}
-use Rattle.olap_check.proofs.AboveLemmas.{above_shape}
+use Rattle.olap_check.{proofs.AboveLemmas.above_shape, specs.Above.IsAbove}
 use Rattle.olap_check.proofs.blocks.Block.is_so_at.Goals as goal
 
 pub invariant_of-above : goal.invariant_of-above

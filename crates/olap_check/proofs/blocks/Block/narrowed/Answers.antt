@@ -1,9 +1,7 @@
 -- The places that are met are remembered, or asked now.
 use Rattle.std.proofs.Common.{length}
 use Rattle.olap_bits.specs.Sets.{members}
-use Rattle.olap_check.specs.Seen.{IsSo}
-use Rattle.olap_check.proofs.BlockLemmas.{select_narrowed}
-use Rattle.olap_check.proofs.WayLemmas.{select_kept}
+use Rattle.olap_check.{proofs.BlockLemmas.select_narrowed, proofs.WayLemmas.select_kept, specs.Seen.IsSo}
 use Rattle.olap_check.proofs.blocks.Block.narrowed.Goals as goal
 
 pub returns-in-Some-clause-places : goal.returns-in-Some-clause-places

@@ -1,18 +1,16 @@
 -- One place after the other.
-use Rattle.std.proofs.Common.{ℕ, ◌+◌, get_or, length, subst, sym, arith}
+use Rattle.std.proofs.Common.{ℕ, get_or, length, arith}
 use Rattle.olap_bits.specs.Sets.{members}
-use Rattle.olap_check.specs.Blocks.{Collects}
-use Rattle.olap_check.specs.Seen.{IsSo}
 use Rattle.olap_check.proofs.BlockLemmas.{collect_start, collect_more, collect_skip, select_collected}
-use Rattle.olap_check.proofs.blocks.Block.places_of.Goals as goal
-use Rattle.olap_check.proofs.blocks.Block.places_of.Goals.{then-is_so_at, else-is_so_at}
+use Rattle.olap_check.{proofs.blocks.Block.places_of.Goals.{then-is_so_at, else-is_so_at}, specs.Seen.IsSo}
 use Rattle.olap_base.proofs.GeneralLemmas.{refuted}
+use Rattle.olap_check.proofs.blocks.Block.places_of.Goals as goal
 
 pub places-init : goal.places-init
 places-init c =
     let b = c.args.self.now in
     let P : ℕ → Type 0 = λ k. IsSo b.instance.now c.args.asked (get_or b.part.now k 0) in
-    subst (λ s. Collects 0 P s) (sym c.empty-truths.ensures) (collect_start P)
+    rw c.empty-truths.ensures (collect_start P)
 
 pub places-preserved : goal.places-preserved
 places-preserved c =
@@ -22,12 +20,10 @@ places-preserved c =
     let old = members c.places.truths in
     elim c.if-is_so_at.branch [
       | then-is_so_at w ↦
-          subst (λ s. Collects (k + 1) P (members s)) (sym w.truths-is)
-          (subst (λ s. Collects (k + 1) P s) (sym w.with-truths.ensures)
-          (collect_more P k old c.places.invariant (c.is_so_at.ensures.0 w.if-is_so_at.true)))
+          rw (w.truths-is, w.with-truths.ensures)
+          (collect_more P k old c.places.invariant (c.is_so_at.ensures.0 w.if-is_so_at.true))
       | else-is_so_at w ↦
-          subst (λ s. Collects (k + 1) P (members s)) (sym w.truths-is)
-          (collect_skip P k old c.places.invariant
+          rw w.truths-is (collect_skip P k old c.places.invariant
           (refuted c.is_so_at.result w.if-is_so_at.false c.is_so_at.ensures))
     ]
 

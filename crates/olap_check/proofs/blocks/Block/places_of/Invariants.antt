@@ -1,8 +1,7 @@
 -- The places so far at which what is asked is so.
 use Rattle.std.proofs.Common.{get_or}
 use Rattle.olap_bits.specs.Sets.{members}
-use Rattle.olap_check.specs.Blocks.{Collects}
-use Rattle.olap_check.specs.Seen.{IsSo}
+use Rattle.olap_check.specs.{Blocks.Collects, Seen.IsSo}
 use Rattle.olap_check.proofs.blocks.Block.places_of.Given as goal
 
 abbrev pub invariant-places : goal.invariant-places

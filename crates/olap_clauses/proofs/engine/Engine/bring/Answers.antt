@@ -1,7 +1,4 @@
 -- Clauses change places, and what stands doesn't.
-use Rattle.std.proofs.Common.{ap}
-use Rattle.olap_clauses.specs.declared.trails.Trail.{Trail}
-use Rattle.olap_clauses.specs.Trails.{steps_of, values_of}
 use Rattle.olap_clauses.proofs.AdmitsLemmas.{admits_by_others}
 use Rattle.olap_clauses.proofs.engine.Engine.bring.Goals as goal
 

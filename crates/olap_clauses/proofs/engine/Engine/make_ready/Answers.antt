@@ -1,20 +1,8 @@
 -- Nobody is lost on the way.
-use Rattle.std.proofs.Common.{◌∙◌}
 use Rattle.olap_clauses.proofs.engine.Engine.make_ready.Goals as goal
 
-pub returns : goal.returns
-returns c =
-    record {
-      trail = w.trail ∙ s.trail ∙ m.trail ∙ b.trail ∙ f.trail;
-      variables = w.variables ∙ s.variables ∙ m.variables ∙ b.variables ∙ f.variables;
-      admits = λ v a. let n = b.admits v (f.admits v a) in
-          (w.admits v (s.admits v (m.admits v n.0)), n.1, n.2);
-    }
+pub returns-clause-admits : goal.returns-clause-admits
+returns-clause-admits c = λ v a. let n = b.admits v (f.admits v a) in
+    (w.admits v (s.admits v (m.admits v n.0)), n.1, n.2)
   where
-    open c use {
-      fill.ensures as f,
-      bring.ensures as b,
-      make_room.ensures as m,
-      simplify.ensures as s,
-      show.ensures as w,
-    }
+    open c use {fill.ensures as f, bring.ensures as b, make_room.ensures as m, simplify.ensures as s, show.ensures as w}

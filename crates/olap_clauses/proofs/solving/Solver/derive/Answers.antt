@@ -1,7 +1,6 @@
 -- What parities come to is true where the clauses are.
 use Rattle.std.proofs.Common.{sym, subst}
-use Rattle.olap_pool.specs.declared.pools.Pool.{Pool}
-use Rattle.olap_pool.specs.Pools.{AreTrue}
+use Rattle.olap_pool.specs.{Pools.AreTrue, declared.pools.Pool.Pool}
 use Rattle.olap_clauses.proofs.solving.Solver.derive.Goals as goal
 
 pub returns-clause-admits : goal.returns-clause-admits

@@ -18,6 +18,3 @@ returns-else-is_none-clause-follows c = λ v a h.
 pub returns-then-is_none-clause-grown : goal.returns-then-is_none-clause-grown
 returns-then-is_none-clause-grown c =
     (extends_again c.force_each_short.ensures.extends c.propagate-broken.ensures.extends).steps
-
-pub returns-else-is_none-clause-grown : goal.returns-else-is_none-clause-grown
-returns-else-is_none-clause-grown c = c.force_each_short.ensures.extends.steps

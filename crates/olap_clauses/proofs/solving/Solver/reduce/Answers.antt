@@ -1,7 +1,6 @@
 -- The copies are true where all clauses are.
 use Rattle.std.proofs.Common.{sym, subst}
-use Rattle.olap_pool.specs.declared.pools.Pool.{Pool}
-use Rattle.olap_pool.specs.Pools.{AreTrue}
+use Rattle.olap_pool.specs.{Pools.AreTrue, declared.pools.Pool.Pool}
 use Rattle.olap_clauses.proofs.solving.Solver.reduce.Goals as goal
 
 pub returns-clause-admits : goal.returns-clause-admits

@@ -1,7 +1,6 @@
 -- The copies are true where all clauses and what stands are.
 use Rattle.std.proofs.Common.{sym, subst}
-use Rattle.olap_pool.specs.declared.pools.Pool.{Pool}
-use Rattle.olap_pool.specs.Pools.{AreTrue}
+use Rattle.olap_pool.specs.{Pools.AreTrue, declared.pools.Pool.Pool}
 use Rattle.olap_clauses.proofs.solving.Solver.rewrite.Goals as goal
 
 pub returns-clause-clauses : goal.returns-clause-clauses

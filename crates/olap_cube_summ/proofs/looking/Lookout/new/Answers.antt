@@ -1,7 +1,6 @@
 -- That the target is reached compares nothing.
 use Rattle.std.proofs.Common.{refl}
-use Rattle.olap_ast.specs.Formula.{Formula.Reach}
-use Rattle.olap_ast.proofs.SourceLemmas.{no_more_constants}
+use Rattle.olap_ast.{proofs.SourceLemmas.no_more_constants, specs.Formula.Formula.Reach}
 use Rattle.olap_schema.specs.Schemas.{schema_of}
 use Rattle.olap_cube_summ.proofs.looking.Lookout.new.Goals as goal
 

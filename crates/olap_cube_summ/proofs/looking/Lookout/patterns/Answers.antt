@@ -1,12 +1,7 @@
 -- One source after the other.
-use Rattle.std.proofs.Common.{◌<◌, length, List, sym, subst}
-use Rattle.olap_base.specs.declared.ids.CatId.{CatId}
 use Rattle.olap_dimsat.specs.Searches.{root_of}
-use Rattle.olap_cube_summ.proofs.MaskLemmas.{in_empty}
+use Rattle.olap_cube_summ.proofs.{LookingLemmas.{by_its_root, root_bottom}, MaskLemmas.in_empty}
 use Rattle.olap_schema.specs.Schemas.{schema_of}
-use Rattle.olap_cube_summ.specs.Looking.{IsLookout}
-use Rattle.olap_cube_summ.specs.Patterns.{AreFound}
-use Rattle.olap_cube_summ.proofs.LookingLemmas.{by_its_root, root_bottom}
 use Rattle.olap_cube_summ.proofs.looking.Lookout.patterns.Goals as goal
 
 pub joined-requires-clause-found : goal.joined-requires-clause-found
@@ -29,15 +24,10 @@ widened-requires-clause-lookout c =
     c.sources.invariant.lookout
 
 pub widened-requires-clause-found : goal.widened-requires-clause-found
-widened-requires-clause-found c =
-    subst (λ b. AreFound (schema_of c.args.schema.now) c.args.question.now b c.sources.patterns)
-    (sym c.sources.invariant.lookout.root) c.sources.invariant.found
+widened-requires-clause-found c = rw c.sources.invariant.lookout.root c.sources.invariant.found
 
 pub sources-preserved : goal.sources-preserved
-sources-preserved c =
-    let s = schema_of c.args.schema.now in record {
-      found = subst (λ b. AreFound s q b c.in_ok-patterns-2.patterns) root e.found;
-      lookout = subst (λ b. IsLookout s q b c.widened.new.self) root e.lookout;
-    }
-  where
-    open c use {args.question.now as q, sources.invariant.lookout.root, in_ok-patterns-2.ensures as e}
+sources-preserved c = record {
+  found = rw c.sources.invariant.lookout.root at c.in_ok-patterns-2.ensures.found;
+  lookout = rw c.sources.invariant.lookout.root at c.in_ok-patterns-2.ensures.lookout;
+}

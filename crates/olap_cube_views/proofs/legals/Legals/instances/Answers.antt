@@ -1,6 +1,5 @@
 -- One dimension more, and all of them.
-use Rattle.std.proofs.Common.{Bor, [], ap, arith, length, ◌<◌, ◌≤◌, ◌∙◌}
-use Rattle.std.proofs.lemmas.List.{length-map, take_all}
+use Rattle.std.proofs.{Common.{Bor, [], ap, arith, length, ◌<◌, ◌≤◌, ◌∙◌}, lemmas.List.{length-map, take_all}}
 use Rattle.olap_base.specs.Instance.{Instance}
 use Rattle.olap_cube_views.proofs.ReferenceLemmas.{mapped_more}
 use Rattle.olap_cube_views.proofs.legals.Legals.instances.Goals as goal

@@ -1,17 +1,12 @@
 -- The view of the tally is that of the text, or its first fault.
-use Rattle.std.proofs.Common.{List, ap, sym, subst, ◌∙◌}
-use Rattle.std.proofs.lemmas.Result.{err_from_is_err_and}
-use Rattle.olap_base.specs.Instance.{Instance}
-use Rattle.olap_base.specs.Refusing.{IsRefusedBy}
-use Rattle.olap_base.specs.Views.{direct_view}
+use Rattle.std.proofs.{Common.{List, ap, sym, subst, ◌∙◌}, lemmas.Result.err_from_is_err_and}
+use Rattle.olap_base.specs.{Instance.Instance, Refusing.IsRefusedBy, Views.direct_view}
 use Rattle.olap_cube.specs.CubeViews.{tuples}
 use Rattle.olap_records.specs.Standing.{records_fed}
 use Rattle.olap_view.specs.Seen.{ids}
-use Rattle.olap_cube_views.specs.CubeFeeding.{HasTakenFacts, cube_fed_read, cube_rolling}
-use Rattle.olap_cube_views.specs.CubeRollingUp.{IsCubeRolledUp}
-use Rattle.olap_cube_views.specs.Dimensions.{graphs_of, instances_in}
-use Rattle.olap_cube_views.specs.Seen.{cube_view_of}
 use Rattle.olap_cube_views.proofs.CubeFeedLemmas.{back, own}
+use Rattle.olap_cube_views.specs.CubeFeeding.{HasTakenFacts, cube_fed_read, cube_rolling}
+use Rattle.olap_cube_views.specs.{CubeRollingUp.IsCubeRolledUp, Dimensions.{graphs_of, instances_in}, Seen.cube_view_of}
 use Rattle.olap_cube_views.proofs.rolling.CubeRoller.finish.Goals as goal
 
 pub returns-in_err-finish-clause-view : goal.returns-in_err-finish-clause-view

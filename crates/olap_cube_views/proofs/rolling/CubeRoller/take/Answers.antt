@@ -1,10 +1,9 @@
 -- A piece more, or a refusal of the whole text.
-use Rattle.std.proofs.Common.{◌++◌, sym, subst}
-use Rattle.std.proofs.lemmas.Result.{err_from_is_err_and}
+use Rattle.std.proofs.{Common.{◌++◌, sym, subst}, lemmas.Result.err_from_is_err_and}
 use Rattle.olap_base.specs.Refusing.{IsRefusedBy}
+use Rattle.olap_cube_views.proofs.CubeFeedLemmas.{back, own}
 use Rattle.olap_cube_views.specs.CubeFeeding.{HasTakenFacts, cube_fed_read, cube_rolling}
 use Rattle.olap_cube_views.specs.Dimensions.{graphs_of, instances_in}
-use Rattle.olap_cube_views.proofs.CubeFeedLemmas.{back, own}
 use Rattle.olap_cube_views.proofs.rolling.CubeRoller.take.Goals as goal
 
 pub returns-in_err-take : goal.returns-in_err-take

@@ -1,12 +1,9 @@
 -- A last record, or none.
-use Rattle.std.proofs.Common.{◌∷◌, ◌∙◌, [], ap}
-use Rattle.std.proofs.lemmas.List.{append-nil}
+use Rattle.std.proofs.{Common.{◌∷◌, ◌∙◌, [], ap}, lemmas.List.append-nil}
 use Rattle.olap_base.specs.Limits.{most_facts}
 use Rattle.olap_records.proofs.JoinLemmas.{end-behind}
-use Rattle.olap_cube_views.specs.CubeFactText.{cube_facts_read_within}
-use Rattle.olap_cube_views.specs.Dimensions.{graphs_of, instances_in}
-use Rattle.olap_cube_views.proofs.CubeCountingLemmas.{all-counted, no-header}
-use Rattle.olap_cube_views.proofs.CubeFeedLemmas.{last-taken}
+use Rattle.olap_cube_views.proofs.{CubeCountingLemmas.{all-counted, no-header}, CubeFeedLemmas.last-taken}
+use Rattle.olap_cube_views.specs.{CubeFactText.cube_facts_read_within, Dimensions.{graphs_of, instances_in}}
 use Rattle.olap_cube_views.proofs.rolling.Front.finish.Goals as goal
 
 pub returns-then-branch-clause-ends : goal.returns-then-branch-clause-ends

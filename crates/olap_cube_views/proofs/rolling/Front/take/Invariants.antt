@@ -1,7 +1,6 @@
 -- The bytes so far were taken.
 use Rattle.std.proofs.Common.{◌≡◌, ℕ, ◌≤◌, ◌-◌, ◌++◌, List, length, take}
-use Rattle.olap_cube_views.specs.CubeFeeding.{HasTakenFacts, cube_rolling}
-use Rattle.olap_cube_views.specs.Dimensions.{graphs_of, instances_in}
+use Rattle.olap_cube_views.specs.{CubeFeeding.{HasTakenFacts, cube_rolling}, Dimensions.{graphs_of, instances_in}}
 use Rattle.olap_cube_views.proofs.rolling.Front.take.Given as goal
 
 abbrev pub invariant-records : goal.invariant-records

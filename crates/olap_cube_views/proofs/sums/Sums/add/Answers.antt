@@ -1,12 +1,10 @@
 -- One row more, after those that may have been joined.
-use Rattle.std.proofs.Common.{◌∷◌, ◌++◌, ◌+◌, [], sym, ap, subst, ◌∙◌, rules, w64}
-use mir.Val.{SFits}
-use Rattle.std.proofs.lemmas.Int.{to_z-of_z}
+use Rattle.std.proofs.{Common.{◌∷◌, ◌++◌, ◌+◌, [], sym, ap, subst, ◌∙◌, rules, w64}, lemmas.Int.to_z-of_z}
 use Rattle.std.proofs.lemmas.List.{map-append}
 use Rattle.olap_base.specs.Summaries.{of_value, ◌⊕◌}
-use Rattle.olap_cube_views.specs.CubeTallies.{Entry, IsWithin, entries_of, summary_at}
-use Rattle.olap_cube_views.specs.Seen.{entry_of}
 use Rattle.olap_cube_views.proofs.SumLemmas.{summary-append, within_push}
+use Rattle.olap_cube_views.specs.{CubeTallies.{Entry, IsWithin, entries_of, summary_at}, Seen.entry_of}
+use mir.Val.{SFits}
 use Rattle.olap_cube_views.proofs.sums.Sums.add.Goals as goal
 
 pub returns-clause-ok : goal.returns-clause-ok

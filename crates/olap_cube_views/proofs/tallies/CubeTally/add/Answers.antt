@@ -1,16 +1,12 @@
 -- One fact more.
 use Rattle.std.proofs.Common.{◌≡◌, ◌+◌, ◌≤◌, ◌∷◌, ◌++◌, [], ℕ, ℤ, List, ap, sym, subst, arith, rules, w64}
-use mir.Val.{SFits}
 use Rattle.std.proofs.lemmas.Int.{to_z-of_z}
-use Rattle.olap_base.specs.Limits.{most_count}
-use Rattle.olap_base.specs.Views.{Fact}
+use Rattle.olap_base.specs.{Limits.most_count, Views.Fact, declared.ids.MemberId.MemberId}
 use Rattle.olap_view.specs.Columns.{Ascent}
-use Rattle.olap_cube_views.specs.CubeTallies.{CubeStandsFor, CubeTallied, entries_of, tallied}
-use Rattle.olap_cube_views.specs.Seen.{fact_at}
+use Rattle.olap_cube_views.proofs.{CubeTallyLemmas.{tally_more, tally_same}, SumLemmas.within_most}
+use Rattle.olap_cube_views.specs.{CubeTallies.{CubeStandsFor, CubeTallied, entries_of, tallied}, Seen.fact_at}
+use mir.Val.{SFits}
 use Rattle.olap_cube_views.specs.declared.views.CubeRow as told
-use Rattle.olap_base.specs.declared.ids.MemberId.{MemberId}
-use Rattle.olap_cube_views.proofs.CubeTallyLemmas.{tally_more, tally_same}
-use Rattle.olap_cube_views.proofs.SumLemmas.{within_most}
 use Rattle.olap_cube_views.proofs.tallies.CubeTally.add.Goals as goal
 
 pub add_fact-requires-clause-within : goal.add_fact-requires-clause-within

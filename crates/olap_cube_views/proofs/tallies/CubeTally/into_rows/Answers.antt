@@ -1,13 +1,10 @@
 -- The joined rows are those of the direct view.
-use Rattle.std.proofs.Common.{◌≡◌, List, length, subst}
-use Rattle.std.specs.Prelude.{ℕ, All}
-use Rattle.olap_base.specs.Limits.{most_count}
-use Rattle.olap_base.specs.Views.{Fact, direct_rows}
+use Rattle.std.{proofs.Common.{◌≡◌, List, length, subst}, specs.Prelude.{ℕ, All}}
+use Rattle.olap_base.specs.{Limits.most_count, Views.{Fact, direct_rows}}
 use Rattle.olap_cube.specs.CubeViews.{tuples}
+use Rattle.olap_cube_views.proofs.{CubeTallyLemmas.{direct_members, told_rows}, SumLemmas.within_most}
 use Rattle.olap_cube_views.specs.CubeTallies.{AreMembers, CubeStandsFor, CubeTallied, entries_of, tallied}
 use Rattle.olap_cube_views.specs.Seen.{cube_rows_of}
-use Rattle.olap_cube_views.proofs.CubeTallyLemmas.{direct_members, told_rows}
-use Rattle.olap_cube_views.proofs.SumLemmas.{within_most}
 use Rattle.olap_cube_views.proofs.tallies.CubeTally.into_rows.Goals as goal
 
 pub join_rows-requires : goal.join_rows-requires

@@ -1,11 +1,9 @@
 -- A tally with no fact stands for the empty table.
-use Rattle.std.proofs.Common.{◌≤◌, length, sym, subst, arith}
-use Rattle.std.proofs.lemmas.List.{length-map}
+use Rattle.std.proofs.{Common.{◌≤◌, length, sym, subst, arith}, lemmas.List.length-map}
 use Rattle.olap_view.specs.Columns.{Ascent}
-use Rattle.olap_cube_views.specs.CubeTallies.{IsCubeTally, tallied}
+use Rattle.olap_cube_views.{proofs.CubeTallyLemmas.tally_start, specs.CubeTallies.{IsCubeTally, tallied}}
 use Rattle.olap_cube_views.specs.Dimensions.{categories_in, instances_in}
 use Rattle.olap_cube.specs.Limits.{most_dimensions}
-use Rattle.olap_cube_views.proofs.CubeTallyLemmas.{tally_start}
 use Rattle.olap_cube_views.proofs.tallies.CubeTally.new.Goals as goal
 
 pub invariant_of-result : goal.invariant_of-result

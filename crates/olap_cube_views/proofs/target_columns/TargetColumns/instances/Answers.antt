@@ -3,8 +3,7 @@ use Rattle.std.proofs.Common.{Bor, [], ap, arith, length, sym, ◌<◌, ◌≤�
 use Rattle.std.proofs.lemmas.List.{get_or-map, length-map, take_all}
 use Rattle.olap_base.specs.Instance.{Instance}
 use Rattle.olap_view.specs.Columns.{Ascent, ascent}
-use Rattle.olap_cube_views.specs.Dimensions.{instances_in}
-use Rattle.olap_cube_views.proofs.ReferenceLemmas.{mapped_more}
+use Rattle.olap_cube_views.{proofs.ReferenceLemmas.mapped_more, specs.Dimensions.instances_in}
 use Rattle.olap_cube_views.proofs.target_columns.TargetColumns.instances.Goals as goal
 
 pub dimensions-preserved : goal.dimensions-preserved

@@ -1,10 +1,8 @@
 -- One dimension more.
-use Rattle.std.proofs.Common.{ap, arith, length, sym, ◌<◌, ◌∙◌, []}
-use Rattle.std.proofs.lemmas.List.{get_or-map, length-map}
+use Rattle.std.proofs.{Common.{ap, arith, length, sym, ◌<◌, ◌∙◌, []}, lemmas.List.{get_or-map, length-map}}
 use Rattle.olap_base.specs.declared.ids.CatId.{CatId}
 use Rattle.olap_view.specs.Columns.{Ascent, ascent}
-use Rattle.olap_cube_views.specs.Dimensions.{categories_in}
-use Rattle.olap_cube_views.proofs.ReferenceLemmas.{mapped_more}
+use Rattle.olap_cube_views.{proofs.ReferenceLemmas.mapped_more, specs.Dimensions.categories_in}
 use Rattle.olap_cube_views.proofs.target_columns.TargetColumns.target.Goals as goal
 
 pub dimensions-preserved : goal.dimensions-preserved

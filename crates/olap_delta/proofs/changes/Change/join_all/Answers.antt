@@ -1,6 +1,5 @@
 -- One category more, and all of them.
-use Rattle.std.proofs.Common.{◌<◌, ◌≤◌, length, ap, arith}
-use Rattle.std.proofs.lemmas.List.{length-map}
+use Rattle.std.proofs.{Common.{◌<◌, length, ap, arith}, lemmas.List.length-map}
 use Rattle.olap_delta.proofs.JoinedTableLemmas.{so_far_all, so_far_next}
 use Rattle.olap_delta.proofs.changes.Change.join_all.Goals as goal
 
@@ -15,8 +14,4 @@ categories-preserved c =
     (c.join_in.ensures.joined c.if-not-join_in.false)
 
 pub returns-clause-joined : goal.returns-clause-joined
-returns-clause-joined c = λ t.
-    let n = length-map c.categories-k-end.result.now (λ d. d.0) in
-    let e = ap length c.categories-k-end.ensures.categories in
-    let h : length c.args.table.now.categories ≤ c.categories.k = let f = c.categories-test.false in omega arith in
-    so_far_all c.args.self c.args.lots.now c.categories.k c.args.table.now c.categories.table c.categories.invariant h
+returns-clause-joined c = grind (arith, length-map, so_far_all)

@@ -1,15 +1,10 @@
 -- One lot more.
-use Rattle.std.proofs.Common.{ℕ, List, get_or, take, sym, subst, ◌∙◌, pos}
-use Rattle.std.specs.Prelude.{All}
-use Rattle.std.proofs.lemmas.List.{get_or_default, take_more}
-use Rattle.std.proofs.lemmas.List.Elements.{All-push}
-use Rattle.olap_base.specs.Instance.{Instance}
-use Rattle.olap_base.specs.Reaching.{reaches}
-use Rattle.olap_view.specs.Seen.{summary_of}
-use Rattle.olap_view.specs.Tables.{when}
-use Rattle.olap_delta.specs.Joining.{IsJoinedIn, IsOnce}
+use Rattle.std.proofs.{Common.{ℕ, List, get_or, take, sym, subst, ◌∙◌, pos}, lemmas.List.{get_or_default, take_more}}
+use Rattle.std.{proofs.lemmas.List.Elements.All-push, specs.Prelude.All}
+use Rattle.olap_base.specs.{Instance.Instance, Reaching.reaches}
+use Rattle.olap_view.specs.{Seen.summary_of, Tables.when}
+use Rattle.olap_delta.{proofs.JoinedTableLemmas.joined_next, specs.Joining.{IsJoinedIn, IsOnce}}
 use Rattle.olap_delta.specs.declared.lots.Lot.{Lot}
-use Rattle.olap_delta.proofs.JoinedTableLemmas.{joined_next}
 use Rattle.olap_delta.proofs.changes.Change.join_in.Goals as goal
 
 -- what lots have past their end

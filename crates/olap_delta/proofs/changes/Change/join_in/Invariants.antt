@@ -1,9 +1,6 @@
 -- The lots so far are joined.
-use Rattle.std.proofs.Common.{◌≡◌, get_or, take}
-use Rattle.std.specs.Prelude.{All}
-use Rattle.olap_delta.specs.Changing.{AreStorable}
-use Rattle.olap_delta.specs.Joining.{IsJoinedIn, IsOnce}
-use Rattle.olap_delta.specs.Lots.{lots_at}
+use Rattle.std.{proofs.Common.{◌≡◌, get_or, take}, specs.Prelude.All}
+use Rattle.olap_delta.specs.{Changing.AreStorable, Joining.{IsJoinedIn, IsOnce}, Lots.lots_at}
 use Rattle.olap_delta.proofs.changes.Change.join_in.Given as goal
 
 abbrev pub invariant-lots : goal.invariant-lots

@@ -1,15 +1,13 @@
 -- The view after the step at the member that is reached.
-use Rattle.std.proofs.Common.{Option, ap, sym, ◌∙◌, get_or, refl, of_z, rules, to_z, w64}
-use mir.Val.{SFits}
-use Rattle.std.proofs.lemmas.Int.{to_z-of_z}
+use Rattle.std.proofs.Common.{arith, Option, ap, sym, ◌∙◌, get_or, refl, of_z, rules, to_z, w64}
+use Rattle.std.proofs.lemmas.{Grind.common_steps, Int.to_z-of_z, List.Elements.Contains-get_or}
 use Rattle.std.proofs.lemmas.Result.{err_from_is_err_and}
-use Rattle.std.proofs.lemmas.List.Elements.{Contains-get_or}
 use Rattle.olap_base.specs.Summaries.{Summary}
 use Rattle.olap_facts.specs.Seen.{fact_of}
-use Rattle.olap_view.specs.Seen.{summary_of}
-use Rattle.olap_view.specs.SummaryTables.{stands_at}
-use Rattle.olap_delta.specs.Changing.{step_of}
+use Rattle.olap_view.specs.{Seen.summary_of, SummaryTables.stands_at}
 use Rattle.olap_delta.proofs.ChangingLemmas.{put_storable, view_kept, view_left, view_put, view_refused}
+use Rattle.olap_delta.specs.Changing.{step_of}
+use mir.Val.{SFits}
 use Rattle.olap_delta.proofs.changes.Change.view.Goals as goal
 
 pub returns-in_err-summary-clause-view : goal.returns-in_err-summary-clause-view
@@ -25,28 +23,10 @@ returns-in_err-summary-clause-view c =
     ∙ c.in_err-summary.ensures.step))
 
 pub returns-in_ok-summary-clause-storable : goal.returns-in_ok-summary-clause-storable
-returns-in_ok-summary-clause-storable c =
-    let t = c.args.table.now in
-    put_storable c.in-Some.y.0 (summary_of c.in_ok-summary.summary) t c.put.new.self (record {
-      instance = c.put.ensures.instance;
-      categories = c.put.ensures.categories;
-      at = c.put.ensures.at;
-    }) c.in_ok-summary.ensures.storable c.requires.storable
+returns-in_ok-summary-clause-storable c = grind (arith, common_steps, put_storable)
 
 pub returns-in_ok-summary-clause-view : goal.returns-in_ok-summary-clause-view
-returns-in_ok-summary-clause-view c =
-    let t = c.args.table.now in
-    let k = Contains-get_or t.categories c.args.k 0 c.requires.category in
-    let fits : SFits w64 c.args.fact.now.value = search rules in
-    view_put (step_of c.args.self) t (fact_of c.args.fact.now) (get_or t.categories c.args.k 0) k c.in-Some.y.0
-    c.in-Some.ensures.some (summary_of c.in_ok-summary.summary) c.put.new.self
-    (ap (step_of c.args.self (stands_at t c.in-Some.y.0)) (sym (to_z-of_z w64 c.args.fact.now.value fits))
-    ∙ ap (λ (o : Option Summary). step_of c.args.self o (to_z w64 (of_z w64 c.args.fact.now.value))) (sym c.at.ensures)
-    ∙ c.in_ok-summary.ensures.step) (record {
-      instance = c.put.ensures.instance;
-      categories = c.put.ensures.categories;
-      at = c.put.ensures.at;
-    })
+returns-in_ok-summary-clause-view c = search (rules, Contains-get_or, view_put, to_z-of_z, to_z, of_z)
 
 pub returns-in_ok-summary-clause-others : goal.returns-in_ok-summary-clause-others
 returns-in_ok-summary-clause-others c = λ d k n.

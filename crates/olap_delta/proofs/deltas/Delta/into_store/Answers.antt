@@ -1,12 +1,8 @@
 -- The views of the table are a store, in file order.
-use Rattle.std.proofs.Common.{◌≡◌, List, ap, sym, subst, ◌∙◌}
-use Rattle.std.specs.Prelude.{ℕ, All}
-use Rattle.olap_base.specs.Instance.{Instance}
-use Rattle.olap_base.specs.Views.{View}
-use Rattle.olap_view.specs.Stores.{IsInFileOrder, IsSoundStore}
-use Rattle.olap_view.specs.SummaryTables.{views_at}
-use Rattle.olap_delta.specs.Changing.{Delta}
-use Rattle.olap_delta.proofs.StorableLemmas.{table_order, table_sound}
+use Rattle.std.{proofs.Common.{◌≡◌, List, ap, sym, subst, ◌∙◌}, specs.Prelude.{ℕ, All}}
+use Rattle.olap_base.specs.{Instance.Instance, Views.View}
+use Rattle.olap_view.specs.{Stores.{IsInFileOrder, IsSoundStore}, SummaryTables.views_at}
+use Rattle.olap_delta.{proofs.StorableLemmas.{table_order, table_sound}, specs.Changing.Delta}
 use Rattle.olap_delta.proofs.deltas.Delta.into_store.Goals as goal
 
 pub returns-clause-sound : goal.returns-clause-sound

@@ -1,11 +1,9 @@
 -- The member's lot begins.
-use Rattle.std.proofs.Common.{ap, refl, rules, ◌∙◌, w64}
-use mir.Val.{SFits}
-use Rattle.std.proofs.lemmas.Int.{to_z-of_z}
-use Rattle.std.proofs.lemmas.List.{length-set}
+use Rattle.std.proofs.{Common.{ap, refl, rules, ◌∙◌, w64}, lemmas.Int.to_z-of_z, lemmas.List.length-set}
 use Rattle.olap_base.specs.Summaries.{of_value}
 use Rattle.olap_facts.specs.Seen.{fact_of}
 use Rattle.olap_delta.proofs.LotLemmas.{begun}
+use mir.Val.{SFits}
 use Rattle.olap_delta.proofs.lots.Lots.begin.Goals as goal
 
 pub returns : goal.returns

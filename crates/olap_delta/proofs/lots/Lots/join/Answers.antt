@@ -1,12 +1,10 @@
 -- The value is joined to the lot.
-use Rattle.std.proofs.Common.{ap, get_or, refl, rules, ◌∙◌, w64}
-use mir.Val.{SFits}
-use Rattle.std.proofs.lemmas.Int.{to_z-of_z}
+use Rattle.std.proofs.{Common.{ap, get_or, refl, rules, ◌∙◌, w64}, lemmas.Int.to_z-of_z}
 use Rattle.olap_base.specs.Summaries.{joined, of_value}
 use Rattle.olap_facts.specs.Seen.{fact_of}
 use Rattle.olap_view.specs.Seen.{summary_of}
-use Rattle.olap_delta.specs.declared.lots.Lot.{Lot}
-use Rattle.olap_delta.proofs.LotLemmas.{grown}
+use Rattle.olap_delta.{proofs.LotLemmas.grown, specs.declared.lots.Lot.Lot}
+use mir.Val.{SFits}
 use Rattle.olap_delta.proofs.lots.Lots.join.Goals as goal
 
 pub returns : goal.returns

@@ -2,9 +2,7 @@
 use Rattle.std.proofs.Common.{map, subst}
 use Rattle.olap_facts.specs.Seen.{fact_of}
 use Rattle.olap_view.specs.Seen.{views_of}
-use Rattle.olap_delta.specs.Taking.{AreIn}
-use Rattle.olap_delta.specs.declared.taking.Taken.{Taken}
-use Rattle.olap_delta.proofs.DeltaLemmas.{taken_since}
+use Rattle.olap_delta.{proofs.DeltaLemmas.taken_since, specs.Taking.AreIn, specs.declared.taking.Taken.Taken}
 use Rattle.olap_delta.proofs.taking.Taken.and.Goals as goal
 
 pub returns-in-Gone-clause-facts : goal.returns-in-Gone-clause-facts

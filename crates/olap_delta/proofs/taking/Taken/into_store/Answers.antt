@@ -1,9 +1,7 @@
 -- The views of the facts that have gone into them.
 use Rattle.std.proofs.Common.{subst}
 use Rattle.olap_view.specs.Seen.{views_of}
-use Rattle.olap_delta.specs.Taking.{AreIn}
-use Rattle.olap_delta.specs.declared.taking.Taken.{Taken}
-use Rattle.olap_delta.proofs.DeltaLemmas.{handed_out_after}
+use Rattle.olap_delta.{proofs.DeltaLemmas.handed_out_after, specs.Taking.AreIn, specs.declared.taking.Taken.Taken}
 use Rattle.olap_delta.proofs.taking.Taken.into_store.Goals as goal
 
 pub returns-in-Gone : goal.returns-in-Gone

@@ -1,9 +1,7 @@
 -- The store after all facts of the text, or why there is none.
-use Rattle.std.proofs.Common.{subst, sym}
-use Rattle.std.proofs.lemmas.Result.{err_from_is_err_and}
-use Rattle.olap_delta.specs.Changing.{step_of}
+use Rattle.std.proofs.{Common.{subst, sym}, lemmas.Result.err_from_is_err_and}
+use Rattle.olap_delta.{proofs.TextLemmas.{all-after, fact-refused, none-after}, specs.Changing.step_of}
 use Rattle.olap_delta.specs.Taking.{HasTakenText, IsStoreAfter, text_change}
-use Rattle.olap_delta.proofs.TextLemmas.{all-after, fact-refused, none-after}
 use Rattle.olap_delta.proofs.texts.Changer.finish.Goals as goal
 
 pub returns-in_err-taken : goal.returns-in_err-taken

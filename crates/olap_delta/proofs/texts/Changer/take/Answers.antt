@@ -1,11 +1,9 @@
 -- A piece more, or a refusal of the whole text.
 use Rattle.std.proofs.Common.{◌++◌, List, map, subst, sym}
-use Rattle.olap_facts.specs.Feeding.{fed_read}
-use Rattle.olap_facts.specs.Seen.{fact_of}
-use Rattle.olap_facts.specs.declared.tables.Fact as told
-use Rattle.olap_delta.specs.Changing.{step_of}
+use Rattle.olap_facts.specs.{Feeding.fed_read, Seen.fact_of}
+use Rattle.olap_delta.{proofs.TextLemmas.{refused-by, taken-more}, specs.Changing.step_of}
 use Rattle.olap_delta.specs.Taking.{AreIn, HasTakenText, text_change}
-use Rattle.olap_delta.proofs.TextLemmas.{refused-by, taken-more}
+use Rattle.olap_facts.specs.declared.tables.Fact as told
 use Rattle.olap_delta.proofs.texts.Changer.take.Goals as goal
 
 pub returns-in-Err : goal.returns-in-Err

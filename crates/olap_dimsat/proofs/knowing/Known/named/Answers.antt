@@ -1,7 +1,5 @@
-use Rattle.std.proofs.Common.{◌<◌, ℕ, Option, subst, arith}
-use Rattle.std.specs.Prelude.{IfSome}
-use Rattle.olap_dimsat.specs.Asking.{task_of}
-use Rattle.olap_dimsat.specs.Tasks.{constant_count}
+use Rattle.std.{proofs.Common.{◌<◌, ℕ, Option, subst, arith}, specs.Prelude.IfSome}
+use Rattle.olap_dimsat.specs.{Asking.task_of, Tasks.constant_count}
 use Rattle.olap_dimsat.proofs.knowing.Known.named.Goals as goal
 
 pub name-requires-clause-inside : goal.name-requires-clause-inside

@@ -1,6 +1,5 @@
 use Rattle.std.proofs.Common.{true, false, refl}
-use Rattle.olap_dimsat.specs.Asking.{task_of}
-use Rattle.olap_dimsat.proofs.KnowingLemmas.{reach_test, way_by}
+use Rattle.olap_dimsat.{proofs.KnowingLemmas.{reach_test, way_by}, specs.Asking.task_of}
 use Rattle.olap_trail.specs.Decisions.{present_graph}
 use Rattle.olap_dimsat.proofs.knowing.Known.way.Goals as goal
 

@@ -1,19 +1,14 @@
 -- What is asked is the search's task, and by all places the list is one of all.
-use Rattle.std.proofs.Common.{◌≡◌, List, refl, subst, map}
+use Rattle.std.proofs.{Common.{◌≡◌, List, refl, subst, map}, lemmas.Result.{IfErr-weaker, IfOk-weaker}}
 use Rattle.std.specs.Prelude.{All, IfErr, IfOk}
-use Rattle.std.proofs.lemmas.Result.{IfErr-weaker, IfOk-weaker}
 use Rattle.olap_ast.specs.Trees.{formula_of}
 use Rattle.olap_base.specs.Refusing.{IsFor}
-use Rattle.olap_frozen.specs.declared.frozen.Frozen.{Frozen}
-use Rattle.olap_frozen.specs.LeastFound.{frozen_of}
-use Rattle.olap_frozen.specs.Leaves.{IsSized}
+use Rattle.olap_frozen.specs.{LeastFound.frozen_of, Leaves.IsSized, declared.frozen.Frozen.Frozen}
 use Rattle.olap_names.specs.Names.{candidates_of}
 use Rattle.olap_schema.specs.Schemas.{schema_of}
-use Rattle.olap_dimsat.specs.Asking.{task_of}
-use Rattle.olap_dimsat.specs.Listed.{AreAllFrozen, AreMoreThan}
+use Rattle.olap_dimsat.proofs.{ListedLemmas.{all_frozen, more_than, weaker_for}, MadeLemmas.{keeps, made_still}}
+use Rattle.olap_dimsat.specs.{Asking.task_of, Listed.{AreAllFrozen, AreMoreThan}}
 use Rattle.olap_dimsat.specs.Tasks.{Task, schema_of as schema_in, graph_of}
-use Rattle.olap_dimsat.proofs.ListedLemmas.{all_frozen, more_than, weaker_for}
-use Rattle.olap_dimsat.proofs.MadeLemmas.{keeps, made_still}
 use Rattle.olap_dimsat.proofs.searching.Search.all.Goals as goal
 
 pub list-listed-requires : goal.list-listed-requires

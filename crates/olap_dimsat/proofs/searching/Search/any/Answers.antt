@@ -1,12 +1,10 @@
 -- What is asked is the search's task.
 use Rattle.std.proofs.Common.{refl, sym, subst, ap}
-use Rattle.olap_ast.specs.Frozen.{Frozen}
-use Rattle.olap_ast.specs.Trees.{formula_of}
+use Rattle.olap_ast.specs.{Frozen.Frozen, Trees.formula_of}
 use Rattle.olap_clauses.specs.Engines.{trail_of, variables_of}
 use Rattle.olap_schema.specs.Schemas.{schema_of}
-use Rattle.olap_dimsat.specs.Asking.{task_of}
-use Rattle.olap_dimsat.specs.Tasks.{IsOne, Task}
 use Rattle.olap_dimsat.proofs.MadeLemmas.{handed_one, keeps, left_for, made_still, none_found, none_shaped, suited_with}
+use Rattle.olap_dimsat.specs.{Asking.task_of, Tasks.{IsOne, Task}}
 use Rattle.olap_dimsat.proofs.searching.Search.any.Goals as goal
 
 pub exists-found-requires : goal.exists-found-requires

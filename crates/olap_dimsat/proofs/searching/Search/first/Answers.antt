@@ -1,11 +1,9 @@
 -- What is asked is the search's task.
 use Rattle.std.proofs.Common.{refl, sym, subst, ap}
-use Rattle.olap_ast.specs.Frozen.{Frozen}
-use Rattle.olap_ast.specs.Trees.{formula_of}
+use Rattle.olap_ast.specs.{Frozen.Frozen, Trees.formula_of}
 use Rattle.olap_schema.specs.Schemas.{schema_of}
-use Rattle.olap_dimsat.specs.Asking.{task_of}
+use Rattle.olap_dimsat.{proofs.MadeLemmas.{handed, keeps, left_for, made_still}, specs.Asking.task_of}
 use Rattle.olap_dimsat.specs.Tasks.{IsOne, Task}
-use Rattle.olap_dimsat.proofs.MadeLemmas.{handed, keeps, left_for, made_still}
 use Rattle.olap_dimsat.proofs.searching.Search.first.Goals as goal
 
 pub least-found-requires : goal.least-found-requires

@@ -4,9 +4,8 @@ use Rattle.olap_ast.specs.Trees.{formula_of}
 use Rattle.olap_base.specs.Graph.{IsCategory}
 use Rattle.olap_clauses.specs.Engines.{variables_of}
 use Rattle.olap_schema.specs.Schemas.{schema_of}
-use Rattle.olap_dimsat.specs.Asking.{task_of}
+use Rattle.olap_dimsat.{proofs.MadeLemmas.{handed_one, keeps, left_for, made_still, suited_with}, specs.Asking.task_of}
 use Rattle.olap_dimsat.specs.Tasks.{Task, graph_of}
-use Rattle.olap_dimsat.proofs.MadeLemmas.{handed_one, keeps, left_for, made_still, suited_with}
 use Rattle.olap_dimsat.proofs.searching.Search.look.Goals as goal
 
 pub look-found-requires : goal.look-found-requires

@@ -1,7 +1,6 @@
 -- The variable's meaning says it.
 use Rattle.std.proofs.Common.{◌<◌, length, arith, rules}
-use Rattle.olap_encoding.specs.EncoderInside.{encoding_of}
-use Rattle.olap_encoding.proofs.NodeLemmas.{gate_says}
+use Rattle.olap_encoding.{proofs.NodeLemmas.gate_says, specs.EncoderInside.encoding_of}
 use Rattle.olap_encoding.proofs.encoders.Encoder.is_gate.Goals as goal
 
 pub returns-then-eq : goal.returns-then-eq

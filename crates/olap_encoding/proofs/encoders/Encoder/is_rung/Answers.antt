@@ -1,9 +1,7 @@
 -- The variable's meaning says it.
-use Rattle.std.proofs.Common.{◌<◌, length, arith}
-use Rattle.olap_encoding.specs.EncoderInside.{encoding_of}
-use Rattle.olap_encoding.proofs.GivenLemmas.{rung_says}
+use Rattle.std.proofs.{Common.{◌<◌, length, arith}, lemmas.Bool.eqb-true}
+use Rattle.olap_encoding.{proofs.GivenLemmas.rung_says, specs.EncoderInside.encoding_of}
 use Rattle.olap_encoding.proofs.encoders.Encoder.is_rung.Goals as goal
-use Rattle.std.proofs.lemmas.Bool.{eqb-true}
 
 pub returns-then-d-c : goal.returns-then-d-c
 returns-then-d-c c =

@@ -1,8 +1,6 @@
 -- The fact's member is of a bottom category.
-use Rattle.std.proofs.Common.{subst}
-use Rattle.std.specs.Prelude.{IfOk, IfSome}
-use Rattle.olap_base.specs.Graph.{IsBottom}
-use Rattle.olap_base.specs.Instance.{category_of}
+use Rattle.std.{proofs.Common.subst, specs.Prelude.{IfOk, IfSome}}
+use Rattle.olap_base.specs.{Graph.IsBottom, Instance.category_of}
 use Rattle.olap_facts.specs.Feeding.{Feeding}
 use Rattle.olap_facts.proofs.feeding.FactFeed.finish.Goals as goal
 

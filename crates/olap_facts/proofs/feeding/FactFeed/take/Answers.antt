@@ -1,11 +1,8 @@
 -- What the front takes, told of the reader.
-use Rattle.std.proofs.Common.{◌++◌, ◌<◌, ℕ, List, length, map, subst}
-use Rattle.std.specs.Prelude.{All, MatchResult, OnOk}
-use Rattle.olap_base.specs.Refusing.{IsRefusedBy}
-use Rattle.olap_base.specs.Views.{Fact, IsFactTable}
-use Rattle.olap_facts.specs.Feeding.{Fed, Feeding, fed_read, feeding_in}
+use Rattle.std.{proofs.Common.{◌++◌, ◌<◌, ℕ, List, length, map, subst}, specs.Prelude.{All, MatchResult, OnOk}}
+use Rattle.olap_base.specs.{Refusing.IsRefusedBy, Views.{Fact, IsFactTable}}
+use Rattle.olap_facts.{proofs.FeedLemmas.on-members, specs.Feeding.{Fed, Feeding, fed_read, feeding_in}}
 use Rattle.olap_facts.specs.Seen.{fact_of}
-use Rattle.olap_facts.proofs.FeedLemmas.{on-members}
 use Rattle.olap_facts.proofs.feeding.FactFeed.take.Goals as goal
 
 pub returns-clause-feeds : goal.returns-clause-feeds

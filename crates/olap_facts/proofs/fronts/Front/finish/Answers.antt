@@ -1,8 +1,7 @@
 -- A last record.
 use Rattle.std.proofs.Common.{◌∷◌, []}
 use Rattle.olap_records.proofs.JoinLemmas.{end-behind}
-use Rattle.olap_facts.specs.Feeding.{feeding_in}
-use Rattle.olap_facts.proofs.FeedLemmas.{last-taken}
+use Rattle.olap_facts.{proofs.FeedLemmas.last-taken, specs.Feeding.feeding_in}
 use Rattle.olap_facts.proofs.fronts.Front.finish.Goals as goal
 
 pub returns-then-branch-clause-reads : goal.returns-then-branch-clause-reads

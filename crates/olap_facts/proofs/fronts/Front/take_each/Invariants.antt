@@ -1,8 +1,7 @@
 -- The bytes so far were taken, and their facts are in the batch.
 use Rattle.std.proofs.Common.{◌≡◌, ℕ, ◌+◌, ◌≤◌, ◌-◌, ◌++◌, List, length, map, take}
 use Rattle.olap_base.specs.Views.{Fact, IsFactTable}
-use Rattle.olap_facts.specs.Feeding.{Fed, feeding_in}
-use Rattle.olap_facts.specs.Seen.{fact_of}
+use Rattle.olap_facts.specs.{Feeding.{Fed, feeding_in}, Seen.fact_of}
 use Rattle.olap_facts.proofs.fronts.Front.take_each.Given as goal
 
 abbrev pub invariant-records : goal.invariant-records

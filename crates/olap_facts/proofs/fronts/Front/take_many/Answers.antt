@@ -1,17 +1,9 @@
 -- Some records more, which are facts, or of which one has a fault.
-use Rattle.std.proofs.Common.{◌≡◌, ◌++◌, ◌+◌, ◌∙◌, true, List, ℕ, map, length, take, drop, sym, ap, arith, subst, length-drop}
-use Rattle.std.proofs.lemmas.List.{take_all}
+use Rattle.std.proofs.{Common.{◌≡◌, ◌++◌, ◌+◌, map, length, take, ap, arith, subst, length-drop}, lemmas.List.take_all}
 use Rattle.std.proofs.lemmas.Result.{err_from_is_err_and}
-use Rattle.olap_base.proofs.ListLemmas.{rest_is}
-use Rattle.olap_base.specs.Refusing.{IsRefusedBy}
-use Rattle.olap_records.specs.Standing.{records_fed}
-use Rattle.olap_records.proofs.JoinLemmas.{begins}
-use Rattle.olap_facts.specs.FactText.{facts_read_within}
-use Rattle.olap_facts.specs.Feeding.{Counted, Fed, feeding_in}
-use Rattle.olap_facts.specs.Pending.{HasCut}
-use Rattle.olap_facts.specs.Seen.{fact_of}
-use Rattle.olap_facts.proofs.FeedLemmas.{whole-is}
-use Rattle.olap_facts.proofs.PendingLemmas.{as-many, cut-taken}
+use Rattle.olap_base.{proofs.ListLemmas.rest_is, specs.Refusing.IsRefusedBy}
+use Rattle.olap_facts.proofs.{FeedLemmas.whatever-comes, PendingLemmas.{as-many, cut-taken}}
+use Rattle.olap_facts.specs.{FactText.facts_read_within, Feeding.{Fed, feeding_in}, Seen.fact_of}
 use Rattle.olap_facts.proofs.fronts.Front.take_many.Goals as goal
 
 pub settle-requires-clause-as_many : goal.settle-requires-clause-as_many
@@ -22,70 +14,40 @@ settle-requires-clause-as_many c =
 pub returns-in_err-settle-clause-feeds : goal.returns-in_err-settle-clause-feeds
 returns-in_err-settle-clause-feeds c = λ fed facts h.
     let g = c.pieces.invariant.fed fed facts h in
-    let cut : HasCut old.stands (take n (drop at piece)) new.stands c.cut.new.self =
-    subst (λ xs. HasCut old.stands (take n xs) new.stands c.cut.new.self) (rest_is at piece)
-    c.in_ok-taken.ensures.cut in
-    let stands = cut-taken fed piece at n g.done old.stands new.stands c.cut.new.self g.stands cut in
+    let cut = rw (rest_is at piece) at c.in_ok-taken.ensures.cut in
+    let stands = cut-taken fed piece at n g.done c.pieces.self.splitter.stands c.cut.new.splitter.stands c.cut.new.self
+    g.stands cut in
     let stop = err_from_is_err_and c.from_residual-in_err-settle.result c.from_residual-in_err-settle.ensures.1 in
-    rw (stop.1, stop.2) (λ more.
-    let b = begins (fed ++ take (at + n) piece) (drop (at + n) piece ++ more) (g.done ++ cut.rows) new.stands stands in
-    let all = ap (λ xs. records_fed xs) (whole-is fed piece more (at + n)) ∙ b.1 in
-    subst (λ (rs : List (List (List ℕ))). IsRefusedBy c.in_err-settle.field-0.0
-    (facts_read_within s.most s.graph.now s.instance.now rs)) (sym all)
-    (c.in_err-settle.ensures.counts cut.rows g.done facts cut.are
-    (rw c.pieces.invariant.begun at g.counted) b.0))
+    rw (stop.1, stop.2) (whatever-comes (λ rs. IsRefusedBy c.in_err-settle.field-0.0
+    (facts_read_within c.args.setting.most c.args.setting.graph.now c.args.setting.instance.now rs)) fed piece (at + n)
+    (g.done ++ cut.rows) c.cut.new.splitter.stands stands
+    (c.in_err-settle.ensures.counts cut.rows g.done facts cut.are (rw c.pieces.invariant.begun at g.counted)))
   where
-    open c use {
-      args.piece.now as piece,
-      args.setting as s,
-      pieces.at,
-      pieces.self.splitter as old,
-      in_ok-taken.taken as n,
-      cut.new.splitter as new,
-    }
+    open c use {args.piece.now as piece, pieces.at, in_ok-taken.taken as n}
 
 pub pieces-preserved : goal.pieces-preserved
 pieces-preserved c =
-    let cut : HasCut old.stands (take n (drop at piece)) new.stands c.cut.new.self =
-    subst (λ xs. HasCut old.stands (take n xs) new.stands c.cut.new.self) (rest_is at piece)
-    c.in_ok-taken.ensures.cut in
-    let part = c.in_ok-taken.ensures.taken in
-    let same_size = ap length (rest_is at piece) in
-    let size = length-drop at piece in
-    let more = c.in_ok-settle.ensures.more in
-    let count : c.len.result ≡ length c.cut.new.self.told.items =
-    let size = c.len.ensures in let ok = c.cut.new.self.told.ok in omega (arith, size, ok) in
-    let few = c.in_ok-settle.ensures.few in
+    let cut = rw (rest_is at piece) at c.in_ok-taken.ensures.cut in
+    let told = c.cut.new.self.told in
+    let count : c.len.result ≡ length told.items = omega (arith, c.len.ensures, told.ok) in
     record {
-      at = omega (arith, part, same_size, size, inv.at);
-      handed = omega (arith, count, more, inv.handed);
-      few = omega (arith, count, few);
+      at = omega (arith, c.in_ok-taken.ensures.taken, ap length (rest_is at piece), length-drop at piece, inv.at);
+      handed = omega (arith, count, c.in_ok-settle.ensures.more, inv.handed);
+      few = omega (arith, count, c.in_ok-settle.ensures.few);
       begun = inv.begun;
       table = c.in_ok-settle.ensures.table inv.table;
       fed = λ fed facts h.
           let g = inv.fed fed facts h in
+          let counted = c.in_ok-settle.ensures.counts cut.rows g.done facts cut.are (rw inv.begun at g.counted) in
           record {
             done = g.done ++ cut.rows;
-            stands = cut-taken fed piece at n g.done old.stands new.stands c.cut.new.self g.stands cut;
-            counted =
-                let told = c.in_ok-settle.ensures.counts cut.rows g.done facts cut.are (rw inv.begun at g.counted) in
-                let after = facts ++ map fact_of c.settle.new.batch.items in
-                subst (λ b. Counted s.most s.graph.now s.instance.now (c.pieces.self.handed + c.len.result) b
-                (g.done ++ cut.rows) after) (sym inv.begun)
-                (subst (λ m. Counted s.most s.graph.now s.instance.now (c.pieces.self.handed + m) true
-                (g.done ++ cut.rows) after) (sym count) told);
+            stands = cut-taken fed piece at n g.done c.pieces.self.splitter.stands c.cut.new.splitter.stands
+                c.cut.new.self g.stands cut;
+            counted = rw (inv.begun, count) counted;
           };
     }
   where
-    open c use {
-      args.piece.now as piece,
-      args.setting as s,
-      pieces.at,
-      pieces.invariant as inv,
-      pieces.self.splitter as old,
-      in_ok-taken.taken as n,
-      cut.new.splitter as new,
-    }
+    open c use {args.piece.now as piece, pieces.at, pieces.invariant as inv, in_ok-taken.taken as n}
 
 pub returns-clause-feeds : goal.returns-clause-feeds
 returns-clause-feeds c = λ fed facts h.

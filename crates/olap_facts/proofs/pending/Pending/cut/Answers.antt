@@ -1,9 +1,7 @@
 -- A record more, or none in the rest of the piece.
-use Rattle.std.proofs.Common.{◌∙◌, ap, arith, length, length-drop}
-use Rattle.std.proofs.lemmas.Bool.{not-false, not-true}
+use Rattle.std.proofs.{Common.{◌∙◌, ap, arith, length, length-drop}, lemmas.Bool.{not-false, not-true}}
 use Rattle.olap_base.proofs.ListLemmas.{rest_is}
-use Rattle.olap_facts.proofs.FeedLemmas.{no-cut, one-cut}
-use Rattle.olap_facts.proofs.PendingLemmas.{cut-end, cut-more, cut-none-yet}
+use Rattle.olap_facts.proofs.{FeedLemmas.{no-cut, one-cut}, PendingLemmas.{cut-end, cut-more, cut-none-yet}}
 use Rattle.olap_facts.proofs.pending.Pending.cut.Goals as goal
 
 pub records-init : goal.records-init
@@ -19,15 +17,12 @@ pub records-preserved : goal.records-preserved
 records-preserved c =
     let is-found = not-false _ c.if-not-cut.false in
     let one = one-cut piece at n c.in_ok-cut.cut.found new.row s new.stands c.in_ok-cut.ensures.stands is-found in
-    let part = c.in_ok-cut.ensures.taken in
-    let same_size = ap length (rest_is at piece) in
-    let size = length-drop at piece in
     let some = c.in_ok-cut.ensures.some is-found in
     record {
-      at = omega (arith, part, same_size, size, inv.at);
+      at = omega (arith, c.in_ok-cut.ensures.taken, ap length (rest_is at piece), length-drop at piece, inv.at);
       some = λ _. omega (arith, some);
       cut = cut-more piece at n c.args.splitter.now.stands s new.stands c.records.self inv.cut c.push.new.self new.row
-          one e.ids e.partial e.told;
+          one c.in_ok-push.ensures.ids c.in_ok-push.ensures.partial c.in_ok-push.ensures.told;
     }
   where
     open c use {
@@ -37,7 +32,6 @@ records-preserved c =
       records.splitter.stands as s,
       in_ok-cut.cut.taken as n,
       next.new.self as new,
-      in_ok-push.ensures as e,
     }
 
 pub returns-then-not-cut-clause-taken : goal.returns-then-not-cut-clause-taken
@@ -58,14 +52,8 @@ returns-then-not-cut-clause-some c = λ l.
 
 pub returns-then-not-cut-clause-cut : goal.returns-then-not-cut-clause-cut
 returns-then-not-cut-clause-cut c =
-    let none = no-cut piece at n c.in_ok-cut.cut.found new.row s new.stands c.in_ok-cut.ensures.stands
+    let none = no-cut c.args.piece.now at n c.in_ok-cut.cut.found new.row s new.stands c.in_ok-cut.ensures.stands
     (not-true _ c.if-not-cut.true) in
-    cut-end piece at n c.args.splitter.now.stands s new.stands c.records.self c.records.invariant.cut none
+    cut-end c.args.piece.now at n c.args.splitter.now.stands s new.stands c.records.self c.records.invariant.cut none
   where
-    open c use {
-      args.piece.now as piece,
-      records.at,
-      records.splitter.stands as s,
-      in_ok-cut.cut.taken as n,
-      next.new.self as new,
-    }
+    open c use {records.at, records.splitter.stands as s, in_ok-cut.cut.taken as n, next.new.self as new}

@@ -1,7 +1,6 @@
 -- The field is there.
 use Rattle.std.proofs.Common.{sym}
-use Rattle.csv.proofs.RecordFacts.{field-get, field-there}
-use Rattle.csv.specs.Records.{fields_of}
+use Rattle.csv.{proofs.RecordFacts.{field-get, field-there}, specs.Records.fields_of}
 use Rattle.olap_facts.proofs.pending.Pending.id.Goals as goal
 
 pub unreachable-requires : goal.unreachable-requires

@@ -1,5 +1,4 @@
-use Rattle.std.proofs.Common.{ap, sym, ◌∙◌}
-use Rattle.std.specs.Prelude.{slice_index}
+use Rattle.std.{proofs.Common.{ap, sym, ◌∙◌}, specs.Prelude.slice_index}
 use Rattle.olap_names.specs.Names.{candidates_of, name_at}
 use Rattle.olap_frozen.proofs.LeafLemmas.{name_there, same_texts}
 use Rattle.olap_frozen.proofs.leaves.LeafShape.name_is.Goals as goal

@@ -1,7 +1,4 @@
-use Rattle.std.proofs.Common.{◌≡◌, ap, sym, ◌∙◌}
-use Rattle.std.proofs.lemmas.Int.{to_z-of_z}
-use Rattle.std.proofs.Common.{w64}
-use Rattle.std.specs.Prelude.{slice_index}
+use Rattle.std.{proofs.Common.{◌≡◌, ap, sym, ◌∙◌, w64}, proofs.lemmas.Int.to_z-of_z, specs.Prelude.slice_index}
 use Rattle.olap_ast.specs.Trees.{op_of}
 use Rattle.olap_names.specs.Names.{candidates_of, name_at}
 use Rattle.olap_numerals.specs.Comparing.{is_numbered}

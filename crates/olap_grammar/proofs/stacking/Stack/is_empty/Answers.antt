@@ -1,6 +1,5 @@
 use Rattle.std.proofs.Common.{◌≡◌, arith, length}
-use Rattle.olap_grammar.specs.Frames.{frames}
-use Rattle.olap_grammar.proofs.StackLemmas.{length_frames}
+use Rattle.olap_grammar.{proofs.StackLemmas.length_frames, specs.Frames.frames}
 use Rattle.olap_grammar.proofs.stacking.Stack.is_empty.Goals as goal
 
 pub returns : goal.returns

@@ -1,5 +1,4 @@
-use Rattle.olap_grammar.specs.Frames.{frames}
-use Rattle.olap_grammar.proofs.StackLemmas.{frames_none}
+use Rattle.olap_grammar.{proofs.StackLemmas.frames_none, specs.Frames.frames}
 use Rattle.olap_grammar.proofs.stacking.Stack.new.Goals as goal
 
 pub returns : goal.returns

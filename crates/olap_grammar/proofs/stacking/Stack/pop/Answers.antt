@@ -1,6 +1,5 @@
 use Rattle.std.proofs.Common.{arith}
-use Rattle.olap_grammar.specs.Frames.{frames}
-use Rattle.olap_grammar.proofs.StackLemmas.{popped}
+use Rattle.olap_grammar.{proofs.StackLemmas.popped, specs.Frames.frames}
 use Rattle.olap_grammar.proofs.stacking.Stack.pop.Goals as goal
 
 pub returns : goal.returns

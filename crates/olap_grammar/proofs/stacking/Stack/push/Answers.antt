@@ -1,5 +1,4 @@
-use Rattle.olap_grammar.specs.Frames.{frames}
-use Rattle.olap_grammar.proofs.StackLemmas.{frames_more}
+use Rattle.olap_grammar.{proofs.StackLemmas.frames_more, specs.Frames.frames}
 use Rattle.olap_grammar.proofs.stacking.Stack.push.Goals as goal
 
 pub returns : goal.returns

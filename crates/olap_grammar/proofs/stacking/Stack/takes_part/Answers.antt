@@ -1,6 +1,5 @@
 use Rattle.std.proofs.Common.{sym}
-use Rattle.olap_grammar.specs.Frames.{frames}
-use Rattle.olap_grammar.proofs.StackLemmas.{takes_no_part, takes_part}
+use Rattle.olap_grammar.{proofs.StackLemmas.{takes_no_part, takes_part}, specs.Frames.frames}
 use Rattle.olap_grammar.proofs.stacking.Stack.takes_part.Goals as goal
 
 pub returns-in-Some : goal.returns-in-Some

@@ -1,10 +1,6 @@
-use Rattle.std.proofs.Common.{map, subst, ap, ◌∙◌}
-use Rattle.std.specs.Prelude.{IsSome, ◌↔◌}
-use Rattle.std.specs.List.{position_from}
+use Rattle.std.{proofs.Common.{map, subst, ap, ◌∙◌}, specs.List.position_from, specs.Prelude.{IsSome, ◌↔◌}}
 use Rattle.olap_base.specs.Graph.{Graph, HasEdge}
-use Rattle.olap_graph.specs.Lookups.{joins}
-use Rattle.olap_graph.specs.Listing.{edge_of}
-use Rattle.olap_graph.proofs.PlaceLemmas.{joins-found}
+use Rattle.olap_graph.{proofs.PlaceLemmas.joins-found, specs.Listing.edge_of, specs.Lookups.joins}
 use Rattle.olap_graph.proofs.building.GraphBuilder.edge.Goals as goal
 
 pub returns-clause-has : goal.returns-clause-has

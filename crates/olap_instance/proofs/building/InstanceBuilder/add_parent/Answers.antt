@@ -1,8 +1,6 @@
-use Rattle.std.proofs.Common.{◌∙◌, refl, sym, length, subst, true≢false, rules}
-use Rattle.olap_instance.specs.DraftInside.{draft_of, number_of}
-use Rattle.olap_instance.specs.Drafts.{HasParent, IsDraft}
-use Rattle.olap_instance.proofs.BuilderSteps.{has-list, kept, number-inside, pushed, so-far}
-use Rattle.olap_instance.proofs.DraftLemmas.{draft-parent}
+use Rattle.std.proofs.{Common.{◌∙◌, refl, sym, length, subst, true≢false, rules, arith}, lemmas.Grind.common_steps}
+use Rattle.olap_instance.proofs.{BuilderSteps.{has-list, kept, number-inside, pushed, so-far}, DraftLemmas.draft-parent}
+use Rattle.olap_instance.specs.{DraftInside.{draft_of, number_of}, Drafts.{HasParent, IsDraft}}
 use Rattle.olap_instance.proofs.building.InstanceBuilder.add_parent.Goals as goal
 
 pub returns-then-is_among-clause-duplicate : goal.returns-then-is_among-clause-duplicate
@@ -54,24 +52,7 @@ invariant_of-self-2 c =
     open c use {args.child.0 as x, self.inside.parents.items as lists, index_mut-parents.result.now as v}
 
 pub returns-clause-added : goal.returns-clause-added
-returns-clause-added c =
-    let d = draft_of c.self.inside in
-    let m = rw (← c.self.view_is) at c.requires.child in
-    let l = has-list d lists x c.self.invariant refl m in
-    rw (← c.self.view_is)
-    (pushed d lists refl x c.index_mut-parents.result.now l c.index_mut-parents.ensures.value c.push.new.self
-    c.args.parent c.in_ok-push.ensures.items)
-  where
-    open c use {args.child.0 as x, self.inside.parents.items as lists}
+returns-clause-added c = grind (arith, has-list, pushed)
 
 pub returns-clause-ok : goal.returns-clause-ok
-returns-clause-ok c =
-    let d = draft_of c.self.inside in
-    let m = rw (← c.self.view_is) at c.requires.child in
-    let l = has-list d lists x c.self.invariant refl m in
-    let here = so-far d lists refl x c.index_mut-parents.result.now l c.index_mut-parents.ensures.value in
-    λ has.
-    let t = c.is_among.ensures.1 (rw c.deref.ensures.value (rw here at (rw (← c.self.view_is) at has))) in
-    true≢false (sym t ∙ c.if-is_among.false)
-  where
-    open c use {args.child.0 as x, self.inside.parents.items as lists}
+returns-clause-ok c = grind (arith, common_steps, has-list, so-far)

@@ -1,6 +1,5 @@
-use Rattle.olap_instance.specs.DraftInside.{draft_of}
+use Rattle.olap_instance.{proofs.BuilderSteps.{all-absent, built-made, built-sound}, specs.DraftInside.draft_of}
 use Rattle.olap_instance.specs.Passes.{parents_in}
-use Rattle.olap_instance.proofs.BuilderSteps.{all-absent, built-made, built-sound}
 use Rattle.olap_instance.proofs.building.InstanceBuilder.finish.Goals as goal
 
 pub complete-requires-clause-absent : goal.complete-requires-clause-absent

@@ -1,7 +1,6 @@
 -- No members keep what a draft keeps.
 use Rattle.std.proofs.Common.{◌≡◌, rules, sym, subst}
-use Rattle.olap_instance.specs.Drafts.{Draft, IsDraft, no_members}
-use Rattle.olap_instance.proofs.DraftLemmas.{draft-none}
+use Rattle.olap_instance.{proofs.DraftLemmas.draft-none, specs.Drafts.{Draft, IsDraft, no_members}}
 use Rattle.olap_instance.proofs.building.InstanceBuilder.new.Goals as goal
 
 made : (d e : Draft) → d ≡ e → IsDraft e → IsDraft d

@@ -1,9 +1,6 @@
-use Rattle.std.proofs.Common.{◌≡◌, ◌∙◌, None, false, subst, sym, ap, refl}
-use Rattle.std.specs.Prelude.{slice_index_or}
-use Rattle.olap_instance.specs.DraftInside.{draft_of, parents_told}
-use Rattle.olap_instance.specs.Drafts.{IsDraft, named_refusal}
-use Rattle.olap_instance.proofs.BuilderSteps.{member-absent, with-new}
-use Rattle.olap_instance.proofs.DraftLemmas.{draft-member}
+use Rattle.std.{proofs.Common.{◌≡◌, ◌∙◌, None, false, subst, sym, ap, refl}, specs.Prelude.slice_index_or}
+use Rattle.olap_instance.proofs.{BuilderSteps.{member-absent, with-new}, DraftLemmas.draft-member}
+use Rattle.olap_instance.specs.{DraftInside.{draft_of, parents_told}, Drafts.{IsDraft, named_refusal}}
 use Rattle.olap_instance.proofs.building.InstanceBuilder.put.Goals as goal
 
 pub add_parentless-requires-clause-absent : goal.add_parentless-requires-clause-absent

@@ -1,5 +1,4 @@
-use Rattle.std.proofs.Common.{◌∙◌, ap, sym}
-use Rattle.olap_base.specs.Instance.{Member}
+use Rattle.std.proofs.Common.{arith}
 use Rattle.olap_instance.proofs.LookUps.{in-roster, member-is}
 use Rattle.olap_instance.proofs.instances.Instance.name.Goals as goal
 
@@ -7,7 +6,4 @@ pub name-requires : goal.name-requires
 name-requires c = in-roster c.self.inside c.self.invariant c.args.m.0 (rw (← c.self.view_is) at c.requires)
 
 pub returns : goal.returns
-returns c =
-    let l = rw (← c.self.view_is) at c.requires in
-    let m = member-is c.self.inside c.self.invariant c.args.m.0 l in
-    rw (← c.self.view_is) (c.name.ensures ∙ sym (ap (λ (m : Member). m.name) m))
+returns c = grind (arith, member-is)

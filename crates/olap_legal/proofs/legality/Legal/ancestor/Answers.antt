@@ -1,8 +1,7 @@
 -- The place of the table.
 use Rattle.std.proofs.Common.{◌<◌, length, sym, subst}
 use Rattle.olap_base.specs.Instance.{Instance}
-use Rattle.olap_legal.specs.Ancestors.{IsAncestor}
-use Rattle.olap_legal.proofs.TableLemmas.{ancestor_of}
+use Rattle.olap_legal.{proofs.TableLemmas.ancestor_of, specs.Ancestors.IsAncestor}
 use Rattle.olap_legal.proofs.legality.Legal.ancestor.Goals as goal
 
 pub returns-in-Some-clause-some : goal.returns-in-Some-clause-some

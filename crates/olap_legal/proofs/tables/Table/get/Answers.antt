@@ -1,7 +1,6 @@
 -- What is read in the slot, or nothing.
 use Rattle.std.proofs.Common.{refl, ap, sym, ◌∙◌}
-use Rattle.olap_legal.specs.Slots.{slot_of}
-use Rattle.olap_legal.proofs.LayingLemmas.{cell_absent, cell_read}
+use Rattle.olap_legal.{proofs.LayingLemmas.{cell_absent, cell_read}, specs.Slots.slot_of}
 use Rattle.olap_legal.proofs.tables.Table.get.Goals as goal
 
 pub returns-in-Some : goal.returns-in-Some

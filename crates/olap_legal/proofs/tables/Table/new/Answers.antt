@@ -1,9 +1,6 @@
 -- Each member has room for what it reaches, and nothing stands there.
-use Rattle.std.proofs.Common.{length, ap, ◌∙◌}
-use Rattle.std.proofs.lemmas.List.{length-replicate}
-use Rattle.olap_legal.specs.Rows.{none}
-use Rattle.olap_legal.specs.declared.tables.Table.{Table}
-use Rattle.olap_legal.proofs.LayingLemmas.{cell_empty, table_laid}
+use Rattle.std.proofs.{Common.{length, ap, ◌∙◌}, lemmas.List.length-replicate}
+use Rattle.olap_legal.{proofs.LayingLemmas.{cell_empty, table_laid}, specs.Rows.none, specs.declared.tables.Table.Table}
 use Rattle.olap_legal.proofs.tables.Table.new.Goals as goal
 
 pub returns-clause-laid : goal.returns-clause-laid

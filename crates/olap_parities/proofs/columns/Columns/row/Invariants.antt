@@ -1,7 +1,6 @@
 -- The row so far and the variables left add up to the same.
 use Rattle.std.proofs.Common.{ℕ, Bool}
-use Rattle.olap_parities.specs.Columns.{row_value}
-use Rattle.olap_parities.proofs.ColumnLemmas.{IsSoFar}
+use Rattle.olap_parities.{proofs.ColumnLemmas.IsSoFar, specs.Columns.row_value}
 use Rattle.olap_parities.proofs.columns.Columns.row.Given as goal
 
 abbrev pub invariant-variables : goal.invariant-variables

@@ -1,8 +1,6 @@
 -- What is true of all clauses is true of the rows.
 use Rattle.std.proofs.Common.{Bool, List, Option, sym, subst}
-use Rattle.olap_parities.specs.declared.rows.Row.{Row}
-use Rattle.olap_parities.specs.Known.{Knows}
-use Rattle.olap_parities.specs.Columns.{AreZero}
+use Rattle.olap_parities.specs.{Columns.AreZero, Known.Knows, declared.rows.Row.Row}
 use Rattle.olap_parities.proofs.parities.Parities.derive.Goals as goal
 
 pub returns-clause-none : goal.returns-clause-none

@@ -1,8 +1,6 @@
 -- The place is one of the schema, whose root is kept.
 use Rattle.std.proofs.Common.{subst, sym}
-use Rattle.olap_proof.specs.Asking.{names_in}
-use Rattle.olap_proof.specs.Trees.{IsPlaceOf}
-use Rattle.olap_proof.proofs.TreeTextLemmas.{place_within}
+use Rattle.olap_proof.{proofs.TreeTextLemmas.place_within, specs.Asking.names_in, specs.Trees.IsPlaceOf}
 use Rattle.olap_proof.proofs.cases.Case.closing_line.Goals as goal
 
 pub invariant_of-known : goal.invariant_of-known

@@ -1,6 +1,5 @@
 use Rattle.std.proofs.Common.{subst, sym}
-use Rattle.olap_proof.specs.Places.{Place}
-use Rattle.olap_proof.specs.Seen.{AreOfGraph}
+use Rattle.olap_proof.specs.{Places.Place, Seen.AreOfGraph}
 use Rattle.olap_proof.proofs.places.Place.tabulate.Goals as goal
 
 pub fill_leading-requires-clause-ways : goal.fill_leading-requires-clause-ways

@@ -1,7 +1,6 @@
 use Rattle.std.proofs.Common.{◌∙◌}
 use Rattle.olap_bits.specs.Sets.{members}
-use Rattle.olap_proof.specs.Places.{possible_graph}
-use Rattle.olap_proof.proofs.TellingLemmas.{walk_test}
+use Rattle.olap_proof.{proofs.TellingLemmas.walk_test, specs.Places.possible_graph}
 use Rattle.olap_proof.proofs.telling.Known.may_lead.Goals as goal
 
 pub returns-in-Some : goal.returns-in-Some

@@ -1,8 +1,6 @@
 use Rattle.std.proofs.Common.{◌<◌, Some, length, ap, subst, sym, arith}
 use Rattle.olap_base.specs.Graph.{Graph}
-use Rattle.olap_proof.specs.Places.{truth_of_edge}
-use Rattle.olap_proof.proofs.LineLemmas.{edge_is}
-use Rattle.olap_proof.proofs.TellingLemmas.{no_edge_out}
+use Rattle.olap_proof.{proofs.LineLemmas.edge_is, proofs.TellingLemmas.no_edge_out, specs.Places.truth_of_edge}
 use Rattle.olap_proof.proofs.telling.KnownPartial.edge.Goals as goal
 
 pub returns-then-c-categories : goal.returns-then-c-categories

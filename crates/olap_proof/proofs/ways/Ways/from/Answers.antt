@@ -1,12 +1,9 @@
 -- The table says which ways are there.
-use Rattle.std.proofs.Common.{◌≡◌, ◌∙◌, List, ap, map, subst, sym}
-use Rattle.std.specs.Prelude.{Contains}
+use Rattle.std.{proofs.Common.{◌≡◌, ◌∙◌, List, ap, map, subst, sym}, specs.Prelude.Contains}
 use Rattle.olap_bits.specs.Sets.{members}
 use Rattle.olap_graph.specs.Rows.{row}
-use Rattle.olap_proof.specs.KeptWays.{leading_way, way_kept}
-use Rattle.olap_proof.specs.Places.{Way}
+use Rattle.olap_proof.{proofs.KeptWayLemmas.leads_is, specs.KeptWays.{leading_way, way_kept}, specs.Places.Way}
 use Rattle.olap_proof.specs.Walking.{IsIn}
-use Rattle.olap_proof.proofs.KeptWayLemmas.{leads_is}
 use Rattle.olap_proof.proofs.ways.Ways.from.Goals as goal
 
 pub returns : goal.returns

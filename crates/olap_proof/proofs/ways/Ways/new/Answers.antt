@@ -1,9 +1,7 @@
 -- The tables of no decision.
 use Rattle.std.proofs.Common.{List, map, subst, sym, ap}
-use Rattle.olap_proof.specs.KeptTables.{AreTables}
-use Rattle.olap_proof.specs.KeptWays.{way_kept}
+use Rattle.olap_proof.{proofs.KeptWayLemmas.tables_none, specs.KeptTables.AreTables, specs.KeptWays.way_kept}
 use Rattle.olap_proof.specs.Places.{Way}
-use Rattle.olap_proof.proofs.KeptWayLemmas.{tables_none}
 use Rattle.olap_proof.proofs.ways.Ways.new.Goals as goal
 
 pub invariant_of-result : goal.invariant_of-result

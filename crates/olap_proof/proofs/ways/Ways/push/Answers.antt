@@ -1,9 +1,7 @@
 -- One decision more, or none if there is no memory.
 use Rattle.std.proofs.Common.{◌≡◌, List, None, ap, map, subst, sym}
-use Rattle.olap_proof.specs.KeptTables.{AreTables}
-use Rattle.olap_proof.specs.KeptWays.{way_kept}
-use Rattle.olap_proof.specs.Places.{Way, way_of}
-use Rattle.olap_proof.proofs.KeptWayLemmas.{absent_written, there_written}
+use Rattle.olap_proof.{proofs.KeptWayLemmas.{absent_written, there_written}, specs.KeptTables.AreTables}
+use Rattle.olap_proof.specs.{KeptWays.way_kept, Places.{Way, way_of}}
 use Rattle.olap_proof.proofs.ways.Ways.push.Goals as goal
 
 pub invariant_of-self : goal.invariant_of-self

@@ -1,7 +1,5 @@
-use Rattle.std.proofs.Common.{◌∙◌, sym}
-use Rattle.std.proofs.lemmas.Option.{get_or_from_slice_get}
-use Rattle.olap_records.proofs.Fields.{field-is, field-there}
-use Rattle.olap_records.specs.CutterInside.{row_of}
+use Rattle.std.proofs.{Common.{◌∙◌, sym}, lemmas.Option.get_or_from_slice_get}
+use Rattle.olap_records.{proofs.Fields.{field-is, field-there}, specs.CutterInside.row_of}
 use Rattle.olap_records.proofs.cutting.Cutter.field.Goals as goal
 
 pub unreachable-requires : goal.unreachable-requires

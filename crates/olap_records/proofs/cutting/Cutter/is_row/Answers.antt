@@ -1,7 +1,5 @@
-use Rattle.olap_records.specs.CutterInside.{row_of}
-use Rattle.std.proofs.Common.{◌≡◌, ◌∙◌, below_more, length, map, sym, refl, arith}
-use Rattle.std.proofs.lemmas.List.{length-map}
-use Rattle.olap_records.proofs.SameRow.{field-other, field-same, same-rows}
+use Rattle.olap_records.{proofs.SameRow.{field-other, field-same, same-rows}, specs.CutterInside.row_of}
+use Rattle.std.proofs.{Common.{◌≡◌, ◌∙◌, below_more, length, map, sym, refl, arith}, lemmas.List.length-map}
 use Rattle.olap_records.proofs.cutting.Cutter.is_row.Goals as goal
 
 pub returns-then-ne : goal.returns-then-ne

@@ -1,9 +1,9 @@
 -- One byte more, and the bytes after it that only join the field.
 use Rattle.std.proofs.Common.{◌+◌, ◌++◌, ◌∙◌, ap, arith, sym, false, []}
 use Rattle.csv.specs.Records.{fields_of, partial_of}
-use Rattle.olap_records.specs.CutterInside.{stand_by, stand_of}
 use Rattle.olap_records.proofs.NextLemmas.{ended-field, ended-record, skipped}
 use Rattle.olap_records.proofs.RunLemmas.{between, copied-at-hand, copied-run, none-at-hand, run-at-hand}
+use Rattle.olap_records.specs.CutterInside.{stand_by, stand_of}
 use Rattle.olap_records.proofs.cutting.Cutter.next.Goals as goal
 
 pub returns-in-EndRecord-clause-stands : goal.returns-in-EndRecord-clause-stands

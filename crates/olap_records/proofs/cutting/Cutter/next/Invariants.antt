@@ -1,9 +1,7 @@
 -- The cutter stands where the bytes so far lead, with those at hand that aren't copied yet.
 use Rattle.std.proofs.Common.{◌≡◌, ◌≤◌, ◌-◌, ◌++◌, false, length, take, []}
 use Rattle.csv.specs.Records.{fields_of, partial_of}
-use Rattle.olap_records.specs.CutterInside.{stand_by, stand_of}
-use Rattle.olap_records.specs.Standing.{standing}
-use Rattle.olap_records.proofs.RunLemmas.{between}
+use Rattle.olap_records.{proofs.RunLemmas.between, specs.CutterInside.{stand_by, stand_of}, specs.Standing.standing}
 use Rattle.olap_records.proofs.cutting.Cutter.next.Given as goal
 
 abbrev pub invariant-bytes : goal.invariant-bytes

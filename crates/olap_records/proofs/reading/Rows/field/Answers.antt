@@ -1,5 +1,4 @@
-use Rattle.std.proofs.Common.{◌∙◌, sym}
-use Rattle.std.proofs.lemmas.Option.{get_or_from_slice_get}
+use Rattle.std.proofs.{Common.{◌∙◌, sym}, lemmas.Option.get_or_from_slice_get}
 use Rattle.csv.specs.Records.{fields_of}
 use Rattle.olap_records.proofs.Fields.{field-is, field-there}
 use Rattle.olap_records.proofs.reading.Rows.field.Goals as goal

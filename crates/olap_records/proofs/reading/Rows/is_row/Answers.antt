@@ -1,5 +1,4 @@
-use Rattle.std.proofs.Common.{◌≡◌, ◌∙◌, below_more, length, map, sym, refl, arith}
-use Rattle.std.proofs.lemmas.List.{length-map}
+use Rattle.std.proofs.{Common.{◌≡◌, ◌∙◌, below_more, length, map, sym, refl, arith}, lemmas.List.length-map}
 use Rattle.olap_records.proofs.SameRow.{field-other, field-same, same-rows}
 use Rattle.olap_records.proofs.reading.Rows.is_row.Goals as goal
 

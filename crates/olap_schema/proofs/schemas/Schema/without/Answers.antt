@@ -1,9 +1,7 @@
-use Rattle.std.proofs.Common.{ap, map, subst, sym, ◌∙◌, ◌<◌, length}
-use Rattle.std.specs.Prelude.{remove}
+use Rattle.std.{proofs.Common.{ap, map, subst, sym, ◌∙◌, ◌<◌, length}, specs.Prelude.remove}
 use Rattle.olap_ast.specs.Trees.{constraint_of}
-use Rattle.olap_schema.specs.Schemas.{schema_of}
+use Rattle.olap_schema.{proofs.WithoutLemmas.same_readable, specs.Schemas.schema_of}
 use Rattle.olap_schema.specs.declared.schemas.Schema.{Schema}
-use Rattle.olap_schema.proofs.WithoutLemmas.{same_readable}
 use Rattle.olap_schema.proofs.schemas.Schema.without.Goals as goal
 
 pub invariant_of-result : goal.invariant_of-result

@@ -1,11 +1,10 @@
-use Rattle.std.proofs.Common.{List, ◌≤◌, ◌∙◌, ap, true≢false, get_or, length, refl, sym, subst, arith}
+use Rattle.std.proofs.Common.{List, ◌≤◌, ◌∙◌, ap, true≢false, get_or, length, refl, sym, arith}
 use Rattle.olap_schema.specs.Schemas.{schema_of}
-use Rattle.olap_summ.specs.Decisions.{HasSizesOf, IsAskedOf, asked_by}
-use Rattle.olap_summ.specs.declared.deciding.Asked.{Asked}
 use Rattle.olap_summ.proofs.DecideLemmas.{IsKept, IsShown, IsTurn, kept, put_back, turn, with_searches}
 use Rattle.olap_summ.proofs.DecisionLemmas.{all_asked, answer_is_yes, sized_for}
-use Rattle.olap_summ.proofs.deciding.Decision.decide.Goals as goal
 use Rattle.olap_summ.proofs.deciding.Decision.decide.Goals.{After-asked-item, After-first, At-searches, Then-first}
+use Rattle.olap_summ.specs.{Decisions.{IsAskedOf, asked_by}, declared.deciding.Asked.Asked}
+use Rattle.olap_summ.proofs.deciding.Decision.decide.Goals as goal
 
 -- the next search is one for the schema and its question
 asked : (c : After-asked-item) → IsAskedOf (schema_of c.args.schema.now) (asked_by c.args.questions.now)
@@ -19,7 +18,7 @@ pub first-requires-clause-sizes : goal.first-requires-clause-sizes
 first-requires-clause-sizes c =
     sized_for (schema_of c.args.schema.now) c.args.questions.now c.args.self.now _ c.searches.into c.requires.made
     (asked (goal.at.first-requires-clause-sizes c).After-asked-item)
-    (subst (HasSizesOf c.args.self.now) (sym c.searches.invariant.stays) c.requires.sizes)
+    (rw c.searches.invariant.stays c.requires.sizes)
 
 -- the searches as it comes back
 abbrev after : After-first → List Asked
@@ -92,7 +91,7 @@ returns-clause-yes c = λ t. absurd (true≢false (sym t))
 pub returns-clause-sizes : goal.returns-clause-sizes
 returns-clause-sizes c =
     (so_far (goal.at.returns-clause-sizes c).At-searches).sizes c.searches.into
-    (subst (HasSizesOf c.args.self.now) (sym c.searches.invariant.stays) c.requires.sizes)
+    (rw c.searches.invariant.stays c.requires.sizes)
 
 pub returns-clause-made : goal.returns-clause-made
 returns-clause-made c = (so_far (goal.at.returns-clause-made c).At-searches).made

@@ -1,8 +1,7 @@
 -- The searches before found nothing, and all stand in their places.
 use Rattle.std.proofs.Common.{◌≡◌}
 use Rattle.olap_schema.specs.Schemas.{schema_of}
-use Rattle.olap_summ.specs.Decisions.{asked_by}
-use Rattle.olap_summ.proofs.DecisionLemmas.{AreThose, NoneAmong}
+use Rattle.olap_summ.{proofs.DecisionLemmas.{AreThose, NoneAmong}, specs.Decisions.asked_by}
 use Rattle.olap_summ.proofs.deciding.Decision.decide.Given as goal
 
 abbrev pub invariant-searches : goal.invariant-searches

@@ -1,6 +1,5 @@
 use Rattle.std.proofs.Common.{ap, below_more, sym, ◌∙◌}
-use Rattle.olap_summ.specs.declared.deciding.Asked.{Asked}
-use Rattle.olap_summ.proofs.DecisionLemmas.{first_names, place_within, root_at}
+use Rattle.olap_summ.{proofs.DecisionLemmas.{first_names, place_within, root_at}, specs.declared.deciding.Asked.Asked}
 use Rattle.olap_summ.proofs.deciding.Decision.place_of.Goals as goal
 
 pub searches-preserved : goal.searches-preserved

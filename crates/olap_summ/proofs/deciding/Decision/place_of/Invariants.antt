@@ -1,6 +1,5 @@
 -- No search before is of this root.
-use Rattle.std.proofs.Common.{◌≡◌, ◌<◌, ◌-◌, ℕ, length}
-use Rattle.std.specs.Prelude.{slice_index}
+use Rattle.std.{proofs.Common.{◌≡◌, ◌<◌, ◌-◌, ℕ, length}, specs.Prelude.slice_index}
 use Rattle.olap_summ.specs.Decisions.{roots_in}
 use Rattle.olap_summ.proofs.deciding.Decision.place_of.Given as goal
 

@@ -1,8 +1,6 @@
-use Rattle.std.proofs.Common.{◌∙◌, ap, refl, subst, sym, true≢false}
-use Rattle.std.specs.Prelude.{All, IfErr}
+use Rattle.std.{proofs.Common.{◌∙◌, ap, refl, subst, sym, true≢false}, specs.Prelude.{All, IfErr}}
 use Rattle.olap_base.specs.Graph.{IsCategory}
-use Rattle.olap_ast.specs.Summarizable.{not_by_one}
-use Rattle.olap_ast.specs.Trees.{numbers_of}
+use Rattle.olap_ast.specs.{Summarizable.not_by_one, Trees.numbers_of}
 use Rattle.olap_schema.specs.Schemas.{schema_of}
 use Rattle.olap_summ.proofs.questioning.Questions.of.Goals as goal
 

@@ -1,5 +1,4 @@
-use Rattle.std.proofs.Common.{◌≡◌, true, ap, subst, ◌∙◌}
-use Rattle.std.specs.Prelude.{slice_set}
+use Rattle.std.{proofs.Common.{◌≡◌, true, ap, subst, ◌∙◌}, specs.Prelude.slice_set}
 use Rattle.olap_graph.specs.Lookups.{edge_at}
 use Rattle.olap_schema.specs.Schemas.{schema_of}
 use Rattle.olap_summ.proofs.SightLemmas.{edge_keeps, seen_chosen}

@@ -1,5 +1,4 @@
-use Rattle.std.proofs.Common.{true, ap, refl}
-use Rattle.std.specs.Prelude.{slice_set}
+use Rattle.std.{proofs.Common.{true, ap, refl}, specs.Prelude.slice_set}
 use Rattle.olap_schema.specs.Schemas.{schema_of}
 use Rattle.olap_summ.proofs.SightLemmas.{root_keeps, root_marked, seen_root}
 use Rattle.olap_summ.proofs.seeing.Seen.mark_root.Goals as goal

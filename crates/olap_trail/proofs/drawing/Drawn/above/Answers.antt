@@ -1,8 +1,7 @@
 -- What is beyond the category, and itself.
 use Rattle.std.proofs.Common.{◌+◌, ◌<◌, length, map, subst, sym, ap}
 use Rattle.olap_bits.specs.Sets.{members}
-use Rattle.olap_trail.specs.Drawing.{Drawing, IsAbove, edge_of}
-use Rattle.olap_trail.proofs.TableLemmas.{above_is, beyond_read}
+use Rattle.olap_trail.{proofs.TableLemmas.{above_is, beyond_read}, specs.Drawing.{Drawing, IsAbove, edge_of}}
 use Rattle.olap_trail.proofs.drawing.Drawn.above.Goals as goal
 
 pub returns : goal.returns

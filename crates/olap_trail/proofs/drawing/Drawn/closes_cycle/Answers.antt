@@ -1,9 +1,8 @@
 -- There was a cycle, or the new edge's parent leads to its child.
-use Rattle.std.proofs.Common.{◌≡◌, ◌↔◌, length, map, subst, arith}
+use Rattle.std.proofs.{Common.{◌≡◌, ◌↔◌, length, map, subst, arith}, lemmas.List.length-map}
 use Rattle.std.specs.Prelude.{IsTrue}
-use Rattle.std.proofs.lemmas.List.{length-map}
-use Rattle.olap_trail.specs.Drawing.{Drawing, IsCyclic, edge_of}
 use Rattle.olap_trail.proofs.TableLemmas.{closed_is, closes_is, cycle_read}
+use Rattle.olap_trail.specs.Drawing.{Drawing, IsCyclic, edge_of}
 use Rattle.olap_trail.proofs.drawing.Drawn.closes_cycle.Goals as goal
 
 pub returns-then-index : goal.returns-then-index

@@ -1,8 +1,7 @@
 -- One edge more is looked at.
 use Rattle.std.proofs.Common.{◌<◌, ◌∙◌, ℕ, get_or, map, refl, subst, ap, arith, rules}
+use Rattle.olap_trail.proofs.{BypassLemmas.{holds_is, joins_at, none_more, nowhere}, WalkLemmas.{joins_more, more}}
 use Rattle.olap_trail.specs.Drawing.{Drawing, Joins, edge_of}
-use Rattle.olap_trail.proofs.BypassLemmas.{holds_is, joins_at, none_more}
-use Rattle.olap_trail.proofs.WalkLemmas.{joins_more, more}
 use Rattle.olap_trail.proofs.drawing.Drawn.makes_shortcut.Goals as goal
 
 pub edges-init : goal.edges-init
@@ -16,10 +15,8 @@ edges-init g c = record {
 
 pub is_bypassed-requires : goal.is_bypassed-requires
 is_bypassed-requires g c =
-    let x = get_or items c.edges.first-index (record { child = record { 0 = 0 }; parent = record { 0 = 0 } }) in
-    let j = joins_at items c.args.self.now.edges c.edges.first-index
-    (record { child = record { 0 = 0 }; parent = record { 0 = 0 } })
-    c.edges.invariant.items c.edges-test.true in
+    let x = get_or items c.edges.first-index nowhere in
+    let j = joins_at items _ c.edges.first-index nowhere c.edges.invariant.items c.edges-test.true in
     let w = c.edges.invariant.within x.child.0 x.parent.0 j in
     (omega arith, (search (rules, width), (w.0, (w.1, (c.requires.parent, c.above-through.ensures)))))
   where
@@ -27,31 +24,27 @@ is_bypassed-requires g c =
 
 pub returns-then-is_bypassed : goal.returns-then-is_bypassed
 returns-then-is_bypassed g c =
-    let x = get_or items c.edges.first-index (record { child = record { 0 = 0 }; parent = record { 0 = 0 } }) in
-    let j = joins_at items es c.edges.first-index (record { child = record { 0 = 0 }; parent = record { 0 = 0 } })
-    c.edges.invariant.items c.edges-test.true in (
+    let x = get_or items c.edges.first-index nowhere in
+    let j = joins_at items _ c.edges.first-index nowhere c.edges.invariant.items c.edges-test.true in (
       λ t. record {
         child = x.child.0;
         through = x.parent.0;
-        first = joins_more es c.args.new.child.0 c.args.new.parent.0 x.child.0 x.parent.0 j;
+        first = joins_more c.args.self.now.edges c.args.new.child.0 c.args.new.parent.0 x.child.0 x.parent.0 j;
         bypass = c.is_bypassed.ensures.0 c.if-is_bypassed.true;
       },
       λ t. refl,
     )
   where
-    open c use {args.self.now.edges as es, deref-first-items.result.now as items}
+    open c use {deref-first-items.result.now as items}
 
 pub edges-preserved : goal.edges-preserved
-edges-preserved g c =
-    let es = c.args.self.now.edges in
-    record {
-      items = c.edges.invariant.items;
-      within = c.edges.invariant.within;
-      none =
-          none_more c.deref-first-items.result.now (more es c.args.new.child.0 c.args.new.parent.0) c.edges.first-index
-          (record { child = record { 0 = 0 }; parent = record { 0 = 0 } }) c.is_bypassed.result c.if-is_bypassed.false
-          c.edges-test.true c.is_bypassed.ensures c.edges.invariant.none;
-    }
+edges-preserved g c = record {
+  items = c.edges.invariant.items;
+  within = c.edges.invariant.within;
+  none = none_more c.deref-first-items.result.now (more c.args.self.now.edges c.args.new.child.0 c.args.new.parent.0)
+      c.edges.first-index nowhere c.is_bypassed.result c.if-is_bypassed.false c.edges-test.true c.is_bypassed.ensures
+      c.edges.invariant.none;
+}
 
 pub returns : goal.returns
 returns g c =

@@ -1,8 +1,6 @@
 -- None of the edges so far is bypassed.
 use Rattle.std.proofs.Common.{◌≡◌, ◌<◌, ℕ, map}
-use Rattle.olap_trail.specs.Drawing.{Joins, edge_of}
-use Rattle.olap_trail.proofs.BypassLemmas.{NoneBypassed}
-use Rattle.olap_trail.proofs.WalkLemmas.{more}
+use Rattle.olap_trail.{proofs.BypassLemmas.NoneBypassed, proofs.WalkLemmas.more, specs.Drawing.{Joins, edge_of}}
 use Rattle.olap_trail.proofs.drawing.Drawn.makes_shortcut.Given as goal
 
 abbrev pub invariant-edges : goal.invariant-edges

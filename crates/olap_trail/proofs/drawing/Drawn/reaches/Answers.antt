@@ -1,8 +1,7 @@
 -- What is beyond the category.
 use Rattle.std.proofs.Common.{◌+◌, ◌<◌, ◌∙◌, length, subst, sym, ap, inl, inr}
 use Rattle.olap_bits.specs.Sets.{members}
-use Rattle.olap_trail.specs.Drawing.{Drawing, IsBeyond}
-use Rattle.olap_trail.proofs.TableLemmas.{beyond_read}
+use Rattle.olap_trail.{proofs.TableLemmas.beyond_read, specs.Drawing.{Drawing, IsBeyond}}
 use Rattle.olap_trail.proofs.drawing.Drawn.reaches.Goals as goal
 
 pub returns-else-c-d : goal.returns-else-c-d

@@ -1,9 +1,7 @@
 -- What the edges that were decided present say, with this one.
-use Rattle.std.proofs.Common.{◌↔◌, ◌++◌, ◌∷◌, [], List, subst, sym}
-use Rattle.std.specs.Prelude.{IsTrue}
+use Rattle.std.{proofs.Common.{◌↔◌, ◌++◌, ◌∷◌, [], List, subst, sym}, specs.Prelude.IsTrue}
 use Rattle.olap_base.specs.Graph.{Edge}
-use Rattle.olap_trail.specs.Decisions.{Decided, present_edges}
-use Rattle.olap_trail.specs.Drawing.{IsCyclic, edge_of}
+use Rattle.olap_trail.specs.{Decisions.{Decided, present_edges}, Drawing.{IsCyclic, edge_of}}
 use Rattle.olap_trail.proofs.trails.Trail.closes_cycle.Goals as goal
 
 pub returns : goal.returns

@@ -1,10 +1,8 @@
 -- What the edges that were decided present say, with this one.
-use Rattle.std.proofs.Common.{◌↔◌, ◌++◌, ◌∷◌, [], List, subst, sym}
-use Rattle.std.specs.Prelude.{IsTrue}
+use Rattle.std.{proofs.Common.{◌↔◌, ◌++◌, ◌∷◌, [], List, subst, sym}, specs.Prelude.IsTrue}
 use Rattle.olap_base.specs.Graph.{Edge}
-use Rattle.olap_trail.specs.Decisions.{Decided, present_edges, present_with}
+use Rattle.olap_trail.{proofs.DecisionLemmas.shortcut_is, specs.Decisions.{Decided, present_edges, present_with}}
 use Rattle.olap_trail.specs.Drawing.{HoldsBypass, edge_of}
-use Rattle.olap_trail.proofs.DecisionLemmas.{shortcut_is}
 use Rattle.olap_trail.proofs.trails.Trail.makes_shortcut.Goals as goal
 
 pub returns : goal.returns

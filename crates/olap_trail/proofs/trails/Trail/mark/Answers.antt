@@ -1,9 +1,6 @@
 -- There are no more decisions than edges.
-use Rattle.std.proofs.Common.{arith}
-use Rattle.std.proofs.lemmas.List.{length-map}
-use Rattle.olap_trail.specs.Inside.{decided}
-use Rattle.olap_trail.specs.Trails.{decision_of}
-use Rattle.olap_trail.proofs.CountingLemmas.{few_decisions}
+use Rattle.std.proofs.{Common.arith, lemmas.List.length-map}
+use Rattle.olap_trail.{proofs.CountingLemmas.few_decisions, specs.Inside.decided, specs.Trails.decision_of}
 use Rattle.olap_trail.proofs.trails.Trail.mark.Goals as goal
 
 pub overflow_cast-result : goal.overflow_cast-result

@@ -2,10 +2,8 @@
 use Rattle.std.proofs.Common.{◌↔◌, List, subst}
 use Rattle.olap_bits.specs.Sets.{members}
 use Rattle.olap_base.specs.Graph.{Edge}
-use Rattle.olap_trail.specs.Decisions.{Decided, IsPresent, present_edges}
-use Rattle.olap_trail.specs.Drawing.{IsAbove, IsIn}
-use Rattle.olap_trail.specs.Inside.{decided}
-use Rattle.olap_trail.proofs.DecisionLemmas.{reaches_is}
+use Rattle.olap_trail.{proofs.DecisionLemmas.reaches_is, specs.Decisions.{Decided, IsPresent, present_edges}}
+use Rattle.olap_trail.specs.{Drawing.{IsAbove, IsIn}, Inside.decided}
 use Rattle.olap_trail.proofs.trails.Trail.present.Goals as goal
 
 pub returns : goal.returns

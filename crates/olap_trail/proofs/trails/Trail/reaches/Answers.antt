@@ -1,12 +1,8 @@
 -- What the edges that were decided present say.
-use Rattle.std.proofs.Common.{◌≡◌, ◌⊎◌, ◌↔◌, List, subst}
-use Rattle.std.specs.Prelude.{IsTrue}
-use Rattle.olap_base.specs.Graph.{CategoryReaches, Edge}
-use Rattle.olap_base.specs.Steps.{Climb}
-use Rattle.olap_trail.specs.Decisions.{Decided, present_edges, present_graph}
-use Rattle.olap_trail.specs.Drawing.{Joins}
-use Rattle.olap_trail.specs.Inside.{decided}
-use Rattle.olap_trail.proofs.DecisionLemmas.{reaches_is}
+use Rattle.std.{proofs.Common.{◌≡◌, ◌⊎◌, ◌↔◌, List, subst}, specs.Prelude.IsTrue}
+use Rattle.olap_base.specs.{Graph.{CategoryReaches, Edge}, Steps.Climb}
+use Rattle.olap_trail.{proofs.DecisionLemmas.reaches_is, specs.Decisions.{Decided, present_edges, present_graph}}
+use Rattle.olap_trail.specs.{Drawing.Joins, Inside.decided}
 use Rattle.olap_trail.proofs.trails.Trail.reaches.Goals as goal
 
 pub returns : goal.returns

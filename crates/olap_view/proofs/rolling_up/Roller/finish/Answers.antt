@@ -1,15 +1,11 @@
 -- The views of the tally are those of the text, or its first fault.
-use Rattle.std.proofs.Common.{◌≡◌, ℕ, ◌∷◌, [], List, ap, subst, sym}
-use Rattle.std.proofs.lemmas.Result.{err_from_is_err_and}
+use Rattle.std.proofs.{Common.{◌≡◌, ℕ, ◌∷◌, [], List, ap, subst, sym}, lemmas.Result.err_from_is_err_and}
 use Rattle.olap_base.specs.Views.{Fact}
-use Rattle.olap_facts.specs.Feeding.{facts_if}
-use Rattle.olap_facts.specs.Seen.{fact_of}
-use Rattle.olap_view.specs.RollingUp.{HasTaken}
-use Rattle.olap_view.specs.Seen.{each_view_of}
-use Rattle.olap_view.specs.Tallies.{Tallied}
+use Rattle.olap_facts.specs.{Feeding.facts_if, Seen.fact_of}
 use Rattle.olap_view.proofs.RollerLemmas.{IsAdded, no-fact, none-added, refused-by, rolled-up}
+use Rattle.olap_view.{proofs.rolling_up.Roller.finish.Goals.{in-Some, in_default}, specs.RollingUp.HasTaken}
+use Rattle.olap_view.specs.{Seen.each_view_of, Tallies.Tallied}
 use Rattle.olap_view.proofs.rolling_up.Roller.finish.Goals as goal
-use Rattle.olap_view.proofs.rolling_up.Roller.finish.Goals.{in-Some, in_default}
 
 pub returns-in_err-fact-clause-views : goal.returns-in_err-fact-clause-views
 returns-in_err-fact-clause-views c = λ g i categories fed h.

@@ -1,11 +1,8 @@
 -- A piece more, or a refusal of the whole text.
-use Rattle.std.proofs.Common.{List, ◌++◌, map, subst, sym}
-use Rattle.std.proofs.lemmas.Result.{err_from_is_err_and}
+use Rattle.std.proofs.{Common.{List, ◌++◌, map, subst, sym}, lemmas.Result.err_from_is_err_and}
 use Rattle.olap_facts.specs.Seen.{fact_of}
+use Rattle.olap_view.{proofs.RollerLemmas.{refused-by, taken-more}, specs.RollingUp.HasTaken, specs.Tallies.StandsFor}
 use Rattle.olap_facts.specs.declared.tables.Fact as told
-use Rattle.olap_view.specs.RollingUp.{HasTaken}
-use Rattle.olap_view.specs.Tallies.{StandsFor}
-use Rattle.olap_view.proofs.RollerLemmas.{refused-by, taken-more}
 use Rattle.olap_view.proofs.rolling_up.Roller.take.Goals as goal
 
 pub returns-in_err-take : goal.returns-in_err-take

@@ -1,19 +1,13 @@
 -- One member more, which gives a row or none.
-use Rattle.std.proofs.Common.{◌≡◌, ◌<◌, ℕ, ◌∷◌, [], List, length, true, false, Option, Some, None, refl, ap, sym, subst, ◌∙◌, arith}
-use Rattle.std.specs.Prelude.{◌==◌, All, filter, filter_map}
-use Rattle.std.specs.List.{range_with_len}
-use Rattle.std.specs.Option.{option_map}
-use Rattle.std.proofs.lemmas.List.{map-append}
-use Rattle.std.proofs.lemmas.List.Elements.{All-push}
-use Rattle.olap_base.specs.Instance.{category_of}
-use Rattle.olap_base.specs.Views.{Row, row_at}
-use Rattle.olap_view.specs.Seen.{row_of, rows_of}
-use Rattle.olap_view.specs.StoredRows.{stored_at}
-use Rattle.olap_view.specs.declared.views.Row as told
+use Rattle.std.proofs.Common.{rules, ◌<◌, ℕ, ◌∷◌, [], List, length, true, false, Option, Some, None, refl, ap, sym, subst, ◌∙◌, arith}
+use Rattle.std.{proofs.lemmas.List.map-append, proofs.lemmas.List.Elements.All-push, specs.Option.option_map}
+use Rattle.std.specs.Prelude.{◌==◌, All}
+use Rattle.olap_base.{proofs.GeneralLemmas.none_from_never, specs.Instance.category_of, specs.Views.{Row, row_at}}
 use Rattle.olap_view.proofs.ViewingLemmas.{fails, list_step, passes}
-use Rattle.olap_view.proofs.stored_rows.StoredRows.view.Goals as goal
 use Rattle.olap_view.proofs.stored_rows.StoredRows.view.Goals.{then-category-c+in-Some+in_ok-push, then-category-c+in_default, else-category-c}
-use Rattle.olap_base.proofs.GeneralLemmas.{none_from_never}
+use Rattle.olap_view.specs.{Seen.{row_of, rows_of}, StoredRows.stored_at}
+use Rattle.olap_view.specs.declared.views.Row as told
+use Rattle.olap_view.proofs.stored_rows.StoredRows.view.Goals as goal
 
 pub rows-preserved : goal.rows-preserved
 rows-preserved c =
@@ -61,17 +55,7 @@ rows-preserved c =
     open c use {args.instance.now as i, rows.invariant.members}
 
 pub returns-clause-view : goal.returns-clause-view
-returns-clause-view c =
-    let i = c.args.instance.now in
-    let h : ℕ → Option (Row ℕ) = λ y. row_at y (stored_at c.args.self.now y) in
-    let p = λ (y : ℕ). category_of i y == c.args.c.0 in
-    let all : c.rows.y ≡ length c.args.instance.now = let t = c.rows-test.false in let a = c.rows.auto.y-end in
-    let m = c.members-y-end.ensures.count in omega arith in
-    ap (λ (rows : List (Row ℕ)). record { target = c.args.c.0; rows = rows })
-    (ap rows_of c.from_vec.ensures ∙ c.rows.invariant.so_far
-    ∙ ap (λ n. filter_map h (filter p (range_with_len 0 n))) all)
+returns-clause-view c = grind arith
 
 pub returns-clause-members : goal.returns-clause-members
-returns-clause-members c =
-    subst (λ (l : List told.Row). All (λ r. r.member.0 < length c.args.instance.now) l) (sym c.from_vec.ensures)
-    c.rows.invariant.members
+returns-clause-members c = search rules

@@ -1,11 +1,8 @@
 -- The rows of the members so far.
-use Rattle.std.proofs.Common.{◌≡◌, ◌<◌, length}
+use Rattle.std.{proofs.Common.{◌≡◌, ◌<◌, length}, specs.List.range_with_len}
 use Rattle.std.specs.Prelude.{◌==◌, All, filter, filter_map}
-use Rattle.std.specs.List.{range_with_len}
-use Rattle.olap_base.specs.Instance.{category_of}
-use Rattle.olap_base.specs.Views.{row_at}
-use Rattle.olap_view.specs.Seen.{rows_of}
-use Rattle.olap_view.specs.StoredRows.{stored_at}
+use Rattle.olap_base.specs.{Instance.category_of, Views.row_at}
+use Rattle.olap_view.specs.{Seen.rows_of, StoredRows.stored_at}
 use Rattle.olap_view.proofs.stored_rows.StoredRows.view.Given as goal
 
 abbrev pub invariant-rows : goal.invariant-rows

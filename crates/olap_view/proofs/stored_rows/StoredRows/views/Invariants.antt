@@ -1,9 +1,6 @@
 -- The views of the categories so far.
-use Rattle.std.proofs.Common.{◌≡◌, ◌<◌, length, map, take}
-use Rattle.std.specs.Prelude.{All}
-use Rattle.olap_view.specs.Seen.{each_view_of, ids}
-use Rattle.olap_view.specs.StoredRows.{stored_at}
-use Rattle.olap_view.specs.Tables.{view_by}
+use Rattle.std.{proofs.Common.{◌≡◌, ◌<◌, length, map, take}, specs.Prelude.All}
+use Rattle.olap_view.specs.{Seen.{each_view_of, ids}, StoredRows.stored_at, Tables.view_by}
 use Rattle.olap_view.proofs.stored_rows.StoredRows.views.Given as goal
 
 abbrev pub invariant-categories : goal.invariant-categories

@@ -1,11 +1,10 @@
 -- No number wraps where summaries are joined.
-use Rattle.std.proofs.Common.{◌≡◌, ◌+ℤ◌, to_z, of_z, arith, rules, w64, ◌∙◌}
+use Rattle.std.proofs.{Common.{◌≡◌, ◌+ℤ◌, to_z, of_z, arith, rules, w64, ◌∙◌}, lemmas.Int.{ints, to_z-of_z}}
 use Rattle.std.specs.Int.{int_min, int_max}
+use Rattle.olap_base.proofs.GeneralLemmas.{in_64_bits}
 use mir.Val.{SFits}
 use mir.Syntax.{w128}
-use Rattle.std.proofs.lemmas.Int.{ints, to_z-of_z}
 use Rattle.olap_view.proofs.summaries.Summary.joined.Goals as goal
-use Rattle.olap_base.proofs.GeneralLemmas.{in_64_bits}
 
 pub returns : goal.returns
 returns c =

@@ -1,19 +1,13 @@
 -- One row more.
 use Rattle.std.proofs.Common.{◌≡◌, ◌<◌, ℕ, List, Some, None, cond, length, get_or, map, take, pos, ap, sym, subst, ◌∙◌, arith}
+use Rattle.std.{proofs.lemmas.List.{get_or-map, length-map, take-map, take_all}, specs.Option.option_or}
 use Rattle.std.specs.Prelude.{◌==◌, All, AllPairs, Contains}
-use Rattle.std.specs.Option.{option_or}
-use Rattle.std.proofs.lemmas.List.{get_or-map, length-map, take-map, take_all}
-use Rattle.olap_base.specs.Instance.{Instance, IsMemberOf}
-use Rattle.olap_base.specs.Summaries.{Summary}
-use Rattle.olap_base.specs.Views.{Row}
-use Rattle.olap_view.specs.Seen.{row_of, rows_of, view_of}
-use Rattle.olap_view.specs.Stores.{IsInFileOrder, summary_in}
-use Rattle.olap_view.specs.SummaryTables.{stands_at}
-use Rattle.olap_view.specs.Tables.{IsAmong}
+use Rattle.olap_base.specs.{Instance.{Instance, IsMemberOf}, Summaries.Summary, Views.Row}
+use Rattle.olap_view.proofs.{SeenLemmas.{each_row, rows_more_is}, SummaryTableLemmas.{filled_more, not_before}}
+use Rattle.olap_view.specs.{Seen.{row_of, rows_of, view_of}, Stores.{IsInFileOrder, summary_in}}
+use Rattle.olap_view.specs.{SummaryTables.stands_at, Tables.IsAmong}
 use Rattle.olap_view.specs.declared.views.Row as told_row
 use Rattle.olap_view.specs.declared.views.View as told_view
-use Rattle.olap_view.proofs.SeenLemmas.{each_row, rows_more_is}
-use Rattle.olap_view.proofs.SummaryTableLemmas.{filled_more, not_before}
 use Rattle.olap_view.proofs.summary_tables.SummaryTable.fill.Goals as goal
 
 -- what rows have past their end
@@ -74,7 +68,4 @@ rows-preserved c =
     open c use {rows.invariant as inv, rows.row-index as k, items-row-items.result.now as read}
 
 pub returns-clause-at : goal.returns-clause-at
-returns-clause-at c = λ y m.
-    c.rows.invariant.at y m
-    ∙ ap (λ (l : List told_row.Row). option_or (summary_in (rows_of l) y) (stands_at c.args.self.now y))
-    (take_all c.rows.row-index c.items-row-items.result.now c.rows-test.false ∙ c.items-row-items.ensures)
+returns-clause-at c = grind (arith, take_all)

@@ -1,10 +1,6 @@
 -- The rows so far stand in the table.
-use Rattle.std.proofs.Common.{◌≡◌, ℕ, take}
-use Rattle.std.specs.Option.{option_or}
-use Rattle.olap_view.specs.Seen.{rows_of}
-use Rattle.olap_view.specs.Stores.{summary_in}
-use Rattle.olap_view.specs.SummaryTables.{stands_at}
-use Rattle.olap_view.specs.Tables.{IsAmong}
+use Rattle.std.{proofs.Common.{◌≡◌, ℕ, take}, specs.Option.option_or}
+use Rattle.olap_view.specs.{Seen.rows_of, Stores.summary_in, SummaryTables.stands_at, Tables.IsAmong}
 use Rattle.olap_view.proofs.summary_tables.SummaryTable.fill.Given as goal
 
 abbrev pub invariant-rows : goal.invariant-rows

@@ -1,16 +1,11 @@
 -- One view more, and all of them.
 use Rattle.std.proofs.Common.{◌≡◌, ◌<◌, ◌≤◌, ℕ, List, length, get_or, ap, sym, subst, ◌∙◌, arith}
-use Rattle.std.specs.Prelude.{Contains}
-use Rattle.std.proofs.lemmas.List.{get_or-map, length-map}
-use Rattle.olap_base.specs.Instance.{Instance}
-use Rattle.olap_base.specs.Views.{View}
-use Rattle.olap_base.proofs.ListLemmas.{Contains-map}
-use Rattle.olap_view.specs.Seen.{each_view_of, ids, view_of, views_of}
-use Rattle.olap_view.specs.Stores.{IsInFileOrder}
+use Rattle.std.{proofs.lemmas.List.{get_or-map, length-map}, specs.Prelude.Contains}
+use Rattle.olap_base.{proofs.ListLemmas.Contains-map, specs.Instance.Instance, specs.Views.View}
+use Rattle.olap_view.proofs.{SeenLemmas.each_view, SummaryTableLemmas.{filled_all, filled_first, filled_next}}
+use Rattle.olap_view.specs.{Seen.{each_view_of, ids, view_of, views_of}, Stores.IsInFileOrder}
 use Rattle.olap_view.specs.SummaryTables.{categories_in}
 use Rattle.olap_view.specs.declared.views.View as told
-use Rattle.olap_view.proofs.SeenLemmas.{each_view}
-use Rattle.olap_view.proofs.SummaryTableLemmas.{filled_all, filled_first, filled_next}
 use Rattle.olap_view.proofs.summary_tables.SummaryTable.of.Goals as goal
 
 module _ (views read : List told.View) (k : ℕ) (v : told.View) (same : read ≡ views) (h : k < length read)

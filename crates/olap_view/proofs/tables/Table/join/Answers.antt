@@ -1,29 +1,13 @@
 -- One category more.
 use Rattle.std.proofs.Common.{◌≡◌, ◌<◌, ℕ, List, length, get_or, take, ap, sym, subst, ◌∙◌, arith, Option, IfSome}
-use Rattle.std.specs.Prelude.{Contains}
-use Rattle.olap_base.specs.Summaries.{Summary}
-use Rattle.std.proofs.lemmas.List.{get_or-map, length-map}
-use Rattle.olap_view.specs.Bounds.{IsJoinable}
-use Rattle.olap_view.specs.Columns.{ascent}
-use Rattle.olap_view.specs.Seen.{ids, summary_of}
-use Rattle.olap_view.specs.Tables.{IsAmong, JoinedSoFar, categories_of}
-use Rattle.olap_base.specs.declared.ids.CatId.{CatId}
-use Rattle.olap_view.proofs.TableLemmas.{id_fresh, id_in, ids_more, so_far_step, untouched}
+use Rattle.std.{proofs.lemmas.List.{get_or-map, length-map}, specs.Prelude.Contains}
+use Rattle.olap_base.specs.{Summaries.Summary, declared.ids.CatId.CatId}
+use Rattle.olap_view.{proofs.TableLemmas.{id_fresh, id_in, ids_more, so_far_step, untouched}, specs.Bounds.IsJoinable}
+use Rattle.olap_view.specs.{Seen.{ids, summary_of}, Tables.{IsAmong, JoinedSoFar, categories_of}}
 use Rattle.olap_view.proofs.tables.Table.join.Goals as goal
 
 pub join_in-requires-clause-column : goal.join_in-requires-clause-column
-join_in-requires-clause-column c =
-    let same : c.categories.self.categories.items ≡ t.categories.items =
-    ap (λ v. v.items) c.categories.invariant.same_categories in
-    let is : d ≡ get_or t.categories.items k d = c.index-c.ensures ∙ ap (λ (l : List CatId). get_or l k d) same in
-    let h : c.categories.k < length c.args.self.now.categories.items =
-    let o = c.args.self.now.categories.ok in let q = c.categories-test.true in omega arith in
-    let inside : k < length (categories_of t) = let l = length-map t.categories.items (λ e. e.0) in omega arith in
-    let at : get_or (categories_of t) k 0 ≡ d.0 =
-    get_or-map (λ e. e.0) t.categories.items k d 0 h ∙ ap (λ e. e.0) (sym is) in
-    c.index-columns-k.is ∙ c.requires.columns.each k c.index-columns-k.result inside ∙ ap (ascent i) at
-  where
-    open c use {args.legal.now as i, args.self.now as t, categories.k, index-c.result.now as d}
+join_in-requires-clause-column c = grind (arith, length-map, get_or-map)
 
 pub join_in-requires-clause-room : goal.join_in-requires-clause-room
 join_in-requires-clause-room c = λ y m e.

@@ -1,7 +1,6 @@
 -- The summary is joined in the categories so far.
 use Rattle.std.proofs.Common.{take}
-use Rattle.olap_view.specs.Seen.{ids, summary_of}
-use Rattle.olap_view.specs.Tables.{JoinedSoFar}
+use Rattle.olap_view.specs.{Seen.{ids, summary_of}, Tables.JoinedSoFar}
 use Rattle.olap_view.proofs.tables.Table.join.Given as goal
 
 abbrev pub invariant-categories : goal.invariant-categories

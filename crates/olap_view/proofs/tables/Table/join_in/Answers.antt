@@ -1,17 +1,11 @@
 -- The member that x reaches has its own place, and no other changes.
 use Rattle.std.proofs.Common.{◌≡◌, ◌<◌, length, get_or, set, ap, sym, subst, ◌∙◌, refl, arith, rules, None, Some, IsNone}
-use Rattle.std.specs.Option.{option_map}
-use Rattle.std.proofs.lemmas.List.{get_or_default}
-use Rattle.olap_base.specs.Summaries.{◌⊕◌}
-use Rattle.olap_base.specs.Instance.{ReachesCategory}
+use Rattle.std.{proofs.lemmas.List.get_or_default, specs.Option.option_map, specs.Prelude.Contains}
+use Rattle.olap_base.{proofs.GeneralLemmas.none_from_never, specs.Instance.ReachesCategory, specs.Summaries.◌⊕◌}
 use Rattle.olap_legal.specs.Ancestors.{IsAncestor}
-use Rattle.olap_view.specs.Columns.{Ascent}
-use Rattle.olap_view.specs.Seen.{summary_of}
+use Rattle.olap_view.{proofs.TableLemmas.{joined_none, joined_some}, specs.Columns.Ascent, specs.Seen.summary_of}
 use Rattle.olap_view.specs.Tables.{IsAmong, categories_of, place_in}
-use Rattle.std.specs.Prelude.{Contains}
-use Rattle.olap_view.proofs.TableLemmas.{joined_none, joined_some}
 use Rattle.olap_view.proofs.tables.Table.join_in.Goals as goal
-use Rattle.olap_base.proofs.GeneralLemmas.{none_from_never}
 
 pub ancestor-requires : goal.ancestor-requires
 ancestor-requires c = subst (λ (w : Ascent). c.args.x.0 < length w.instance) (sym c.requires.column) c.requires.member

@@ -1,6 +1,5 @@
 -- The members so far have their places.
-use Rattle.olap_view.specs.Seen.{ids}
-use Rattle.olap_view.specs.Tables.{PlacesSoFar}
+use Rattle.olap_view.specs.{Seen.ids, Tables.PlacesSoFar}
 use Rattle.olap_view.proofs.tables.Table.new.Given as goal
 
 abbrev pub invariant-places : goal.invariant-places

@@ -1,18 +1,13 @@
 -- One member more, which gives a row or none.
 use Rattle.std.proofs.Common.{◌<◌, ℕ, ◌∷◌, [], List, length, true, false, Option, Some, None, refl, ap, sym, subst, ◌∙◌, arith}
+use Rattle.std.{proofs.lemmas.List.map-append, proofs.lemmas.List.Elements.All-push, specs.Option.option_map}
 use Rattle.std.specs.Prelude.{◌==◌, All}
-use Rattle.std.specs.Option.{option_map}
-use Rattle.std.proofs.lemmas.List.{map-append}
-use Rattle.std.proofs.lemmas.List.Elements.{All-push}
-use Rattle.olap_base.specs.Instance.{category_of}
-use Rattle.olap_base.specs.Views.{Row, row_at}
-use Rattle.olap_view.specs.Seen.{row_of, rows_of}
-use Rattle.olap_view.specs.Tables.{summary_at}
-use Rattle.olap_view.specs.declared.views.Row as told
+use Rattle.olap_base.{proofs.GeneralLemmas.none_from_never, specs.Instance.category_of, specs.Views.{Row, row_at}}
 use Rattle.olap_view.proofs.ViewingLemmas.{fails, list_step, passes}
-use Rattle.olap_view.proofs.tables.Table.view.Goals as goal
 use Rattle.olap_view.proofs.tables.Table.view.Goals.{then-category-c+in-Some+in_ok-push, then-category-c+in_default, else-category-c}
-use Rattle.olap_base.proofs.GeneralLemmas.{none_from_never}
+use Rattle.olap_view.specs.{Seen.{row_of, rows_of}, Tables.summary_at}
+use Rattle.olap_view.specs.declared.views.Row as told
+use Rattle.olap_view.proofs.tables.Table.view.Goals as goal
 
 pub rows-preserved : goal.rows-preserved
 rows-preserved c =

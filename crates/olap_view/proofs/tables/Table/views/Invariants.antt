@@ -1,8 +1,6 @@
 -- The views of the categories so far.
-use Rattle.std.proofs.Common.{◌≡◌, ◌<◌, length, map, take}
-use Rattle.std.specs.Prelude.{All}
-use Rattle.olap_view.specs.Seen.{each_view_of, ids}
-use Rattle.olap_view.specs.Tables.{view_in}
+use Rattle.std.{proofs.Common.{◌≡◌, ◌<◌, length, map, take}, specs.Prelude.All}
+use Rattle.olap_view.specs.{Seen.{each_view_of, ids}, Tables.view_in}
 use Rattle.olap_view.proofs.tables.Table.views.Given as goal
 
 abbrev pub invariant-categories : goal.invariant-categories

@@ -1,18 +1,14 @@
 -- One fact more, which waits or goes into the table.
 use Rattle.std.proofs.Common.{◌+◌, ◌++◌, ◌∷◌, ◌<◌, ◌≤◌, [], ap, length, sym, subst, ◌∙◌, arith, rules, w64}
-use mir.Val.{SFits}
 use Rattle.std.proofs.lemmas.Int.{to_z-of_z}
-use Rattle.olap_base.specs.Limits.{most_count}
-use Rattle.olap_base.specs.Reaching.{reaches}
-use Rattle.olap_base.specs.Summaries.{of_value, ◌⊕◌}
+use Rattle.olap_base.specs.{Limits.most_count, Reaching.reaches, Summaries.{of_value, ◌⊕◌}}
 use Rattle.olap_facts.specs.Seen.{fact_of}
-use Rattle.olap_view.specs.SummaryTables.{stands_at}
-use Rattle.olap_view.specs.Tables.{when}
-use Rattle.olap_view.specs.Tallies.{IsTally, StandsFor, Tallied, tallied}
-use Rattle.olap_view.specs.declared.tallies.Tally.TheInside as tally
 use Rattle.olap_view.proofs.TallyLemmas.{added_in_table, added_in_waiting, beside_waiting, stands_more, tally_in_table, tally_in_waiting}
+use Rattle.olap_view.{proofs.tallies.Tally.add.Goals.{then-x-len, else-x-len}, specs.SummaryTables.stands_at}
+use Rattle.olap_view.specs.{Tables.when, Tallies.{IsTally, StandsFor, Tallied, tallied}}
+use mir.Val.{SFits}
+use Rattle.olap_view.specs.declared.tallies.Tally.TheInside as tally
 use Rattle.olap_view.proofs.tallies.Tally.add.Goals as goal
-use Rattle.olap_view.proofs.tallies.Tally.add.Goals.{then-x-len, else-x-len}
 
 pub invariant_of-self : goal.invariant_of-self
 invariant_of-self c =

@@ -3,8 +3,8 @@ use Rattle.std.proofs.Common.{ℕ, ◌∷◌, ◌++◌, ◌∙◌, [], List, app
 use Rattle.std.proofs.lemmas.List.{map-append, take_more}
 use Rattle.olap_base.specs.Views.{Fact}
 use Rattle.olap_facts.specs.Seen.{fact_of}
-use Rattle.olap_facts.specs.declared.tables.Fact as told
 use Rattle.olap_view.specs.Tallies.{StandsFor}
+use Rattle.olap_facts.specs.declared.tables.Fact as told
 use Rattle.olap_view.proofs.tallies.Tally.add_all.Goals as goal
 
 nothing : told.Fact

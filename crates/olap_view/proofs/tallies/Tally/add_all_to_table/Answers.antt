@@ -1,10 +1,8 @@
 -- One fact more.
-use Rattle.std.proofs.Common.{ℕ, ◌∷◌, ◌++◌, ◌∙◌, [], List, append_assoc, get_or, map, take, ap, sym, subst, pos, arith}
+use Rattle.std.proofs.{Common.{append_assoc, pos, arith}, lemmas.Grind.common_steps}
 use Rattle.std.proofs.lemmas.List.{map-append, take_more}
 use Rattle.olap_base.specs.Views.{Fact}
-use Rattle.olap_facts.specs.Seen.{fact_of}
 use Rattle.olap_facts.specs.declared.tables.Fact as told
-use Rattle.olap_view.specs.Tallies.{StandsFor}
 use Rattle.olap_view.proofs.tallies.Tally.add_all_to_table.Goals as goal
 
 nothing : told.Fact
@@ -12,19 +10,4 @@ nothing = record { member = record { 0 = 0 }; value = pos 0 }
 
 pub facts-preserved : goal.facts-preserved
 unfolding nothing
-facts-preserved c =
-    let f = fact_of (get_or xs k nothing) in
-    let more = ap (map fact_of) (take_more xs k nothing c.facts-test.true)
-    ∙ map-append fact_of (take k xs) (get_or xs k nothing ∷ []) in
-    record {
-      instance = c.add_to_table.ensures.instance ∙ inv.instance;
-      categories = c.add_to_table.ensures.categories ∙ inv.categories;
-      added = omega (arith, c.add_to_table.ensures.added, inv.added);
-      stands = λ before s.
-          let whole = append_assoc before (map fact_of (take k xs)) (f ∷ [])
-          ∙ ap (λ (t : List (Fact ℕ)). before ++ t) (sym more) in
-          subst (λ (fs : List (Fact ℕ)). StandsFor c.add_to_table.new.self fs) whole
-          (c.add_to_table.ensures.stands (before ++ map fact_of (take k xs)) (inv.stands before s));
-    }
-  where
-    open c use {args.facts.now as xs, facts.fact-index as k, facts.invariant as inv}
+facts-preserved c = grind (arith, common_steps, nothing, take_more, map-append, append_assoc)

@@ -1,15 +1,10 @@
 -- One fact more, in the table.
-use Rattle.std.proofs.Common.{◌+◌, ◌≤◌, ap, sym, subst, ◌∙◌, arith, rules, w64}
-use mir.Val.{SFits}
-use Rattle.std.proofs.lemmas.Int.{to_z-of_z}
-use Rattle.olap_base.specs.Limits.{most_count}
-use Rattle.olap_base.specs.Reaching.{reaches}
-use Rattle.olap_base.specs.Summaries.{of_value, ◌⊕◌}
+use Rattle.std.proofs.{Common.{◌+◌, ◌≤◌, ap, sym, subst, ◌∙◌, arith, rules, w64}, lemmas.Int.to_z-of_z}
+use Rattle.olap_base.specs.{Limits.most_count, Reaching.reaches, Summaries.{of_value, ◌⊕◌}}
 use Rattle.olap_facts.specs.Seen.{fact_of}
-use Rattle.olap_view.specs.SummaryTables.{stands_at}
-use Rattle.olap_view.specs.Tables.{when}
-use Rattle.olap_view.specs.Tallies.{StandsFor, Tallied, tallied}
-use Rattle.olap_view.proofs.TallyLemmas.{added_in_table, stands_more, tally_in_table}
+use Rattle.olap_view.{proofs.TallyLemmas.{added_in_table, stands_more, tally_in_table}, specs.SummaryTables.stands_at}
+use Rattle.olap_view.specs.{Tables.when, Tallies.{StandsFor, Tallied, tallied}}
+use mir.Val.{SFits}
 use Rattle.olap_view.proofs.tallies.Tally.add_to_table.Goals as goal
 
 pub invariant_of-self : goal.invariant_of-self

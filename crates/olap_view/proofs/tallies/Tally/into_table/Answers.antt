@@ -1,27 +1,19 @@
 -- The table stands where what waited is joined.
-use Rattle.std.proofs.Common.{◌≤◌, ap, length, sym, subst, ◌∙◌}
-use Rattle.std.specs.Prelude.{Contains}
-use Rattle.olap_base.specs.Limits.{most_count}
+use Rattle.std.{proofs.Common.{rules, arith, ap, sym, subst, ◌∙◌}, specs.Prelude.Contains}
 use Rattle.olap_base.specs.Summaries.{◌⊕◌}
-use Rattle.olap_view.specs.SummaryTables.{stands_at}
-use Rattle.olap_view.specs.Tallies.{IsTableOf, IsWaitingWithin, Tallied, Waiting, tallied, waiting_at}
 use Rattle.olap_view.proofs.TallyLemmas.{table_within, tallied_is, view_stored, waiting_within}
+use Rattle.olap_view.specs.{SummaryTables.stands_at, Tallies.{IsTableOf, Tallied, Waiting, tallied, waiting_at}}
 use Rattle.olap_view.proofs.tallies.Tally.into_table.Goals as goal
 
 pub join_waiting-requires-clause-members : goal.join_waiting-requires-clause-members
-join_waiting-requires-clause-members c =
-    subst (λ (ws : Waiting). length ws ≤ length c.self.inside.table.instance) (sym c.deref.ensures.value)
-    c.self.invariant.places
+join_waiting-requires-clause-members c = search rules
 
 pub join_waiting-requires-clause-table : goal.join_waiting-requires-clause-table
 join_waiting-requires-clause-table c =
     let a = c.self.inside in table_within a.table a.waiting.items a.added c.self.invariant
 
 pub join_waiting-requires-clause-waiting : goal.join_waiting-requires-clause-waiting
-join_waiting-requires-clause-waiting c =
-    let a = c.self.inside in
-    subst (IsWaitingWithin most_count) (sym c.deref.ensures.value)
-    (waiting_within a.table a.waiting.items a.added c.self.invariant)
+join_waiting-requires-clause-waiting c = grind (arith, waiting_within)
 
 pub returns-clause-table : goal.returns-clause-table
 returns-clause-table c =
